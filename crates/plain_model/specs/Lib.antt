@@ -1,0 +1,12 @@
+pub mod Lines
+pub mod Words
+pub mod Parts
+pub mod Refusals
+pub mod Spelling
+pub mod Worlds
+pub mod StringWords
+pub mod StringSteps
+pub mod Meant
+pub mod Steps
+pub mod Runs
+pub mod Laws

@@ -1,0 +1,15 @@
+-- The words of a request (RESP2, "Sending commands to a Redis server").
+use Rattle.std.specs.Prelude.{ℕ, List, map, Bool, bytes_eq}
+use Rattle.std.specs.Char.{to_ascii_lowercase}
+
+-- a request is the list of its words; the first names the command
+abbrev pub Words : Type 0
+Words = List (List ℕ)
+
+-- a word, with ASCII case ignored
+abbrev pub in_lower_case : List ℕ → List ℕ
+in_lower_case word = map to_ascii_lowercase word
+
+-- the word is this name, which is in lower case, whatever its own case
+abbrev pub is_name : List ℕ → List ℕ → Bool
+is_name name word = bytes_eq (in_lower_case word) name

@@ -1,0 +1,124 @@
+//! Replies, as the lists of their parts (RESP2, "RESP protocol description").
+
+ghost use Rattle.std.specs.Prelude.{◌≡◌, ℕ, List, [], ◌∷◌, IfOk, codes};
+
+use crate::{Bytes, Refusal};
+use smallvec::SmallVec;
+use std::alloc::{AllocError, Global};
+use std::marker::Model;
+
+/// The text of a simple string, which is known beforehand and holds neither CR nor LF.
+#[derive(Drop)]
+pub struct Line {
+    text: &'static [u8],
+}
+
+impl Model for Line {
+    ghost use Rattle.std.specs.Prelude.{List, ℕ};
+    ghost use Rattle.plain_model.specs.Lines.{IsLine};
+
+    ghost Value = { List ℕ };
+
+    ghost view = { λ l. l.text.now };
+
+    ghost invariant = { λ l. IsLine l.text.now };
+}
+
+impl Line {
+    /// `OK`.
+    pub fn ok() -> Line
+        ensures { result ≡ codes "OK" }
+    {
+        Line { text: b"OK" }
+    }
+
+    /// The text.
+    pub fn as_slice(&self) -> &[u8]
+        ensures { result.now ≡ self.now }
+    {
+        self.text
+    }
+}
+
+/// A part of a reply. The replies of an array follow its head.
+#[derive(Default, Drop)]
+pub enum Part {
+    /// A simple string.
+    Simple(Line),
+    /// A simple error.
+    Refused(Refusal),
+    /// An integer.
+    Number(i64),
+    /// A bulk string.
+    Bulk(Bytes),
+    /// The null bulk string.
+    #[default]
+    Null,
+    /// The null array.
+    NullArray,
+    /// The head of an array of so many replies.
+    Array(u64),
+}
+
+/// One whole reply, which contracts see as the list of its parts, in the order in which they are spelled.
+#[derive(Drop)]
+pub struct Reply {
+    parts: SmallVec<Part, 1>,
+}
+
+impl Model for Reply {
+    ghost use Rattle.std.specs.Prelude.{List};
+    ghost use Rattle.plain_model.specs.Parts.{IsReply};
+    ghost use Rattle.plain_model.specs.declared.reply.Part.{Part};
+
+    ghost Value = { List Part };
+
+    ghost view = { λ r. r.parts.items };
+
+    ghost invariant = { λ r. IsReply r.parts.items };
+}
+
+impl Reply {
+    /// A simple string.
+    pub fn simple(alloc: Global, line: Line) -> Result<Reply, AllocError>
+        ensures { IfOk result (λ r. r ≡ Part.Simple line ∷ []) }
+    {
+        let mut parts = SmallVec::new(alloc);
+        parts.push(Part::Simple(line))?;
+        Ok(Reply { parts })
+    }
+
+    /// A simple error.
+    pub fn refused(alloc: Global, refusal: Refusal) -> Result<Reply, AllocError>
+        ensures { IfOk result (λ r. r ≡ Part.Refused refusal ∷ []) }
+    {
+        let mut parts = SmallVec::new(alloc);
+        parts.push(Part::Refused(refusal))?;
+        Ok(Reply { parts })
+    }
+
+    /// A bulk string.
+    pub fn bulk(alloc: Global, bytes: Bytes) -> Result<Reply, AllocError>
+        ensures { IfOk result (λ r. r ≡ Part.Bulk bytes ∷ []) }
+    {
+        let mut parts = SmallVec::new(alloc);
+        parts.push(Part::Bulk(bytes))?;
+        Ok(Reply { parts })
+    }
+
+    /// The null bulk string.
+    pub fn null(alloc: Global) -> Result<Reply, AllocError>
+        ensures { IfOk result (λ r. r ≡ Part.Null ∷ []) }
+    {
+        let mut parts = SmallVec::new(alloc);
+        parts.push(Part::Null)?;
+        Ok(Reply { parts })
+    }
+
+    /// Its parts, in the order in which they are spelled.
+    pub fn parts(&self) -> &[Part]
+        ensures { result.now ≡ self.now }
+    {
+        self.parts.as_slice()
+    }
+}
