@@ -1,0 +1,181 @@
+-- Items are read.
+use Rattle.std.proofs.Common.{◌≡◌, ℕ, zero, suc, ◌+◌, ◌<◌, ◌≤◌, ◌^◌, List, [], ◌∷◌, ◌++◌, Option, Some, None, length, ap, sym, subst, ◌∙◌, refl, arith, length-append}
+use Rattle.std.specs.Prelude.{flat_map}
+use Rattle.std.specs.List.{AllByRecursion}
+use Rattle.std.specs.Fmt.{decimal}
+use Rattle.std.proofs.lemmas.List.{append_assoc, append-nil}
+use Rattle.plain_model.specs.Words.{Words}
+use Rattle.resp_frames.specs.Frames.{header, bulk, IsWord, IsText, IsRequest, Item, Asked, Passed, item_bytes, IsItem}
+use Rattle.resp_frames.specs.Faults.{LineFault, other_mark, too_long, no_line_feed, NumberFault, bad_number, BulkFault, length_line, length_number, no_return, no_feed, Begun, RequestFault, count_line, count_number, in_word}
+use Rattle.resp_frames.specs.Ends.{IsCut}
+use Rattle.resp_frames.specs.Reading.{Read, Took, Open, Wrong, read_on, read_header, read_count, read_bulk, read_bulks, read_words, read_item}
+use Rattle.resp_frames.proofs.Headers.{HeaderIs, header_again, header_is, header_none, line_first}
+use Rattle.resp_frames.proofs.Numbers.{CountIs, count_is, count_again, passed_again, count_bad, not_count}
+use Rattle.resp_frames.proofs.Bulks.{decimal_text, bulk_first, BulksIs, bulks_again, bulks_open, bulks_wrong, bulks_is}
+
+count_text : (n : ℕ) → n ≤ 1048576 → IsText (decimal n)
+count_text n h = decimal_text n (omega arith)
+
+after_count : (text rest : List ℕ) (o : Option ℕ) → IsText text → read_count text ≡ o → read_item (header 42 text ++ rest) ≡ read_words (header 42 text ++ rest) text o rest
+unfolding read_item
+after_count text rest o h e =
+    let all = header 42 text ++ rest in
+    ap (λ x. read_on x (λ t more. read_words all t (read_count t) more)) (header_again 42 6 text rest h) ∙ ap (λ c. read_words all text c rest) e
+
+abbrev to_item : Read Words → Read Item
+to_item x = read_on x (λ words end. Took (Asked words) end)
+
+after_words : (all text : List ℕ) (n : ℕ) (rest : List ℕ) → 0 < n → read_words all text (Some n) rest ≡ to_item (read_bulks n rest)
+after_words all text zero rest h = absurd (omega arith)
+after_words all text (suc n) rest h = refl
+
+-- a request of n words, from its first word on
+after_number : (n : ℕ) (rest : List ℕ) → 0 < n → n ≤ 1048576 → read_item (header 42 (decimal n) ++ rest) ≡ to_item (read_bulks n rest)
+after_number n rest some few =
+    after_count (decimal n) rest (Some n) (count_text n few) (count_again n few) ∙ after_words (header 42 (decimal n) ++ rest) (decimal n) n rest some
+
+pub item_again : (x : Item) (rest : List ℕ) → IsItem x → read_item (item_bytes x ++ rest) ≡ Took x rest
+item_again (Asked words) rest h =
+    ap read_item (append_assoc (header 42 (decimal (length words))) (flat_map bulk words) rest)
+    ∙ after_number (length words) (flat_map bulk words ++ rest) h.some h.few ∙ ap to_item (bulks_again words rest h.each)
+item_again (Passed text) rest h = after_count text rest (Some 0) h.1 (passed_again text h.0)
+
+begun_some : (bytes : List ℕ) (n : ℕ) (words : Words) (rest : List ℕ) → Begun bytes n words rest → 0 < n
+begun_some bytes n words rest b = let due : length words < n = b.due in omega arith
+
+after_begun : (bytes : List ℕ) (n : ℕ) (words : Words) (rest : List ℕ) → Begun bytes n words rest → read_item bytes ≡ to_item (read_bulks n (flat_map bulk words ++ rest))
+after_begun bytes n words rest b = ap read_item b.whole ∙ after_number n (flat_map bulk words ++ rest) (begun_some bytes n words rest b) b.few
+
+-- a request that has begun is open where its rest is
+pub item_begun : (bytes : List ℕ) (n : ℕ) (words : Words) (rest : List ℕ) → Begun bytes n words rest → read_bulk rest ≡ Open → read_item bytes ≡ Open
+item_begun bytes n words rest b e = after_begun bytes n words rest b ∙ ap to_item (bulks_open n words rest b.due b.each e)
+
+pub item_counting : (bytes : List ℕ) → read_header 42 6 bytes ≡ Open → read_item bytes ≡ Open
+unfolding read_item
+item_counting bytes e = ap (λ x. read_on x (λ text rest. read_words bytes text (read_count text) rest)) e
+
+fault_is : (rule rule' : ℕ) (from from' : List ℕ) → rule ≡ rule' → from ≡ from' → (let w : Read Item = Wrong rule' from' in w) ≡ Wrong rule from
+fault_is rule rule' from from' e f = sym (ap (λ r. Wrong r from) e ∙ ap (Wrong rule') f)
+
+pub item_first : (bytes : List ℕ) (rule : ℕ) (from : List ℕ) → RequestFault bytes rule from → read_item bytes ≡ Wrong rule from
+unfolding read_item
+item_first bytes rule from (count_line h) = ap (λ x. read_on x (λ text rest. read_words bytes text (read_count text) rest)) (line_first 42 6 rule bytes from h)
+item_first bytes rule from (count_number (bad_number text more r f e h bad)) =
+    ap read_item e ∙ after_count text more None h (count_bad text bad) ∙ fault_is rule 1 from (header 42 text ++ more) r (f ∙ e)
+item_first bytes rule from (in_word n words rest b h) =
+    after_begun bytes n words rest b ∙ ap to_item (bulks_wrong n words rest rule from b.due b.each (bulk_first rest rule from h))
+
+-- what the reading of an item tells
+abbrev pub ItemIs : List ℕ → Read Item → Type 0
+ItemIs bytes (Took x rest) = IsItem x × (bytes ≡ item_bytes x ++ rest)
+ItemIs bytes Open = Unit {0}
+ItemIs bytes (Wrong rule from) = RequestFault bytes rule from
+
+request_is : (bytes : List ℕ) (n : ℕ) (rest : List ℕ) → 0 < n → n ≤ 1048576 → bytes ≡ header 42 (decimal n) ++ rest → (x : Read Words) → BulksIs n rest x → ItemIs bytes (to_item x)
+request_is bytes n rest some few e (Took words end) h =
+    let len : length words ≡ n = h.0 in
+    let P : ℕ → Type 0 = λ m. (0 < m) × (m ≤ 1048576) in
+    let bounds : P (length words) = subst P (sym len) (some, few) in
+    (
+      record { some = bounds.0; few = bounds.1; each = h.1 },
+      e ∙ ap (λ m. header 42 (decimal m) ++ rest) (sym len) ∙ ap (λ l. header 42 (decimal (length words)) ++ l) h.2 ∙ sym (append_assoc (header 42 (decimal (length words))) (flat_map bulk words) end),
+    )
+request_is bytes n rest some few e Open h = tt
+request_is bytes n rest some few e (Wrong rule from) h =
+    in_word n h.words h.rest (record { whole = e ∙ ap (λ l. header 42 (decimal n) ++ l) h.whole; few = few; due = h.due; each = h.each }) h.fault
+
+words_is : (bytes text rest : List ℕ) (o : Option ℕ) → read_count text ≡ o → CountIs text o → IsText text → bytes ≡ header 42 text ++ rest → ItemIs bytes (read_words bytes text o rest)
+words_is bytes text rest None is k h e = count_number (bad_number text rest refl refl e h (not_count text is))
+words_is bytes text rest (Some zero) is k h e = ((k, h), e)
+words_is bytes text rest (Some (suc n)) is k h e = request_is bytes (suc n) rest (omega arith) k.0 (e ∙ ap (λ t. header 42 t ++ rest) k.1) (read_bulks (suc n) rest) (bulks_is (suc n) rest)
+
+then_item : (bytes : List ℕ) (x : Read (List ℕ)) → HeaderIs 42 6 bytes x → ItemIs bytes (read_on x (λ text rest. read_words bytes text (read_count text) rest))
+then_item bytes (Took text rest) h = words_is bytes text rest (read_count text) refl (count_is text) h.0 h.1
+then_item bytes Open h = tt
+then_item bytes (Wrong rule from) h = count_line h
+
+pub item_is : (bytes : List ℕ) → ItemIs bytes (read_item bytes)
+unfolding read_item
+item_is bytes = then_item bytes (read_header 42 6 bytes) (header_is 42 6 bytes)
+
+pub item_none : read_item [] ≡ Open
+item_none = item_counting [] (header_none 42 6)
+
+-- what can't be read yet is cut, unless it is nothing
+pub cut_from_open : (bytes : List ℕ) → read_item bytes ≡ Open → (bytes ≡ [] → ⊥) → IsCut bytes
+cut_from_open bytes e some = record {
+  some = some;
+  open_yet = λ x more good is. let a : read_item bytes ≡ Took x more = ap read_item is ∙ item_again x more good in cc;
+  sound = λ rule from h. let a = item_first bytes rule from h in cc;
+}
+
+-- the place of a fault stands in the bytes
+line_within : (mark strange : ℕ) (bytes : List ℕ) (rule : ℕ) (from : List ℕ) → LineFault mark strange bytes rule from → length from ≤ length bytes
+line_within mark strange bytes rule from (other_mark b more r f e ne) = omega (arith, ap length f)
+line_within mark strange bytes rule from (too_long t more r f e p n) = omega (arith, ap length f)
+line_within mark strange bytes rule from (no_line_feed t more b r f e h ne) =
+    let n : length bytes ≡ length (mark ∷ t ++ 13 ∷ from) = ap length e in
+    let m : length (t ++ 13 ∷ from) ≡ length t + length (13 ∷ from) = length-append t (13 ∷ from) in
+    omega arith
+
+number_within : (mark wrong : ℕ) (IsGood : List ℕ → Type 0) (bytes : List ℕ) (rule : ℕ) (from : List ℕ) → NumberFault mark wrong IsGood bytes rule from → length from ≤ length bytes
+number_within mark wrong IsGood bytes rule from (bad_number t more r f e h bad) = omega (arith, ap length f)
+
+bulk_within : (bytes : List ℕ) (rule : ℕ) (from : List ℕ) → BulkFault bytes rule from → length from ≤ length bytes
+bulk_within bytes rule from (length_line h) = line_within 36 2 bytes rule from h
+bulk_within bytes rule from (length_number h) = number_within 36 3 _ bytes rule from h
+bulk_within bytes rule from (no_return w more b r f e h ne) =
+    let n : length bytes ≡ length (header 36 (decimal (length w)) ++ (w ++ from)) = ap length e in
+    omega (arith, length-append (header 36 (decimal (length w))) (w ++ from), length-append w from)
+bulk_within bytes rule from (no_feed w more b r f e h ne) =
+    let n : length bytes ≡ length (header 36 (decimal (length w)) ++ (w ++ 13 ∷ from)) = ap length e in
+    omega (arith, length-append (header 36 (decimal (length w))) (w ++ 13 ∷ from), length-append w (13 ∷ from))
+
+pub fault_within : (bytes : List ℕ) (rule : ℕ) (from : List ℕ) → RequestFault bytes rule from → length from ≤ length bytes
+fault_within bytes rule from (count_line h) = line_within 42 6 bytes rule from h
+fault_within bytes rule from (count_number h) = number_within 42 1 _ bytes rule from h
+fault_within bytes rule from (in_word n words rest b h) =
+    let k : length from ≤ length rest = bulk_within rest rule from h in
+    let m : length bytes ≡ length (header 42 (decimal n) ++ (flat_map bulk words ++ rest)) = ap length b.whole in
+    omega (arith, length-append (header 42 (decimal n)) (flat_map bulk words ++ rest), length-append (flat_map bulk words) rest)
+
+-- a fault stays, whatever comes behind it
+
+abbrev more_text : List ℕ → List ℕ → List ℕ → List ℕ
+more_text s t A = s ++ (t ++ A)
+
+line_stays : (mark strange : ℕ) (bytes : List ℕ) (rule : ℕ) (from back : List ℕ) → LineFault mark strange bytes rule from → LineFault mark strange (bytes ++ back) rule (from ++ back)
+line_stays mark strange bytes rule from back (other_mark b more r f e ne) = other_mark b (more ++ back) r (ap (λ l. l ++ back) f) (ap (λ l. l ++ back) e) ne
+line_stays mark strange bytes rule from back (too_long t more r f e p n) =
+    too_long t (more ++ back) r (ap (λ l. l ++ back) f) (ap (λ l. l ++ back) e ∙ ap (λ l. mark ∷ l) (append_assoc t more back)) p n
+line_stays mark strange bytes rule from back (no_line_feed t more b r f e h ne) =
+    no_line_feed t (more ++ back) b r (ap (λ l. l ++ back) f) (ap (λ l. l ++ back) e ∙ ap (λ l. mark ∷ l) (append_assoc t (13 ∷ from) back)) h ne
+
+number_stays : (mark wrong : ℕ) (IsGood : List ℕ → Type 0) (bytes : List ℕ) (rule : ℕ) (from back : List ℕ) → NumberFault mark wrong IsGood bytes rule from → NumberFault mark wrong IsGood (bytes ++ back) rule (from ++ back)
+number_stays mark wrong IsGood bytes rule from back (bad_number t more r f e h bad) =
+    bad_number t (more ++ back) r (ap (λ l. l ++ back) f) (ap (λ l. l ++ back) e ∙ append_assoc (header mark t) more back) h bad
+
+bulk_stays : (bytes : List ℕ) (rule : ℕ) (from back : List ℕ) → BulkFault bytes rule from → BulkFault (bytes ++ back) rule (from ++ back)
+bulk_stays bytes rule from back (length_line h) = length_line (line_stays 36 2 bytes rule from back h)
+bulk_stays bytes rule from back (length_number h) = length_number (number_stays 36 3 _ bytes rule from back h)
+bulk_stays bytes rule from back (no_return w more b r f e h ne) =
+    let head = header 36 (decimal (length w)) in
+    no_return w (more ++ back) b r (ap (λ l. l ++ back) f) (ap (λ l. l ++ back) e ∙ append_assoc head (w ++ from) back ∙ ap (λ l. head ++ l) (append_assoc w from back)) h ne
+bulk_stays bytes rule from back (no_feed w more b r f e h ne) =
+    let head = header 36 (decimal (length w)) in
+    no_feed w (more ++ back) b r (ap (λ l. l ++ back) f) (ap (λ l. l ++ back) e ∙ append_assoc head (w ++ 13 ∷ from) back ∙ ap (λ l. head ++ l) (append_assoc w (13 ∷ from) back)) h ne
+
+pub begun_stays : (bytes : List ℕ) (n : ℕ) (words : Words) (rest back : List ℕ) → Begun bytes n words rest → Begun (bytes ++ back) n words (rest ++ back)
+begun_stays bytes n words rest back b =
+    let head = header 42 (decimal n) in
+    record {
+      whole = ap (λ l. l ++ back) b.whole ∙ append_assoc head (flat_map bulk words ++ rest) back ∙ ap (λ l. head ++ l) (append_assoc (flat_map bulk words) rest back);
+      few = b.few;
+      due = b.due;
+      each = b.each;
+    }
+
+pub fault_stays : (bytes : List ℕ) (rule : ℕ) (from back : List ℕ) → RequestFault bytes rule from → RequestFault (bytes ++ back) rule (from ++ back)
+fault_stays bytes rule from back (count_line h) = count_line (line_stays 42 6 bytes rule from back h)
+fault_stays bytes rule from back (count_number h) = count_number (number_stays 42 1 _ bytes rule from back h)
+fault_stays bytes rule from back (in_word n words rest b h) = in_word n words (rest ++ back) (begun_stays bytes n words rest back b) (bulk_stays rest rule from back h)

@@ -1,0 +1,5 @@
+pub mod Frames
+pub mod Faults
+pub mod Ends
+pub mod Reading
+pub mod Laws
