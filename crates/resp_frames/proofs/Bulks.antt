@@ -1,9 +1,9 @@
 -- Bulk strings are read.
-use Rattle.std.proofs.Common.{◌≡◌, ◌==◌, ℕ, zero, suc, ◌<◌, ◌≤◌, ◌^◌, List, [], ◌∷◌, ◌++◌, Option, Some, None, length, take, drop, ap, sym, subst, ◌∙◌, refl, arith, lit<}
+use Rattle.std.proofs.Common.{◌≡◌, ◌==◌, ℕ, zero, suc, ◌<◌, ◌≤◌, ◌^◌, List, [], ◌∷◌, ◌++◌, Option, Some, None, length, take, drop, get_or, ◌+◌, ap, sym, subst, ◌∙◌, refl, arith, lit<}
 use Rattle.std.specs.Prelude.{if◌then◌else◌, flat_map}
 use Rattle.std.specs.List.{AllByRecursion}
 use Rattle.std.specs.Fmt.{decimal}
-use Rattle.std.proofs.lemmas.List.{append_assoc, take-append-drop}
+use Rattle.std.proofs.lemmas.List.{append_assoc, take-append-drop, drop_all, drop_more}
 use Rattle.plain_model.specs.Words.{Words}
 use Rattle.plain_model.specs.Spelling.{line_end}
 use Rattle.plain_model.proofs.Lines.{decimal_plain}
@@ -40,6 +40,23 @@ after_length n rest le =
     let all = header 36 (decimal n) ++ rest in
     ap (λ x. read_on x (λ text more. read_word all (read_number 536870912 text) more)) (header_again 36 2 (decimal n) rest (length_text n le))
     ∙ ap (λ o. read_word all o rest) (length_again n le)
+
+-- a bulk string whose header isn't whole
+pub bulk_counting : (bytes : List ℕ) → read_header 36 2 bytes ≡ Open → read_bulk bytes ≡ Open
+unfolding read_bulk
+bulk_counting bytes e = ap (λ x. read_on x (λ text rest. read_word bytes (read_number 536870912 text) rest)) e
+
+-- a body that isn't whole
+pub body_short : (len : ℕ) (bytes : List ℕ) → length bytes ≤ len → read_body len bytes ≡ Open
+unfolding read_body
+body_short len bytes le = ap (after_word (take len bytes)) (drop_all len bytes le)
+
+pub body_returned : (len : ℕ) (bytes : List ℕ) → length bytes ≡ len + 1 → get_or bytes len 0 ≡ 13 → read_body len bytes ≡ Open
+unfolding read_body
+body_returned len bytes n e =
+    let lt : len < length bytes = omega arith in
+    let last : drop len bytes ≡ 13 ∷ [] = drop_more bytes len 0 lt ∙ ap (λ b. b ∷ drop (len + 1) bytes) e ∙ ap (λ l. 13 ∷ l) (drop_all (len + 1) bytes (omega arith)) in
+    ap (after_word (take len bytes)) last
 
 body_split : (w A : List ℕ) → read_body (length w) (w ++ A) ≡ after_word w A
 unfolding read_body

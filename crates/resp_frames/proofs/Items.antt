@@ -75,8 +75,7 @@ request_is : (bytes : List ℕ) (n : ℕ) (rest : List ℕ) → 0 < n → n ≤ 
 request_is bytes n rest some few e (Took words end) h =
     let len : length words ≡ n = h.0 in
     let P : ℕ → Type 0 = λ m. (0 < m) × (m ≤ 1048576) in
-    let bounds : P (length words) = subst P (sym len) (some, few) in
-    (
+    let bounds : P (length words) = subst P (sym len) (some, few) in (
       record { some = bounds.0; few = bounds.1; each = h.1 },
       e ∙ ap (λ m. header 42 (decimal m) ++ rest) (sym len) ∙ ap (λ l. header 42 (decimal (length words)) ++ l) h.2 ∙ sym (append_assoc (header 42 (decimal (length words))) (flat_map bulk words) end),
     )

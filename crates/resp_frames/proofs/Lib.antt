@@ -2,6 +2,13 @@ pub mod Choices
 pub mod Texts
 pub mod Headers
 pub mod Numbers
+pub mod Digits
 pub mod Bulks
 pub mod Items
 pub mod Streams
+pub mod HeaderSteps
+pub mod RequestSteps
+pub mod Putting
+pub mod Giving
+pub mod Feeds
+pub mod FeederSteps

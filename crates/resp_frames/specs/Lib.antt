@@ -1,5 +1,10 @@
 pub mod Frames
 pub mod Faults
 pub mod Ends
-pub mod Reading
 pub mod Laws
+pub mod Feeding
+pub mod Puts
+pub mod Reading
+pub mod HeaderRead
+pub mod NumberRead
+pub mod RequestRead

@@ -1,6 +1,16 @@
 //! Requests out of bytes, and replies into bytes.
 #![tactic(auto)]
 
+mod feeder;
+mod header;
 mod laws;
+mod number;
+mod request;
+mod spelling;
 
+pub use feeder::{Feeder, FrameFault, Next, Request};
+pub use header::Header;
 pub use laws::{faults_stay, frames_are_one, frames_are_there, requests_only_grow};
+pub use number::Count;
+pub use request::{Body, Due, Found, Progress, Span, Step};
+pub use spelling::{put_all, spell};

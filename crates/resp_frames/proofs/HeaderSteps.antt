@@ -1,0 +1,123 @@
+-- How the code reads a header.
+use Rattle.std.proofs.Common.{◌≡◌, ◌≢◌, ℕ, suc, ◌+◌, ◌-◌, ◌<◌, ◌≤◌, List, [], ◌∷◌, ◌++◌, length, take, drop, get_or, sym, ap, subst, ◌∙◌, refl, inl, inr, arith, length-take, length-drop}
+use Rattle.std.proofs.lemmas.Bool.{cases_lt}
+use Rattle.std.proofs.lemmas.List.{take-append-drop, take_all, drop_more, drop_all, take_rest, append_assoc, drop-drop}
+use Rattle.plain_model.specs.Spelling.{line_end}
+use Rattle.resp_frames.specs.Frames.{IsPlainText, IsText, header}
+use Rattle.resp_frames.specs.Faults.{LineFault, other_mark, too_long, no_line_feed}
+use Rattle.resp_frames.specs.Reading.{read_header, Open}
+use Rattle.resp_frames.specs.HeaderRead.{IsScanned, IsOpenText, IsWholeText, IsEndless, IsNoLine, ReadsText, text_of, IsHeader, IsOpenHeader, IsNoHeader, Reads}
+use Rattle.resp_frames.specs.declared.header.Header.{Header}
+use Rattle.resp_frames.specs.declared.header.Header.TheVariants as headers
+use Rattle.resp_frames.proofs.Headers.{as_cut, header_none, header_begun, header_returned}
+
+-- what `before_return` tells
+pub record Cuts (bytes : List ℕ) (n : ℕ) : Type 0 where
+  pub within : n ≤ length bytes
+  pub few : n ≤ 65536
+  pub plain : IsPlainText (take n bytes)
+  pub found : n < length bytes → n ≢ 65536 → get_or bytes n 0 ≡ 13
+
+text_is : (bytes : List ℕ) (n : ℕ) → Cuts bytes n → n ≢ 65536 → IsText (take n bytes)
+text_is bytes n c not = let few : n ≤ 65536 = c.few in record { plain = c.plain; short = omega (arith, length-take n bytes) }
+
+-- the bytes, cut at the CR
+cut : (bytes : List ℕ) (n : ℕ) → n < length bytes → get_or bytes n 0 ≡ 13 → bytes ≡ take n bytes ++ 13 ∷ drop (n + 1) bytes
+cut bytes n h e = sym (take-append-drop n bytes) ∙ ap (λ l. take n bytes ++ l) (drop_more bytes n 0 h ∙ ap (λ b. b ∷ drop (n + 1) bytes) e)
+
+-- the bytes, cut after the byte that follows the CR
+cut_twice : (bytes : List ℕ) (n : ℕ) → Cuts bytes n → n ≢ 65536 → n + 1 < length bytes → bytes ≡ take n bytes ++ 13 ∷ get_or bytes (n + 1) 0 ∷ drop (n + 2) bytes
+cut_twice bytes n c not long =
+    let lt : n < length bytes = omega arith in
+    let e : n + 1 + 1 ≡ n + 2 = omega arith in
+    cut bytes n lt (c.found lt not) ∙ ap (λ l. take n bytes ++ 13 ∷ l) (drop_more bytes (n + 1) 0 long ∙ ap (λ m. get_or bytes (n + 1) 0 ∷ drop m bytes) e)
+
+pub endless : (bytes : List ℕ) (n : ℕ) → Cuts bytes n → n ≡ 65536 → ReadsText bytes (headers.Broken 4 0)
+endless bytes n c is =
+    let within : n ≤ length bytes = c.within in
+    let P : ℕ → Type 0 = λ m. IsPlainText (take m bytes) in
+    inl (refl, refl, record { within = omega arith; plain = subst P is c.plain })
+
+pub unfinished : (bytes : List ℕ) (n : ℕ) → Cuts bytes n → n ≢ 65536 → length bytes ≤ n + 1 → ReadsText bytes (headers.Open n)
+unfinished bytes n c not short = record {
+  text = text_is bytes n c not;
+  within = c.within;
+  whole = elim (cases_lt n (length bytes)) [
+    | inl lt ↦ inr (cut bytes n lt (c.found lt not) ∙ ap (λ l. take n bytes ++ 13 ∷ l) (drop_all (n + 1) bytes short))
+    | inr le ↦ inl (sym (take_all n bytes le))
+  ];
+}
+
+pub no_line_end : (bytes : List ℕ) (n : ℕ) → Cuts bytes n → n ≢ 65536 → n + 1 < length bytes → get_or bytes (n + 1) 0 ≢ 10 → ReadsText bytes (headers.Broken 5 (n + 2))
+no_line_end bytes n c not long other = inr (
+  refl,
+  record { text = take n bytes; b = get_or bytes (n + 1) 0; within = omega arith; whole = cut_twice bytes n c not long; long = omega (arith, length-take n bytes); good = text_is bytes n c not; other = other },
+)
+
+pub whole_text : (bytes : List ℕ) (n : ℕ) → Cuts bytes n → n ≢ 65536 → n + 1 < length bytes → get_or bytes (n + 1) 0 ≡ 10 → ReadsText bytes (headers.Text n)
+whole_text bytes n c not long is = record {
+  text = text_is bytes n c not;
+  within = omega arith;
+  whole = cut_twice bytes n c not long ∙ ap (λ b. take n bytes ++ 13 ∷ b ∷ drop (n + 2) bytes) is ∙ sym (append_assoc (take n bytes) line_end (drop (n + 2) bytes));
+}
+
+starts : (bytes : List ℕ) (mark : ℕ) → 0 < length bytes → get_or bytes 0 0 ≡ mark → bytes ≡ mark ∷ drop 1 bytes
+starts [] mark h e = absurd (omega arith)
+starts (b ∷ bs) mark h e = ap (λ m. m ∷ bs) e
+
+length-cons : (b : ℕ) (bs : List ℕ) → length (b ∷ bs) ≡ length bs + 1
+length-cons b bs = omega arith
+
+drop_past : (t rest : List ℕ) (x : ℕ) → drop (suc (length t)) (t ++ x ∷ rest) ≡ rest
+drop_past [] rest x = refl
+drop_past (b ∷ t) rest x = drop_past t rest x
+
+-- the mark, and then what stands after it
+with_mark : (mark strange : ℕ) (bytes : List ℕ) (r : Header) → ReadsText bytes r → Reads mark strange (mark ∷ bytes) r
+with_mark mark strange bytes (headers.Open n) h =
+    let P : List ℕ → Type 0 = λ l. read_header mark strange (mark ∷ l) ≡ Open in
+    record {
+      scanned = record { within = h.within; few = let s : length (take n bytes) ≤ 65535 = h.text.short in let w : n ≤ length bytes = h.within in omega (arith, length-take n bytes); plain = h.text.plain };
+      more = elim h.whole [ inl e ↦ subst P (sym e) (header_begun mark strange (take n bytes) h.text) | inr e ↦ subst P (sym e) (header_returned mark strange (take n bytes) h.text) ];
+    }
+with_mark mark strange bytes (headers.Text n) h =
+    let e : n + 3 ≡ suc (n + 2) = omega arith in
+    record {
+      text = h.text;
+      within = let le : n + 2 ≤ length bytes = h.within in omega (arith, length-cons mark bytes);
+      whole = ap (λ l. mark ∷ l) h.whole ∙ ap (λ k. mark ∷ (take n bytes ++ line_end ++ drop k (mark ∷ bytes))) (sym e);
+    }
+with_mark mark strange bytes (headers.Broken rule at) h = elim h [
+  | inl p ↦
+      let whole : mark ∷ bytes ≡ mark ∷ take 65536 bytes ++ drop 65536 bytes = ap (λ l. mark ∷ l) (sym (take-append-drop 65536 bytes)) in
+      let w : 65536 ≤ length bytes = p.2.within in
+      record {
+        within = omega (arith, p.1);
+        fault = too_long (take 65536 bytes) (drop 65536 bytes) p.0 (ap (λ k. drop k (mark ∷ bytes)) p.1) whole p.2.plain (omega (arith, length-take 65536 bytes));
+      }
+  | inr p ↦
+      let long : length p.1.text + 2 ≡ at = p.1.long in
+      let next : at ≡ suc (suc (length p.1.text)) = omega arith in
+      let from : drop at (mark ∷ bytes) ≡ p.1.b ∷ drop at bytes =
+      ap (λ k. drop k (mark ∷ bytes)) next ∙ ap (drop (suc (length p.1.text))) p.1.whole ∙ drop_past p.1.text (p.1.b ∷ drop at bytes) 13 in
+      let within : at ≤ length bytes = p.1.within in
+      record {
+        within = omega (arith, length-cons mark bytes);
+        fault = no_line_feed p.1.text (drop at bytes) p.1.b p.0 from (ap (λ l. mark ∷ l) p.1.whole ∙ ap (λ l. mark ∷ p.1.text ++ 13 ∷ l) (sym from)) p.1.good p.1.other;
+      }
+]
+
+pub after_mark : (mark strange : ℕ) (bytes : List ℕ) (r : Header) → 0 < length bytes → get_or bytes 0 0 ≡ mark → ReadsText (take (length bytes - 1) (drop 1 bytes)) r → Reads mark strange bytes r
+after_mark mark strange bytes r some first h =
+    let rest : take (length bytes - 1) (drop 1 bytes) ≡ drop 1 bytes = take_rest bytes 1 in
+    let P : List ℕ → Type 0 = λ l. ReadsText l r in
+    let Q : List ℕ → Type 0 = λ l. Reads mark strange l r in
+    subst Q (sym (starts bytes mark some first)) (with_mark mark strange (drop 1 bytes) r (subst P rest h))
+
+pub nothing_there : (mark strange : ℕ) (bytes : List ℕ) → length bytes ≡ 0 → IsOpenHeader mark strange bytes 0
+nothing_there mark strange [] e = record { scanned = record { within = omega arith; few = omega arith; plain = tt }; more = header_none mark strange }
+nothing_there mark strange (b ∷ bytes) e = absurd (omega arith)
+
+pub strange_mark : (mark strange : ℕ) (bytes : List ℕ) → 0 < length bytes → (get_or bytes 0 0 ≡ mark → ⊥) → IsNoHeader mark strange bytes strange 0
+strange_mark mark strange [] h ne = absurd (omega arith)
+strange_mark mark strange (b ∷ bytes) h ne = record { within = omega arith; fault = other_mark b bytes refl refl refl ne }

@@ -1,0 +1,73 @@
+//! The header of a request or of a bulk string: a mark, a number, CR LF.
+
+ghost use Rattle.std.specs.Prelude.{◌≡◌, ◌≢◌, ◌<◌, ◌≤◌, ℕ, length, take, slice_index};
+ghost use Rattle.resp_frames.specs.Frames.{IsPlainText};
+ghost use Rattle.resp_frames.specs.HeaderRead.{Reads, ReadsText, IsScanned};
+
+// At most so many bytes stand before the CR of a header, its mark among them.
+const LONGEST: usize = 65_536;
+
+/// What stands at the front of some bytes.
+#[derive(Clone, Copy)]
+pub enum Header {
+    /// A header that isn't whole. So many bytes of its text are there, and hold no CR.
+    Open(usize),
+    /// The text that follows the mark is so long.
+    Text(usize),
+    /// A rule is broken, at this byte.
+    Broken(u8, usize),
+}
+
+// How many bytes stand before the first CR, up to the most that may. The first `scanned` hold none.
+fn before_return(bytes: &[u8], scanned: usize) -> usize
+    requires within { scanned ≤ length bytes.now }
+    requires few { scanned ≤ 65536 }
+    requires plain { IsPlainText (take scanned bytes.now) }
+    ensures within { result ≤ length bytes.now }
+    ensures few { result ≤ 65536 }
+    ensures plain { IsPlainText (take result bytes.now) }
+    ensures found { result < length bytes.now → result ≢ 65536 → slice_index bytes.now result ≡ 13 }
+{
+    let most = bytes.len().min(LONGEST);
+    for i in scanned..most {
+        if bytes[i] == b'\r' {
+            return i;
+        }
+    }
+    most
+}
+
+// Reads the header whose mark stands before these bytes.
+fn read_text(bytes: &[u8], scanned: usize) -> Header
+    requires within { scanned ≤ length bytes.now }
+    requires few { scanned ≤ 65536 }
+    requires plain { IsPlainText (take scanned bytes.now) }
+    ensures { ReadsText bytes.now result }
+{
+    let text = before_return(bytes, scanned);
+    if text == LONGEST {
+        return Header::Broken(4, 0);
+    }
+    if text + 1 >= bytes.len() {
+        return Header::Open(text);
+    }
+    if bytes[text + 1] != b'\n' {
+        return Header::Broken(5, text + 2);
+    }
+    Header::Text(text)
+}
+
+/// Reads the header at the front. Where the mark is another byte, that breaks the rule `strange`.
+/// The first `scanned` bytes of its text are known to hold no CR, and aren't read again.
+pub fn read_header(bytes: &[u8], mark: u8, strange: u8, scanned: usize) -> Header
+    requires { IsScanned bytes.now scanned }
+    ensures { Reads mark strange bytes.now result }
+{
+    if bytes.is_empty() {
+        return Header::Open(0);
+    }
+    if bytes[0] != mark {
+        return Header::Broken(strange, 0);
+    }
+    read_text(&bytes[1..], scanned)
+}

@@ -1,0 +1,129 @@
+//! Replies into bytes.
+
+ghost use Rattle.std.specs.Prelude.{◌≡◌, ◌≤◌, ◌∷◌, ◌++◌, ℕ, List, OnErr};
+ghost use Rattle.outside.specs.Counts.{Rose};
+ghost use Rattle.plain_model.specs.Refusals.{refusal_text};
+ghost use Rattle.plain_model.specs.Spelling.{line_end, part_bytes, spelling};
+ghost use Rattle.resp_frames.specs.Puts.{Puts};
+
+use itoa::Buffer;
+use outside::{Sink, WriteFault};
+use plain_model::{Part, Refusal, Reply};
+
+/// Puts all of the piece, or a front of it where that fails. `WriteFault` comes only where the sink counted one.
+pub fn put_all<O: Sink>(sink: &mut O, piece: &[u8]) -> Result<(), WriteFault>
+    ensures bytes { Puts (O.told sink.old) (O.told sink.new) piece.now result }
+    ensures counted { O.faults sink.old ≤ O.faults sink.new }
+    ensures fault { OnErr result (Rose (O.faults sink.old) (O.faults sink.new)) }
+{
+    let mut at = 0;
+    'pieces: while at < piece.len() {
+        match sink.put(&piece[at..]) {
+            Ok(n) => at += n,
+            Err(fault) => return Err(fault),
+        }
+    }
+    Ok(())
+}
+
+// The line of a refusal.
+fn refusal_line(refusal: Refusal) -> &'static [u8]
+    ensures { result.now ≡ refusal_text refusal ++ line_end }
+{
+    match refusal {
+        Refusal::UnknownCommand => b"-ERR unknown command\r\n",
+        Refusal::WrongNumberOfArguments => b"-ERR wrong number of arguments\r\n",
+        Refusal::Syntax => b"-ERR syntax error\r\n",
+        Refusal::WrongType =>
+            b"-WRONGTYPE Operation against a key holding the wrong kind of value\r\n",
+        Refusal::NotAnInteger => b"-ERR value is not an integer or out of range\r\n",
+        Refusal::Overflow => b"-ERR increment or decrement would overflow\r\n",
+        Refusal::NotAScore => b"-ERR score is not a number\r\n",
+        Refusal::NotAWholeScore => b"-ERR score is not a whole number within 2^53\r\n",
+        Refusal::NoSuchKey => b"-ERR no such key\r\n",
+        Refusal::IndexOutOfRange => b"-ERR index out of range\r\n",
+        Refusal::InvalidExpireTime => b"-ERR invalid expire time\r\n",
+        Refusal::InvalidCursor => b"-ERR invalid cursor\r\n",
+        Refusal::InvalidStreamId => b"-ERR invalid stream ID\r\n",
+        Refusal::StreamIdNotGreater => b"-ERR stream ID is not greater than the last ID\r\n",
+        Refusal::NoGreaterStreamId => b"-ERR stream has no greater ID\r\n",
+        Refusal::DatabaseOutOfRange => b"-ERR DB index is out of range\r\n",
+        Refusal::ValueOutOfRange => b"-ERR value is out of range\r\n",
+        Refusal::SameSourceAndDestination => b"-ERR source and destination are the same\r\n",
+    }
+}
+
+// Puts one piece after the other.
+fn put_two<O: Sink>(sink: &mut O, first: &[u8], second: &[u8]) -> Result<(), WriteFault>
+    ensures bytes { Puts (O.told sink.old) (O.told sink.new) (first.now ++ second.now) result }
+    ensures counted { O.faults sink.old ≤ O.faults sink.new }
+    ensures fault { OnErr result (Rose (O.faults sink.old) (O.faults sink.new)) }
+{
+    match put_all(sink, first) {
+        Ok(()) => put_all(sink, second),
+        Err(fault) => Err(fault),
+    }
+}
+
+// Puts a line: a mark, a text, CR LF.
+fn put_line<O: Sink>(sink: &mut O, mark: &[u8], text: &[u8]) -> Result<(), WriteFault>
+    ensures bytes { Puts (O.told sink.old) (O.told sink.new) (mark.now ++ text.now ++ line_end) result }
+    ensures counted { O.faults sink.old ≤ O.faults sink.new }
+    ensures fault { OnErr result (Rose (O.faults sink.old) (O.faults sink.new)) }
+{
+    match put_two(sink, mark, text) {
+        Ok(()) => put_all(sink, b"\r\n"),
+        Err(fault) => Err(fault),
+    }
+}
+
+// Puts a bulk string.
+fn put_bulk<O: Sink>(sink: &mut O, bytes: &[u8]) -> Result<(), WriteFault>
+    ensures bytes { Puts (O.told sink.old) (O.told sink.new) (part_bytes (Part.Bulk bytes.now)) result }
+    ensures counted { O.faults sink.old ≤ O.faults sink.new }
+    ensures fault { OnErr result (Rose (O.faults sink.old) (O.faults sink.new)) }
+{
+    let mut buffer = Buffer::new();
+    match put_line(sink, b"$", buffer.format(bytes.len()).as_bytes()) {
+        Ok(()) => put_two(sink, bytes, b"\r\n"),
+        Err(fault) => Err(fault),
+    }
+}
+
+// Puts a part of a reply.
+fn put_part<O: Sink>(sink: &mut O, part: &Part) -> Result<(), WriteFault>
+    ensures bytes { Puts (O.told sink.old) (O.told sink.new) (part_bytes part.now) result }
+    ensures counted { O.faults sink.old ≤ O.faults sink.new }
+    ensures fault { OnErr result (Rose (O.faults sink.old) (O.faults sink.new)) }
+{
+    match part {
+        Part::Simple(line) => put_line(sink, b"+", line.as_slice()),
+        Part::Refused(refusal) => put_all(sink, refusal_line(*refusal)),
+        Part::Number(n) => {
+            let mut buffer = Buffer::new();
+            put_line(sink, b":", buffer.format(*n).as_bytes())
+        }
+        Part::Bulk(bytes) => put_bulk(sink, bytes.as_slice()),
+        Part::Null => put_all(sink, b"$-1\r\n"),
+        Part::NullArray => put_all(sink, b"*-1\r\n"),
+        Part::Array(n) => {
+            let mut buffer = Buffer::new();
+            put_line(sink, b"*", buffer.format(*n).as_bytes())
+        }
+    }
+}
+
+/// Writes the reply's bytes, or a front of them where that fails. It takes no memory of its own.
+/// `WriteFault` comes only where the sink counted one.
+pub fn spell<O: Sink>(reply: &Reply, sink: &mut O) -> Result<(), WriteFault>
+    ensures bytes { Puts (O.told sink.old) (O.told sink.new) (spelling reply.now) result }
+    ensures counted { O.faults sink.old ≤ O.faults sink.new }
+    ensures fault { OnErr result (Rose (O.faults sink.old) (O.faults sink.new)) }
+{
+    for part in reply.parts() {
+        if let Err(fault) = put_part(sink, part) {
+            return Err(fault);
+        }
+    }
+    Ok(())
+}
