@@ -1,5 +1,6 @@
 -- What a server holds (Redis command reference, "Data types", "SELECT", "EXPIRE").
-use Rattle.std.specs.Prelude.{◌≡◌, ◌==◌, ℕ, List, Option, None, Some, Bool, true, false, nat_le, if◌then◌else◌}
+use Rattle.std.specs.Prelude.{◌≡◌, ◌==◌, ℕ, List, Option, None, Some, Bool, true, false, nat_le, if◌then◌else◌, refl}
+use Rattle.std.specs.Coded.{Coded, code_by, coded×, coded_ℕ, coded_list, coded_option}
 use Rattle.std.specs.FinMap.{FinMap, empty, get, insert, retain_keys}
 use Rattle.std.specs.Cmp.Lexicographic.{slice_cmp}
 use Rattle.std.specs.Ordering.{nat_cmp}
@@ -58,3 +59,16 @@ with_base world base = record { bases = λ number. if number == world.selected t
 -- the world in which this stands at a key of the selected database
 abbrev pub put : World → List ℕ → Entry → World
 put world key entry = with_base world (insert (world.bases world.selected) key entry)
+
+-- what stands at a key, as data that can be told apart
+abbrev pub value_bytes : Value → List ℕ
+value_bytes (Str bytes) = bytes
+
+pub value_again : (v : Value) → Str (value_bytes v) ≡ v
+value_again (Str bytes) = refl
+
+abbrev pub value_code : Coded Value
+value_code = code_by (List ℕ) (coded_list coded_ℕ) value_bytes Str value_again
+
+abbrev pub entry_code : Coded Entry
+entry_code = code_by (Value × Option ℕ) (coded× value_code (coded_option coded_ℕ)) (λ e. (e.value, e.deadline)) (λ p. record { value = p.0; deadline = p.1 }) (λ _. refl)
