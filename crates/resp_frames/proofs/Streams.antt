@@ -49,6 +49,12 @@ requests_grow front back p q e f a b =
     let r = items_prefix (front ++ back) a.items b.items (a.rest ++ back) b.rest f a.framed.each b.framed.each b.ends is in
     (requests r.0, sym b.are ∙ ap requests r.1 ∙ flat_map-append asked a.items r.0 ∙ ap (λ l. l ++ requests r.0) a.are)
 
+-- the requests that are taken off the front of bytes are the first of theirs
+pub requests_first : (bytes : List ℕ) (items : List Item) (rest : List ℕ) (p : List Words) (e : End) → Framed bytes items rest → Frames bytes p e → (more : List Words) × (p ≡ requests items ++ more)
+requests_first bytes items rest p e f a =
+    let r = items_prefix bytes items a.items rest a.rest e f.each a.framed.each a.ends (sym f.whole ∙ a.framed.whole) in
+    (requests r.0, sym a.are ∙ ap requests r.1 ∙ flat_map-append asked items r.0)
+
 -- two ends of one rest are one
 one_end : (bytes rest : List ℕ) (e f : End) → EndsAs bytes rest e → EndsAs bytes rest f → e ≡ f
 one_end bytes rest Whole Whole p q = refl

@@ -1,0 +1,16 @@
+use Rattle.std.proofs.Common.{◌≡◌, ◌+◌, [], ◌-◌, ◌≤◌, length}
+use Rattle.redis_core.specs.Held.{world_of}
+use Rattle.redis_core_cli.proofs.Endings.{Serving}
+use Rattle.redis_core_cli.proofs.serving.serve.Given as goal
+
+abbrev pub invariant-pieces : goal.invariant-pieces
+invariant-pieces g l = record {
+  serving : Serving (g.I.Source.told l.fn.input) (g.I.Source.told l.input) l.taken l.feeder (world_of l.engine) (g.O.Sink.told l.fn.output) (g.O.Sink.told l.output);
+  read : g.I.Source.faults l.fn.input ≤ g.I.Source.faults l.input;
+  written : g.O.Sink.faults l.fn.output ≤ g.O.Sink.faults l.output;
+  none : l.pending.bytes.items ≡ [];
+  within : l.taken ≤ l.limit;
+}
+
+abbrev pub decreases-pieces : goal.decreases-pieces
+decreases-pieces g l = l.limit - l.taken

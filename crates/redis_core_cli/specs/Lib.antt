@@ -1,0 +1,4 @@
+pub mod Headline
+pub mod Statuses
+pub mod Answering
+pub mod Serving
