@@ -1,6 +1,6 @@
 //! The real source and sink, which tell nothing of their bytes: the trusted edge.
 
-ghost use Rattle.std.specs.Prelude.{None};
+ghost use Rattle.std.specs.Prelude.{◌≡◌, None};
 
 use crate::{ReadFault, Sink, Source, WriteFault};
 use std::io::{Read, Write};
@@ -14,7 +14,9 @@ pub struct StdSource<R> {
 
 impl<R: Read> StdSource<R> {
     /// A source over this reader, with no fault so far.
-    pub fn new(reader: R) -> StdSource<R> {
+    pub fn new(reader: R) -> StdSource<R>
+        ensures { result.faults ≡ 0 }
+    {
         StdSource { reader, faults: 0 }
     }
 }
@@ -44,7 +46,9 @@ pub struct StdSink<W> {
 
 impl<W: Write> StdSink<W> {
     /// A sink over this writer, with no fault so far.
-    pub fn new(writer: W) -> StdSink<W> {
+    pub fn new(writer: W) -> StdSink<W>
+        ensures { result.faults ≡ 0 }
+    {
         StdSink { writer, faults: 0 }
     }
 }

@@ -5,6 +5,8 @@ mod answering;
 mod ending;
 mod pending;
 mod serving;
+#[cfg(test)]
+mod tests;
 
 use crate::serving::redis_core;
 use outside::{StdSink, StdSource};

@@ -94,8 +94,8 @@ fn serve<I: Source, O: Sink>(
     }
 }
 
-// The same with a limit of one's own.
-fn redis_core_up_to<I: Source, O: Sink>(
+/// The same with a limit of one's own, in bytes.
+pub fn redis_core_up_to<I: Source, O: Sink>(
     alloc: Global,
     input: &mut I,
     output: &mut O,

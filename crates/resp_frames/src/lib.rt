@@ -7,6 +7,8 @@ mod laws;
 mod number;
 mod request;
 mod spelling;
+#[cfg(test)]
+mod tests;
 
 pub use feeder::{Feeder, FrameFault, Next, Request};
 pub use header::Header;

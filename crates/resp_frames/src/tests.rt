@@ -1,0 +1,95 @@
+//! Broken streams, each with its rule and the place named, worked out from the rules; and the feeder's small answers.
+
+ghost use Rattle.std.specs.Prelude.{◌≤◌, length};
+ghost use Rattle.resp_frames.specs.Feeding.{SameFed};
+
+use crate::{Feeder, FrameFault};
+use std::alloc::{AllocError, Global};
+use std::test::Fail;
+
+/// A stream, how many requests are whole before it breaks, the rule, and the byte.
+struct Row(&'static [u8], u64, u8, u64);
+
+const ROWS: [Row; 17] = [
+    Row(b"*x\r\n", 0, 1, 0),
+    Row(b"*01\r\n", 0, 1, 0),
+    Row(b"*-0\r\n", 0, 1, 0),
+    Row(b"*\r\n", 0, 1, 0),
+    Row(b"*1048577\r\n", 0, 1, 0),
+    Row(b"*0\r\n*99999999999999999999\r\n", 0, 1, 4),
+    Row(b"*1\r\n+OK\r\n", 0, 2, 4),
+    Row(b"*1\r\n$3\r\nFOO\r\n*2\r\n$1\r\na\r\n*", 1, 2, 24),
+    Row(b"*1\r\n$536870913\r\n", 0, 3, 4),
+    Row(b"*1\r\n$-1\r\n", 0, 3, 4),
+    Row(b"*1\r\n$+1\r\n", 0, 3, 4),
+    Row(b"*1\rx", 0, 5, 3),
+    Row(b"*1x\r\r", 0, 5, 4),
+    Row(b"*1\r\n$3\r\nFOOx", 0, 5, 11),
+    Row(b"*1\r\n$3\r\nFOO\rx", 0, 5, 12),
+    Row(b"PING\r\n", 0, 6, 0),
+    Row(b"*1\r\n$3\r\nFOO\r\n\r\n", 1, 6, 13),
+];
+
+// Gives out what is whole, and says how many requests that were, and why the stream broke.
+fn drained(feeder: &mut Feeder) -> (u64, Option<FrameFault>)
+    ensures { SameFed feeder.old feeder.new }
+{
+    for requests in 0..100 {
+        match feeder.next_request() {
+            Ok(true) => {}
+            Ok(false) => return (requests, None),
+            Err(fault) => return (requests, Some(fault)),
+        }
+    }
+    (100, None)
+}
+
+// Feeds the stream in two pieces.
+fn broken(
+    alloc: Global,
+    stream: &[u8],
+    first: usize,
+) -> Result<(u64, Option<FrameFault>), AllocError>
+    requires first { first ≤ length stream.now }
+    requires few { length stream.now ≤ 1000 }
+{
+    let mut feeder = Feeder::new(alloc);
+    feeder.feed(&stream[..first])?;
+    let (before, fault) = drained(&mut feeder);
+    if fault.is_some() {
+        return Ok((before, fault));
+    }
+    feeder.feed(&stream[first..])?;
+    let (after, fault) = drained(&mut feeder);
+    Ok((before.saturating_add(after), fault))
+}
+
+#[test]
+fn faults_and_their_places(rt: HostRuntime) -> Result<(), Fail> {
+    for Row(stream, requests, fault, at) in &ROWS {
+        assert!(rt; stream.len() <= 1000);
+        for first in 0..=stream.len() {
+            let answer = broken(rt.alloc(), stream, first)?;
+            let due = FrameFault::Protocol {
+                fault: *fault,
+                at: *at,
+            };
+            assert_eq!(rt; answer, (*requests, Some(due)));
+        }
+    }
+    Ok(())
+}
+
+#[test]
+fn words_and_what_is_kept(rt: HostRuntime) -> Result<(), Fail> {
+    let mut feeder = Feeder::new(rt.alloc());
+    feeder.feed(b"*0\r\n*2\r\n$2\r\n\r\n\r\n$0\r\n\r\n*1\r\n$9\r\nab")?;
+    assert_eq!(rt; feeder.next_request(), Ok(true));
+    let request = feeder.current();
+    assert_eq!(rt; request.len(), 2);
+    assert_eq!(rt; request.word(0), b"\r\n".as_slice());
+    assert_eq!(rt; request.word(1), b"".as_slice());
+    assert_eq!(rt; feeder.next_request(), Ok(false));
+    assert_eq!(rt; feeder.kept(), 10);
+    Ok(())
+}
