@@ -1,6 +1,6 @@
 -- No reply's spelling is a prefix of another's.
-use Rattle.std.proofs.Common.{◌≡◌, ℕ, suc, zero, ◌+◌, ◌<◌, ◌^◌, List, [], ◌∷◌, ◌++◌, Option, Some, None, Bool, true, false, length, drop, refl, sym, ap, subst, ◌∙◌, arith, lit<}
-use Rattle.std.specs.Prelude.{flat_map, codes, bytes_eq, if◌then◌else◌}
+use Rattle.std.proofs.Common.{◌≡◌, ℕ, suc, zero, ◌+◌, ◌<◌, ◌^◌, List, [], ◌∷◌, ◌++◌, true, length, drop, refl, sym, ap, subst, ◌∙◌, arith, lit<}
+use Rattle.std.specs.Prelude.{codes, bytes_eq, if◌then◌else◌}
 use Rattle.std.specs.Fmt.{decimal, signed_decimal}
 use Rattle.std.specs.List.{AllByRecursion}
 use Rattle.std.proofs.lemmas.Fmt.{decimal_injective, signed_decimal_injective, digits_decimal}
@@ -8,7 +8,7 @@ use Rattle.std.proofs.lemmas.List.{append_assoc, append_cancel_left}
 use Rattle.plain_model.specs.Laws.{IsPart, IsHeld}
 use Rattle.plain_model.specs.Parts.{following, AreReplies}
 use Rattle.plain_model.specs.Refusals.{refusal_text}
-use Rattle.plain_model.specs.Spelling.{line_end, part_bytes, spelling, spelled}
+use Rattle.plain_model.specs.Spelling.{line_end, part_bytes, spelling}
 use Rattle.plain_model.specs.Lines.{IsLine}
 use Rattle.plain_model.specs.declared.reply.Part.{Part}
 use Rattle.plain_model.specs.declared.reply.Part.TheVariants.{Simple, Refused, Number, Bulk, Null, NullArray, Array}

@@ -1,8 +1,7 @@
 -- The bytes of a run's replies fix the run.
-use Rattle.std.proofs.Common.{◌≡◌, ℕ, List, [], ◌∷◌, ◌++◌, Result, Ok, Err, refl, sym, ap, subst, ◌∙◌}
-use Rattle.std.specs.Prelude.{flat_map, MatchResult}
+use Rattle.std.proofs.Common.{◌≡◌, ℕ, List, [], ◌∷◌, Result, Ok, Err, refl, sym, ap, subst, ◌∙◌}
+use Rattle.std.specs.Prelude.{MatchResult}
 use Rattle.std.specs.List.{AllByRecursion}
-use Rattle.std.proofs.lemmas.List.{append_assoc}
 use Rattle.plain_model.specs.Words.{Words}
 use Rattle.plain_model.specs.Worlds.{World, live}
 use Rattle.plain_model.specs.Meant.{meant}
@@ -10,7 +9,7 @@ use Rattle.plain_model.specs.StringSteps.{may_strings}
 use Rattle.plain_model.specs.Steps.{may, step}
 use Rattle.plain_model.specs.Runs.{Call, run}
 use Rattle.plain_model.specs.Laws.{IsHeld}
-use Rattle.plain_model.specs.Spelling.{spelling, spelled}
+use Rattle.plain_model.specs.Spelling.{spelled}
 use Rattle.plain_model.specs.declared.command.Command.{Command}
 use Rattle.plain_model.specs.declared.command.Command.TheVariants.{Strings}
 use Rattle.plain_model.specs.declared.command.StringCommand.{StringCommand}

@@ -1,5 +1,5 @@
 -- Statements of the laws.
-use Rattle.std.specs.Prelude.{◌≡◌, ◌<◌, ◌^◌, ℕ, ℤ, List, [], ◌∷◌, ◌++◌, length}
+use Rattle.std.specs.Prelude.{◌≡◌, ◌<◌, ◌^◌, ℕ, List, ◌++◌, length}
 use Rattle.std.specs.List.{AllByRecursion}
 use lib.Signed.{mag}
 use Rattle.plain_model.specs.Lines.{IsLine}

@@ -1,5 +1,5 @@
 -- What the words of a request mean: a command, or why they are refused.
-use Rattle.std.specs.Prelude.{[], ◌∷◌, Result, Ok, Err}
+use Rattle.std.specs.Prelude.{[], ◌∷◌, Result, Err}
 use Rattle.plain_model.specs.Words.{Words, in_lower_case}
 use Rattle.plain_model.specs.StringWords.{string_command}
 use Rattle.plain_model.specs.declared.command.Command.{Command}

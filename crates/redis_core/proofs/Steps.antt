@@ -1,7 +1,7 @@
 -- Steps at the moment 0, at which nothing is gone, in worlds with one database.
 use Rattle.std.proofs.Common.{◌≡◌, ◌==◌, ℕ, List, [], ◌∷◌, Option, Some, None, Bool, true, false, cond, Result, Ok, Err, IfOk, refl, sym, ap, subst, ◌∙◌, arith, Equal}
-use Rattle.std.specs.Prelude.{MatchResult, if◌then◌else◌}
-use Rattle.std.specs.FinMap.{get, insert, retain_keys, same_map, get-retain_keys, nat_cmp-IsAntisymmetric, slice_cmp-IsAntisymmetric}
+use Rattle.std.specs.Prelude.{MatchResult}
+use Rattle.std.specs.FinMap.{get, insert, same_map, get-retain_keys, nat_cmp-IsAntisymmetric, slice_cmp-IsAntisymmetric}
 use Rattle.std.specs.Ordering.{nat_cmp}
 use Rattle.std.specs.Cmp.Lexicographic.{slice_cmp, nat_list_cmp_total}
 use Rattle.std.proofs.lemmas.Bool.{le-leb}
@@ -13,7 +13,7 @@ use Rattle.plain_model.specs.declared.command.Command.{Command}
 use Rattle.plain_model.specs.declared.refusal.Refusal.{Refusal}
 use Rattle.plain_model.specs.declared.reply.Part.{Part}
 use Rattle.plain_model.specs.declared.reply.Part.TheVariants.{Refused}
-use Rattle.redis_core.specs.Held.{plain_entry, world_of}
+use Rattle.redis_core.specs.Held.{world_of}
 
 same_bytes : (x y : List ℕ) → slice_cmp nat_cmp x y ≡ Equal → x ≡ y
 same_bytes = slice_cmp-IsAntisymmetric nat_cmp-IsAntisymmetric

@@ -1,21 +1,18 @@
 -- How a run ends.
-use Rattle.std.proofs.Common.{◌≡◌, ◌==◌, ◌<◌, ◌≤◌, ◌^◌, ◌-◌, ◌+◌, ℕ, List, [], ◌∷◌, ◌++◌, min, Option, Some, None, Bool, true, false, length, take, refl, sym, ap, subst, ◌∙◌, inl, inr, arith, length-append, length-take, Fits, w64}
+use Rattle.std.proofs.Common.{◌≡◌, ◌==◌, ◌<◌, ◌≤◌, ◌^◌, ◌-◌, ◌+◌, ℕ, List, [], ◌++◌, min, Option, Some, None, Bool, true, false, length, take, refl, sym, ap, subst, ◌∙◌, inl, inr, arith, length-append, length-take, Fits, w64}
 use Rattle.std.specs.Prelude.{◌⊎◌, if◌then◌else◌}
-use Rattle.std.specs.Io.KnownBytes.{Appends, Consumes, IsAtEnd, Keeps}
+use Rattle.std.specs.Io.KnownBytes.{Consumes, IsAtEnd}
 use Rattle.std.proofs.lemmas.List.{append_assoc, append-nil, append_cancel_right, nil_from_length}
 use Rattle.plain_model.specs.Words.{Words}
 use Rattle.plain_model.specs.Worlds.{World, new_world, no_keys, Database}
-use Rattle.plain_model.specs.Runs.{run, at_moment}
-use Rattle.plain_model.specs.Spelling.{spelled}
-use Rattle.resp_frames.specs.Frames.{Framed, requests}
+use Rattle.resp_frames.specs.Frames.{requests}
 use Rattle.resp_frames.specs.Ends.{End, Whole, Cut, Fault, EndsAs, IsCut, Frames}
 use Rattle.resp_frames.specs.Feeding.{Feeding, SameFed}
 use Rattle.resp_frames.proofs.Streams.{frames_there, requests_first, one_frames, fault_frames}
-use Rattle.std.proofs.lemmas.Bool.{cases_eq}
 use Rattle.redis_core.specs.Held.{world_of}
 use Rattle.redis_core_cli.specs.Answering.{Serves, Breaks, IsFaulty}
 use Rattle.redis_core_cli.specs.Serving.{IsFresh, TakesPiece}
-use Rattle.redis_core_cli.specs.Headline.{Replies, AnswersAllOf, AnswersFirst, AnswersPart, EndsOpen, at_limit, take_fails, finds_end, EndsBy, Ending, answered, write_fault, no_memory, Concludes, Causes, EndsExactly, Completes}
+use Rattle.redis_core_cli.specs.Headline.{AnswersAllOf, EndsOpen, at_limit, take_fails, finds_end, EndsBy, answered, write_fault, no_memory, Concludes, Causes, EndsExactly, Completes}
 use Rattle.redis_core_cli.proofs.Runs.{serves_nothing, serves_then, serves_more, breaks_then}
 
 pub consumes_then : (a b c : Option (List ℕ)) (x y : List ℕ) → Consumes a b x → Consumes b c y → Consumes a c (x ++ y)

@@ -1,20 +1,18 @@
 -- Replies that are gathered before they are put.
-use Rattle.std.proofs.Common.{◌≡◌, ℕ, ◌+◌, ◌≤◌, List, [], ◌∷◌, ◌++◌, ◌⊎◌, Option, Some, None, Result, Ok, Err, Bool, true, false, length, sym, ap, subst, ◌∙◌, refl, inl, inr, arith}
+use Rattle.std.proofs.Common.{◌≡◌, ℕ, List, [], ◌∷◌, ◌++◌, Option, Some, None, Result, Ok, Err, Bool, true, false, sym, ap, subst, ◌∙◌, refl, inl, inr}
 use Rattle.std.specs.Io.KnownBytes.{Appends, Keeps, append_known}
 use Rattle.std.proofs.lemmas.List.{append-nil, append_assoc, append_cancel_left}
-use Rattle.outside.specs.Counts.{Rose}
 use Rattle.plain_model.specs.Words.{Words}
 use Rattle.plain_model.specs.Worlds.{World}
 use Rattle.plain_model.specs.Steps.{step}
 use Rattle.plain_model.specs.Spelling.{spelling, spelled}
 use Rattle.plain_model.specs.declared.reply.Part.{Part}
 use Rattle.resp_frames.specs.Puts.{Puts, PutsFront}
-use Rattle.resp_frames.specs.Ends.{IsCut}
 use Rattle.resp_frames.specs.Feeding.{Feeding, Gives, GivesOut, GivesNone, GivesFault, NextIs, SameFed}
 use Rattle.resp_frames.specs.declared.feeder.FrameFault.{FrameFault}
 use Rattle.resp_frames.specs.declared.feeder.FrameFault.TheVariants as faults
-use Rattle.resp_frames.proofs.Putting.{front_then, front_stops, appends_nothing, appends_then}
-use Rattle.redis_core_cli.specs.Answering.{Grows, Gathers, PutsLarge, Written, Writes, Relieved, Relieves, Replied, RepliedPart, AnswersOne, Serves, Breaks, IsFaulty, AnswersAll, AllPut, Finishes}
+use Rattle.resp_frames.proofs.Putting.{appends_nothing, appends_then}
+use Rattle.redis_core_cli.specs.Answering.{Grows, Gathers, PutsLarge, Writes, Relieved, Relieves, Replied, RepliedPart, AnswersOne, Serves, Breaks, AnswersAll, AllPut, Finishes}
 use Rattle.redis_core_cli.specs.declared.answering.Answer.{Answer}
 use Rattle.redis_core_cli.specs.declared.answering.Answer.TheVariants as one
 use Rattle.redis_core_cli.specs.declared.answering.Answered.{Answered}

@@ -1,8 +1,7 @@
 -- Runs and what they write are put together.
-use Rattle.std.proofs.Common.{◌≡◌, ◌<◌, ◌≤◌, ◌^◌, ◌-◌, ◌+◌, ℕ, List, [], ◌∷◌, ◌++◌, Option, Some, None, refl, sym, ap, subst, ◌∙◌, inl, inr, arith}
-use Rattle.std.specs.Prelude.{flat_map, map, ◌⊎◌}
-use Rattle.std.specs.Io.KnownBytes.{Appends, Keeps, append_known}
-use Rattle.std.proofs.lemmas.List.{append_assoc, append-nil}
+use Rattle.std.proofs.Common.{◌≡◌, ◌≤◌, ℕ, List, [], ◌∷◌, ◌++◌, Option, refl, sym, ap, subst, ◌∙◌, inl, inr, arith}
+use Rattle.std.specs.Io.KnownBytes.{Appends, Keeps}
+use Rattle.std.proofs.lemmas.List.{append-nil}
 use Rattle.std.proofs.lemmas.List.Concat.{flat_map-append}
 use Rattle.outside.specs.Counts.{Rose}
 use Rattle.plain_model.specs.Words.{Words}
@@ -11,7 +10,7 @@ use Rattle.plain_model.specs.Steps.{step}
 use Rattle.plain_model.specs.Runs.{Call, run, at_moment}
 use Rattle.plain_model.specs.Spelling.{spelling, spelled}
 use Rattle.plain_model.specs.declared.reply.Part.{Part}
-use Rattle.resp_frames.specs.Frames.{Item, Framed, asked, requests}
+use Rattle.resp_frames.specs.Frames.{Item, asked, requests}
 use Rattle.resp_frames.specs.Feeding.{Gives}
 use Rattle.resp_frames.specs.Puts.{PutsFront}
 use Rattle.resp_frames.proofs.Giving.{framed_append}

@@ -1,5 +1,5 @@
 -- What the taking of pieces does.
-use Rattle.std.specs.Prelude.{◌≡◌, ℕ, ◌+◌, ◌<◌, ◌≤◌, List, [], ◌++◌, length, Option, None}
+use Rattle.std.specs.Prelude.{◌≡◌, ℕ, ◌<◌, ◌≤◌, List, [], ◌++◌, length, Option}
 use Rattle.std.specs.Io.KnownBytes.{Consumes, IsAtEnd}
 use Rattle.resp_frames.specs.Feeding.{Feeding}
 use Rattle.redis_core_cli.specs.declared.serving.Taken.{Taken}

@@ -1,6 +1,6 @@
 -- Bulk strings are read.
-use Rattle.std.proofs.Common.{◌≡◌, ◌==◌, ℕ, zero, suc, ◌<◌, ◌≤◌, ◌^◌, List, [], ◌∷◌, ◌++◌, Option, Some, None, length, take, drop, get_or, ◌+◌, ap, sym, subst, ◌∙◌, refl, arith, lit<}
-use Rattle.std.specs.Prelude.{if◌then◌else◌, flat_map}
+use Rattle.std.proofs.Common.{◌≡◌, ℕ, zero, suc, ◌<◌, ◌≤◌, ◌^◌, List, [], ◌∷◌, ◌++◌, Option, Some, None, length, take, drop, get_or, ◌+◌, ap, sym, ◌∙◌, refl, arith, lit<}
+use Rattle.std.specs.Prelude.{flat_map}
 use Rattle.std.specs.List.{AllByRecursion}
 use Rattle.std.specs.Fmt.{decimal}
 use Rattle.std.proofs.lemmas.List.{append_assoc, take-append-drop, drop_all, drop_more}
@@ -9,9 +9,9 @@ use Rattle.plain_model.specs.Spelling.{line_end}
 use Rattle.plain_model.proofs.Lines.{decimal_plain}
 use Rattle.std.proofs.lemmas.Fmt.{length-decimal-le}
 use Rattle.resp_frames.specs.Frames.{header, bulk, IsWord, IsText}
-use Rattle.resp_frames.specs.Faults.{LineFault, NumberFault, bad_number, BulkFault, length_line, length_number, no_return, no_feed, IsLength}
+use Rattle.resp_frames.specs.Faults.{bad_number, BulkFault, length_line, length_number, no_return, no_feed}
 use Rattle.resp_frames.specs.Reading.{Read, Took, Open, Wrong, read_on, read_header, read_number, after_return, after_word, read_body, read_word, read_bulk, read_bulks}
-use Rattle.resp_frames.proofs.Choices.{on_equal, on_other, by_equal}
+use Rattle.resp_frames.proofs.Choices.{on_other, by_equal}
 use Rattle.resp_frames.proofs.Headers.{HeaderIs, header_again, header_is, line_first}
 use Rattle.resp_frames.proofs.Numbers.{NumberIs, number_is, length_again, length_bad, not_length}
 

@@ -1,11 +1,11 @@
 -- Digits, and texts that aren't numbers.
-use Rattle.std.proofs.Common.{◌≡◌, ℕ, ◌+◌, ◌-◌, ◌*◌, ◌<◌, ◌≤◌, ◌^◌, ◌⊎◌, List, [], ◌∷◌, Bool, true, false, length, take, drop, get_or, sym, ap, subst, ◌∙◌, refl, inl, inr, arith, length-take, lit<, lit≤}
+use Rattle.std.proofs.Common.{◌≡◌, ℕ, ◌+◌, ◌-◌, ◌*◌, ◌<◌, ◌≤◌, ◌^◌, ◌⊎◌, List, [], ◌∷◌, length, take, drop, get_or, sym, ap, subst, ◌∙◌, inl, inr, arith, length-take, lit<, lit≤}
 use Rattle.std.specs.Fmt.{decimal}
 use Rattle.std.specs.Int.{IsInRange}
 use Rattle.std.specs.Prelude.{IsTrue}
 use Rattle.resp_frames.specs.Frames.{is_negative}
 use Rattle.resp_frames.specs.Faults.{IsCount}
-use Rattle.plain_model.proofs.Numerals.{AreDigits, read_on, own, grows, zero_text}
+use Rattle.plain_model.proofs.Numerals.{AreDigits, read_on, own, zero_text}
 use Rattle.std.proofs.lemmas.Fmt.{digits_decimal, digits_value-decimal, decimal-digits_value, decimal_nonempty, first_decimal, decimal_digit}
 use Rattle.std.proofs.lemmas.Bool.{cases_lt}
 use Rattle.std.proofs.lemmas.List.{get_or-take, drop_more}

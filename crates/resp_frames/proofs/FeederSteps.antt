@@ -1,5 +1,5 @@
 -- What a feeder gives out.
-use Rattle.std.proofs.Common.{◌≡◌, ℕ, ◌+◌, ◌-◌, ◌≤◌, List, [], ◌∷◌, ◌++◌, true, false, Bool, Option, Some, None, length, drop, take, length-drop, arith, sym, ap, subst, ◌∙◌, refl, inl, inr, ◌⊎◌}
+use Rattle.std.proofs.Common.{◌≡◌, ℕ, ◌+◌, ◌-◌, ◌≤◌, List, [], ◌∷◌, true, false, Bool, None, length, drop, take, length-drop, arith, sym, ap, subst, ◌∙◌, refl, inl, inr, ◌⊎◌}
 use Rattle.std.proofs.lemmas.List.{drop-drop, take_rest}
 use Rattle.resp_frames.specs.Reading.{read_item, Open}
 use Rattle.resp_frames.specs.Ends.{IsCut}

@@ -1,14 +1,13 @@
 -- What is read stays, when more bytes come.
-use Rattle.std.proofs.Common.{◌≡◌, ℕ, zero, suc, ◌+◌, ◌-◌, ◌<◌, ◌≤◌, ◌^◌, List, [], ◌∷◌, ◌++◌, Bool, true, false, length, drop, take, map, length-append, length-drop, arith, sym, ap, subst, ◌∙◌, refl}
-use Rattle.std.specs.Prelude.{flat_map, if◌then◌else◌}
-use Rattle.std.specs.List.{AllByRecursion}
+use Rattle.std.proofs.Common.{◌≡◌, ℕ, ◌+◌, ◌≤◌, ◌^◌, List, [], ◌∷◌, ◌++◌, Bool, true, false, length, drop, take, length-append, length-drop, arith, sym, ap, subst, ◌∙◌, refl}
+use Rattle.std.specs.Prelude.{if◌then◌else◌}
 use Rattle.std.specs.Fmt.{decimal}
 use Rattle.std.proofs.lemmas.List.{append_assoc, append-nil, drop-append-le, take-append-le}
-use Rattle.resp_frames.specs.Frames.{header, bulk, IsPlainText}
+use Rattle.resp_frames.specs.Frames.{header, IsPlainText}
 use Rattle.resp_frames.specs.Faults.{Begun}
 use Rattle.resp_frames.specs.HeaderRead.{IsScanned}
-use Rattle.resp_frames.specs.Feeding.{IsFeeder, IsState}
-use Rattle.resp_frames.specs.RequestRead.{word_at, words_at, AreWithin, Stands, StandsAtCount, StandsAtLength, StandsAtBody}
+use Rattle.resp_frames.specs.Feeding.{IsFeeder}
+use Rattle.resp_frames.specs.RequestRead.{word_at, words_at, AreWithin, Stands}
 use Rattle.resp_frames.specs.declared.request.Span.{Span}
 use Rattle.resp_frames.specs.declared.request.Due.{Due}
 use Rattle.resp_frames.specs.declared.request.Due.TheVariants as due

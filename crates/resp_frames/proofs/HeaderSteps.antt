@@ -1,15 +1,15 @@
 -- How the code reads a header.
-use Rattle.std.proofs.Common.{◌≡◌, ◌≢◌, ℕ, suc, ◌+◌, ◌-◌, ◌<◌, ◌≤◌, List, [], ◌∷◌, ◌++◌, length, take, drop, get_or, sym, ap, subst, ◌∙◌, refl, inl, inr, arith, length-take, length-drop}
+use Rattle.std.proofs.Common.{◌≡◌, ◌≢◌, ℕ, suc, ◌+◌, ◌-◌, ◌<◌, ◌≤◌, List, [], ◌∷◌, ◌++◌, length, take, drop, get_or, sym, ap, subst, ◌∙◌, refl, inl, inr, arith, length-take}
 use Rattle.std.proofs.lemmas.Bool.{cases_lt}
-use Rattle.std.proofs.lemmas.List.{take-append-drop, take_all, drop_more, drop_all, take_rest, append_assoc, drop-drop}
+use Rattle.std.proofs.lemmas.List.{take-append-drop, take_all, drop_more, drop_all, take_rest, append_assoc}
 use Rattle.plain_model.specs.Spelling.{line_end}
-use Rattle.resp_frames.specs.Frames.{IsPlainText, IsText, header}
-use Rattle.resp_frames.specs.Faults.{LineFault, other_mark, too_long, no_line_feed}
+use Rattle.resp_frames.specs.Frames.{IsPlainText, IsText}
+use Rattle.resp_frames.specs.Faults.{other_mark, too_long, no_line_feed}
 use Rattle.resp_frames.specs.Reading.{read_header, Open}
-use Rattle.resp_frames.specs.HeaderRead.{IsScanned, IsOpenText, IsWholeText, IsEndless, IsNoLine, ReadsText, text_of, IsHeader, IsOpenHeader, IsNoHeader, Reads}
+use Rattle.resp_frames.specs.HeaderRead.{ReadsText, IsOpenHeader, IsNoHeader, Reads}
 use Rattle.resp_frames.specs.declared.header.Header.{Header}
 use Rattle.resp_frames.specs.declared.header.Header.TheVariants as headers
-use Rattle.resp_frames.proofs.Headers.{as_cut, header_none, header_begun, header_returned}
+use Rattle.resp_frames.proofs.Headers.{header_none, header_begun, header_returned}
 
 -- what `before_return` tells
 pub record Cuts (bytes : List ℕ) (n : ℕ) : Type 0 where

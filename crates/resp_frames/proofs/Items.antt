@@ -1,11 +1,10 @@
 -- Items are read.
-use Rattle.std.proofs.Common.{◌≡◌, ℕ, zero, suc, ◌+◌, ◌<◌, ◌≤◌, ◌^◌, List, [], ◌∷◌, ◌++◌, Option, Some, None, length, ap, sym, subst, ◌∙◌, refl, arith, length-append}
+use Rattle.std.proofs.Common.{◌≡◌, ℕ, zero, suc, ◌+◌, ◌<◌, ◌≤◌, List, [], ◌∷◌, ◌++◌, Option, Some, None, length, ap, sym, subst, ◌∙◌, refl, arith, length-append}
 use Rattle.std.specs.Prelude.{flat_map}
-use Rattle.std.specs.List.{AllByRecursion}
 use Rattle.std.specs.Fmt.{decimal}
-use Rattle.std.proofs.lemmas.List.{append_assoc, append-nil}
+use Rattle.std.proofs.lemmas.List.{append_assoc}
 use Rattle.plain_model.specs.Words.{Words}
-use Rattle.resp_frames.specs.Frames.{header, bulk, IsWord, IsText, IsRequest, Item, Asked, Passed, item_bytes, IsItem}
+use Rattle.resp_frames.specs.Frames.{header, bulk, IsText, Item, Asked, Passed, item_bytes, IsItem}
 use Rattle.resp_frames.specs.Faults.{LineFault, other_mark, too_long, no_line_feed, NumberFault, bad_number, BulkFault, length_line, length_number, no_return, no_feed, Begun, RequestFault, count_line, count_number, in_word}
 use Rattle.resp_frames.specs.Ends.{IsCut}
 use Rattle.resp_frames.specs.Reading.{Read, Took, Open, Wrong, read_on, read_header, read_count, read_bulk, read_bulks, read_words, read_item}

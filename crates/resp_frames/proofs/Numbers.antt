@@ -1,10 +1,10 @@
 -- Canonical numbers are read.
-use Rattle.std.proofs.Common.{◌≡◌, ◌==◌, ℕ, zero, suc, ◌<◌, ◌≤◌, ◌^◌, List, [], ◌∷◌, Bool, true, false, Option, Some, None, length, get_or, ap, sym, subst, ◌∙◌, refl, arith, inl, inr, lit<, lit≤}
-use Rattle.std.specs.Prelude.{if◌then◌else◌, bytes_eq, nat_le, ◌&&◌, ◌⊎◌, IsTrue}
+use Rattle.std.proofs.Common.{◌≡◌, ◌==◌, ℕ, zero, suc, ◌<◌, ◌≤◌, ◌^◌, List, [], ◌∷◌, true, false, Option, Some, None, ap, sym, ◌∙◌, refl, arith, inl, inr, lit<, lit≤}
+use Rattle.std.specs.Prelude.{if◌then◌else◌, bytes_eq, nat_le, ◌&&◌}
 use Rattle.std.specs.Fmt.{decimal}
 use Rattle.std.specs.Str.Parse.{digits_value}
 use Rattle.std.proofs.lemmas.Bool.{and_parts, and_from, leb-true, le-leb, eqb-true}
-use Rattle.std.proofs.lemmas.Fmt.{decimal_is_IsNumeral, digits_decimal, decimal_nonempty}
+use Rattle.std.proofs.lemmas.Fmt.{decimal_is_IsNumeral, digits_decimal}
 use Rattle.std.proofs.lemmas.Slice.Eq.{bytes_eq-Decides}
 use Rattle.plain_model.proofs.Numerals.{AreDigits, own, zero_text}
 use Rattle.resp_frames.specs.Frames.{is_negative, is_positive, IsNoCount}

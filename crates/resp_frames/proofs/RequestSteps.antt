@@ -1,11 +1,11 @@
 -- How the code reads a request.
-use Rattle.std.proofs.Common.{◌≡◌, ◌≢◌, ℕ, ◌+◌, ◌-◌, ◌<◌, ◌≤◌, List, [], ◌∷◌, ◌++◌, length, take, drop, sym, ap, subst, ◌∙◌, refl, inl, inr, arith, length-take, length-drop}
+use Rattle.std.proofs.Common.{◌≡◌, ℕ, ◌+◌, ◌-◌, ◌<◌, ◌≤◌, List, ◌∷◌, ◌++◌, length, take, drop, sym, ap, subst, ◌∙◌, refl, inl, inr, arith, length-take, length-drop}
 use Rattle.std.specs.Fmt.{decimal}
 use Rattle.std.proofs.lemmas.List.{drop-drop, take_rest}
-use Rattle.resp_frames.specs.Frames.{header, IsText}
-use Rattle.resp_frames.specs.Faults.{LineFault, bad_number, length_line, length_number, no_return, no_feed, count_line, count_number, in_word, IsCount, IsLength}
+use Rattle.resp_frames.specs.Frames.{header}
+use Rattle.resp_frames.specs.Faults.{LineFault, bad_number, length_line, length_number, no_return, no_feed, count_line, count_number, in_word, IsCount}
 use Rattle.resp_frames.specs.Reading.{read_body, read_bulk, Open}
-use Rattle.resp_frames.specs.HeaderRead.{text_of, IsScanned, IsHeader, IsOpenHeader, IsNoHeader}
+use Rattle.resp_frames.specs.HeaderRead.{text_of, IsHeader, IsOpenHeader, IsNoHeader}
 use Rattle.resp_frames.specs.RequestRead.{words_at, StandsAtCount, StandsAtLength, StandsAtBody, IsNoBody, IsOpenRequest, IsBrokenAt}
 use Rattle.resp_frames.specs.declared.request.Span.{Span}
 use Rattle.resp_frames.specs.declared.request.Due.TheVariants as due

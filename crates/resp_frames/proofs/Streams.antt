@@ -2,12 +2,11 @@
 use Rattle.std.proofs.Common.{◌≡◌, ℕ, zero, suc, ◌+◌, ◌-◌, ◌<◌, ◌≤◌, List, [], ◌∷◌, ◌++◌, length, ap, sym, subst, ◌∙◌, refl, arith, length-append}
 use Rattle.std.specs.Prelude.{flat_map}
 use Rattle.std.specs.List.{AllByRecursion}
-use Rattle.std.proofs.lemmas.List.{append_assoc, append-nil}
+use Rattle.std.proofs.lemmas.List.{append_assoc}
 use Rattle.std.proofs.lemmas.List.Concat.{flat_map-append}
 use Rattle.plain_model.specs.Words.{Words}
 use Rattle.resp_frames.specs.Frames.{Item, Asked, Passed, item_bytes, IsItem, asked, requests, Framed}
-use Rattle.resp_frames.specs.Faults.{RequestFault}
-use Rattle.resp_frames.specs.Ends.{End, Whole, Cut, Fault, IsCut, BreaksAt, EndsAs, Frames}
+use Rattle.resp_frames.specs.Ends.{End, Whole, Cut, Fault, BreaksAt, EndsAs, Frames}
 use Rattle.resp_frames.specs.Reading.{Read, Took, Open, Wrong, read_item}
 use Rattle.resp_frames.proofs.Items.{item_again, item_first, item_is, item_none, ItemIs, cut_from_open, fault_within, fault_stays}
 

@@ -1,6 +1,5 @@
 -- A text is read up to its CR.
-use Rattle.std.proofs.Common.{◌≡◌, ◌≢◌, ◌==◌, ℕ, zero, suc, ◌<◌, List, [], ◌∷◌, ◌++◌, length, ap, ◌∙◌, refl, arith}
-use Rattle.std.specs.Prelude.{if◌then◌else◌}
+use Rattle.std.proofs.Common.{◌≡◌, ℕ, zero, suc, ◌<◌, List, [], ◌∷◌, ◌++◌, length, ap, ◌∙◌, refl, arith}
 use Rattle.resp_frames.specs.Frames.{IsPlainText}
 use Rattle.resp_frames.specs.Reading.{Read, Took, Open, Wrong, with_front, read_text}
 use Rattle.resp_frames.proofs.Choices.{on_other, by_equal}

@@ -1,5 +1,5 @@
 -- The frames of a stream of requests, on its whole bytes (RESP2, "Sending commands to a Redis server", "Arrays", "Bulk strings").
-use Rattle.std.specs.Prelude.{◌≡◌, ◌≢◌, ℕ, ◌+◌, ◌<◌, ◌≤◌, ◌⊎◌, List, [], ◌∷◌, ◌++◌, length, flat_map, Bool, true, false, ◌&&◌, ◌||◌, ◌==◌, nat_le, bytes_eq, IsTrue}
+use Rattle.std.specs.Prelude.{◌≡◌, ◌≢◌, ℕ, ◌<◌, ◌≤◌, ◌⊎◌, List, [], ◌∷◌, ◌++◌, length, flat_map, Bool, false, ◌&&◌, ◌==◌, nat_le, IsTrue}
 use Rattle.std.specs.List.{AllByRecursion, list_all}
 use Rattle.std.specs.Fmt.{decimal}
 use Rattle.plain_model.specs.Spelling.{line_end}

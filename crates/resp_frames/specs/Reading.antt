@@ -1,5 +1,5 @@
 -- A reading of the frames from the front, by which their laws are shown. No public contract cites it.
-use Rattle.std.specs.Prelude.{◌≡◌, ℕ, zero, suc, ◌==◌, List, [], ◌∷◌, take, drop, Option, Some, None, Bool, ◌&&◌, nat_le, bytes_eq, if◌then◌else◌}
+use Rattle.std.specs.Prelude.{ℕ, zero, suc, ◌==◌, List, [], ◌∷◌, take, drop, Option, Some, None, ◌&&◌, nat_le, bytes_eq, if◌then◌else◌}
 use Rattle.std.specs.Fmt.{decimal}
 use Rattle.std.specs.Str.Parse.{digits_value}
 use Rattle.plain_model.specs.Words.{Words}

@@ -1,10 +1,10 @@
 -- What the reading of a request tells.
-use Rattle.std.specs.Prelude.{◌≡◌, ◌≢◌, ◌==◌, ℕ, ◌+◌, ◌≤◌, ◌<◌, ◌⊎◌, List, [], ◌∷◌, ◌++◌, length, take, drop, map, flat_map, if◌then◌else◌}
+use Rattle.std.specs.Prelude.{◌≡◌, ◌≢◌, ◌==◌, ℕ, ◌+◌, ◌≤◌, ◌<◌, ◌⊎◌, List, [], ◌∷◌, ◌++◌, length, take, drop, map, if◌then◌else◌}
 use Rattle.std.specs.List.{AllByRecursion}
 use Rattle.std.specs.Fmt.{decimal}
 use Rattle.plain_model.specs.Spelling.{line_end}
 use Rattle.plain_model.specs.Words.{Words}
-use Rattle.resp_frames.specs.Frames.{header, bulk, request_bytes, IsRequest, IsWord, IsText, IsNoCount}
+use Rattle.resp_frames.specs.Frames.{header, request_bytes, IsRequest, IsText, IsNoCount}
 use Rattle.resp_frames.specs.Faults.{Begun, RequestFault}
 use Rattle.resp_frames.specs.Reading.{read_item, read_body, Open}
 use Rattle.resp_frames.specs.HeaderRead.{IsScanned}

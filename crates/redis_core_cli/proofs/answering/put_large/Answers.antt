@@ -1,4 +1,3 @@
-use Rattle.std.proofs.Common.{arith}
 use Rattle.resp_frames.proofs.Putting.{front_then, front_stops}
 use Rattle.redis_core_cli.proofs.Runs.{rose_after}
 use Rattle.redis_core_cli.proofs.answering.put_large.Goals as goal

@@ -1,4 +1,4 @@
-use Rattle.std.proofs.Common.{◌≡◌, sym, subst, drop, ◌+◌}
+use Rattle.std.proofs.Common.{sym, subst, drop, ◌+◌}
 use Rattle.std.proofs.lemmas.List.{take_rest}
 use Rattle.resp_frames.specs.RequestRead.{IsBrokenAt, Stands}
 use Rattle.resp_frames.specs.declared.request.Progress.{Progress}

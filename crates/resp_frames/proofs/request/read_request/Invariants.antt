@@ -1,4 +1,4 @@
-use Rattle.std.proofs.Common.{◌-◌, ◌≤◌, length}
+use Rattle.std.proofs.Common.{◌-◌, length}
 use Rattle.resp_frames.specs.RequestRead.{Stands}
 use Rattle.resp_frames.proofs.request.read_request.Given as goal
 

@@ -1,5 +1,4 @@
-use Rattle.std.proofs.Common.{◌≡◌, ◌+◌, ◌≤◌, ◌^◌, ℕ, List, length, drop, ap, sym, subst, ◌∙◌}
-use Rattle.resp_frames.specs.Feeding.{Feeding}
+use Rattle.std.proofs.Common.{◌≡◌, ◌+◌, ◌≤◌, ◌^◌, length, drop, ap, sym, subst, ◌∙◌}
 use Rattle.resp_frames.proofs.Feeds.{feeder_fed, appended, appended_fits}
 use Rattle.resp_frames.proofs.FeederSteps.{lends_none}
 use Rattle.resp_frames.proofs.feeder.Feeder.feed.Goals as goal

@@ -1,4 +1,4 @@
-use Rattle.std.proofs.Common.{◌≡◌, ap, sym, ◌∙◌}
+use Rattle.std.proofs.Common.{ap, ◌∙◌}
 use Rattle.resp_frames.proofs.FeederSteps.{request_out, none_out, fault_out, lends_none}
 use Rattle.resp_frames.proofs.feeder.Feeder.next_request.Goals as goal
 
