@@ -1,0 +1,4 @@
+pub mod Backs
+pub mod Encodings
+pub mod Regions
+pub mod Spellings

@@ -1,0 +1,4 @@
+pub mod Element
+pub mod Entry
+pub mod Pack
+pub mod View

@@ -1,0 +1,40 @@
+// Checking bytes.
+
+ghost use Rattle.std.specs.Prelude.{◌≡◌, ℕ, List, IfOk, IfErr, OnOk};
+ghost use Rattle.listpack.specs.Pack.{IsPack, IsFault, ExactlyOne};
+ghost use Rattle.listpack.specs.View.{bytes_of};
+
+use crate::entry::count_entries;
+use crate::fault::PackFault;
+use crate::walks::Pack;
+use byteorder::{ByteOrder, LittleEndian};
+
+/// Takes bytes as a listpack, or names the first rule that they break.
+pub fn check(bytes: &[u8]) -> Result<Pack<'_>, PackFault>
+    ensures pack { OnOk result (IsPack bytes.now) }
+    ensures bytes { IfOk result (λ p. bytes_of p ≡ bytes.now) }
+    ensures fault { IfErr result (λ e. IsFault bytes.now e) }
+{
+    let len = bytes.len();
+    if len < 7 {
+        return Err(PackFault::Short);
+    }
+    if LittleEndian::read_u32(bytes) as usize != len {
+        return Err(PackFault::Total);
+    }
+    let count = count_entries(&bytes[6..len - 1])?;
+    if bytes[len - 1] != 0xff {
+        return Err(PackFault::End);
+    }
+    let told = LittleEndian::read_u16(&bytes[4..]);
+    if told != u16::MAX && usize::from(told) != count {
+        return Err(PackFault::Count);
+    }
+    Ok(Pack { bytes })
+}
+
+/// For all bytes exactly one holds: they are a listpack of a list, and of no other one; or they have a first fault, and no
+/// other one.
+pub fn exactly_one()
+    ensures { (bytes : List ℕ) → ExactlyOne bytes }
+{}

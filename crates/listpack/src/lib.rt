@@ -1,0 +1,14 @@
+//! Packed lists: the listpack format of Redis.
+#![tactic(auto)]
+
+mod back;
+mod checking;
+mod encoding;
+mod entry;
+mod fault;
+mod walks;
+
+pub use checking::{check, exactly_one};
+pub use encoding::Element;
+pub use fault::PackFault;
+pub use walks::Pack;
