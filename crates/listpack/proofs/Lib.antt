@@ -1,4 +1,5 @@
 pub mod Backs
 pub mod Encodings
+pub mod Laws
 pub mod Regions
 pub mod Spellings

@@ -104,3 +104,7 @@ pub record ExactlyOne (bytes : List ℕ) : Type 0 where
 -- the offset of the entry i, or at the end of all entries that of the last byte
 abbrev pub offset_of : List ℕ → ℕ → ℕ
 offset_of bytes i = 6 + length (entries (take i (spellings_of bytes)))
+
+-- the offset of an entry
+abbrev pub IsOffset : List ℕ → ℕ → Type 0
+IsOffset bytes at = (i : ℕ) × (i < length (texts bytes)) × (at ≡ offset_of bytes i)

@@ -12,6 +12,12 @@ pub(crate) struct BackLength {
 }
 
 impl BackLength {
+    pub(crate) fn len(&self) -> usize
+        ensures { result ≡ self.now.len }
+    {
+        self.len
+    }
+
     pub(crate) fn as_slice(&self) -> &[u8]
         ensures { result.now ≡ take self.now.len self.now.bytes }
     {
@@ -30,7 +36,8 @@ fn low_seven(size: usize) -> u8
 #[tactic(auto, using(crate::proofs::Backs::by_size))]
 pub(crate) fn back_length_of(size: usize) -> BackLength
     requires { size < 2 ^ 35 }
-    ensures { take result.len result.bytes ≡ back_length size }
+    ensures bytes { take result.len result.bytes ≡ back_length size }
+    ensures len { result.len ≡ length (back_length size) }
 {
     let (a, b, c, d) = (size >> 28, size >> 21, size >> 14, size >> 7);
     let last = low_seven(size);
@@ -82,7 +89,7 @@ fn joined(high: usize, byte: usize) -> usize
 
 /// How many bytes the entry takes whose back length `bytes` end with: encoding, content and back length.
 pub(crate) fn entry_len_before(bytes: &[u8]) -> usize
-    ensures { (front : List ℕ) (size : ℕ) → size < 2 ^ 35 → bytes.now ≡ front ++ back_length size → result ≡ size + length (back_length size) }
+    ensures { (front : List ℕ) (size : ℕ) → bytes.now ≡ front ++ back_length size → result ≡ size + length (back_length size) }
 {
     let a = from_end(bytes, 1);
     if a < 0x80 {

@@ -6,6 +6,7 @@ ghost use Rattle.listpack.specs.View.{bytes_of};
 
 use crate::entry::count_entries;
 use crate::fault::PackFault;
+use crate::header::{END, NOT_TOLD, told_count};
 use crate::walks::Pack;
 use byteorder::{ByteOrder, LittleEndian};
 
@@ -23,14 +24,22 @@ pub fn check(bytes: &[u8]) -> Result<Pack<'_>, PackFault>
         return Err(PackFault::Total);
     }
     let count = count_entries(&bytes[6..len - 1])?;
-    if bytes[len - 1] != 0xff {
+    if bytes[len - 1] != END {
         return Err(PackFault::End);
     }
-    let told = LittleEndian::read_u16(&bytes[4..]);
-    if told != u16::MAX && usize::from(told) != count {
+    let told = told_count(bytes);
+    if told != NOT_TOLD && usize::from(told) != count {
         return Err(PackFault::Count);
     }
     Ok(Pack { bytes })
+}
+
+/// Takes bytes that are known to be a listpack.
+pub fn known(bytes: &[u8]) -> Pack<'_>
+    requires { IsPack bytes.now }
+    ensures { bytes_of result ≡ bytes.now }
+{
+    Pack { bytes }
 }
 
 /// For all bytes exactly one holds: they are a listpack of a list, and of no other one; or they have a first fault, and no

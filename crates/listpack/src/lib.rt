@@ -6,9 +6,10 @@ mod checking;
 mod encoding;
 mod entry;
 mod fault;
+mod header;
 mod walks;
 
-pub use checking::{check, exactly_one};
+pub use checking::{check, exactly_one, known};
 pub use encoding::Element;
 pub use fault::PackFault;
 pub use walks::Pack;

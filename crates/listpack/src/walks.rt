@@ -1,13 +1,21 @@
 // A checked listpack, and the walks over its entries.
 
-ghost use Rattle.std.specs.Prelude.{◌≡◌, ℕ, List, length};
-ghost use Rattle.listpack.specs.Pack.{IsPack};
+ghost use Rattle.std.specs.Prelude.{◌≡◌, ◌+◌, ◌-◌, ◌<◌, ◌≤◌, ◌^◌, ◌↔◌, ℕ, List, [], length, get_or, slice_index, IsTrue, MatchOption};
+ghost use Rattle.listpack.specs.Entry.{IsSpelling};
+ghost use Rattle.listpack.specs.Element.{element_text, is_number, IsNumberByte};
+ghost use Rattle.listpack.specs.Pack.{IsPack, IsOffset, texts, spellings_of, offset_of};
+
+use crate::back::{back_length_of, entry_len_before};
+use crate::encoding::{Element, element_of, split_spelling};
+use crate::entry::count_entries;
+use crate::header::{NOT_TOLD, told_count};
 
 /// Bytes that are a listpack.
 #[derive(Clone, Copy, Debug)]
 pub struct Pack<'a> {
     pub(crate) bytes: &'a [u8],
     ghost packed: { IsPack bytes.now },
+    ghost small: { length bytes.now < 2 ^ 32 },
 }
 
 impl<'a> Pack<'a> {
@@ -19,5 +27,86 @@ impl<'a> Pack<'a> {
         ensures pack { IsPack result.now }
     {
         self.bytes
+    }
+
+    /// The number of elements. It takes a pass over the bytes where the header does not tell it.
+    pub fn len(&self) -> usize
+        ensures { result ≡ length (texts (bytes_of self.now)) }
+    {
+        let told = told_count(self.bytes);
+        if told != NOT_TOLD {
+            return usize::from(told);
+        }
+        match count_entries(&self.bytes[6..self.bytes.len() - 1]) {
+            Ok(count) => count,
+            Err(_) => unreachable!(),
+        }
+    }
+
+    pub fn is_empty(&self) -> bool
+        ensures { IsTrue result ↔ (length (texts (bytes_of self.now)) ≡ 0) }
+    {
+        self.bytes.len() == 7
+    }
+
+    // Encoding and content of the entry at an offset.
+    fn spelling_at(&self, at: usize) -> &'a [u8]
+        requires { IsOffset (bytes_of self.now) at }
+        ensures own { IsSpelling result.now }
+        ensures value { (i : ℕ) → i < length (texts (bytes_of self.now)) → at ≡ offset_of (bytes_of self.now) i → result.now ≡ get_or (spellings_of (bytes_of self.now)) i [] }
+    {
+        match split_spelling(&self.bytes[at..self.bytes.len() - 1]) {
+            Some((spelling, _)) => spelling,
+            None => unreachable!(),
+        }
+    }
+
+    // The offset of the entry that ends at `end`.
+    fn before(&self, end: usize) -> usize
+        requires { (i : ℕ) × (0 < i) × (i ≤ length (texts (bytes_of self.now))) × (end ≡ offset_of (bytes_of self.now) i) }
+        ensures { (i : ℕ) → 0 < i → i ≤ length (texts (bytes_of self.now)) → end ≡ offset_of (bytes_of self.now) i → result ≡ offset_of (bytes_of self.now) (i - 1) }
+    {
+        end - entry_len_before(&self.bytes[..end])
+    }
+
+    /// The offset of the first entry.
+    pub fn first(&self) -> Option<usize>
+        ensures { MatchOption result (length (texts (bytes_of self.now)) ≡ 0) (λ at. (0 < length (texts (bytes_of self.now))) × (at ≡ offset_of (bytes_of self.now) 0)) }
+    {
+        if self.is_empty() { None } else { Some(6) }
+    }
+
+    /// The offset of the last entry.
+    pub fn last(&self) -> Option<usize>
+        ensures { MatchOption result (length (texts (bytes_of self.now)) ≡ 0) (λ at. (0 < length (texts (bytes_of self.now))) × (at ≡ offset_of (bytes_of self.now) (length (texts (bytes_of self.now)) - 1))) }
+    {
+        if self.is_empty() { None } else { Some(self.before(self.bytes.len() - 1)) }
+    }
+
+    /// The offset of the entry behind the one at `at`.
+    pub fn next(&self, at: usize) -> Option<usize>
+        requires { IsOffset (bytes_of self.now) at }
+        ensures { (i : ℕ) → i < length (texts (bytes_of self.now)) → at ≡ offset_of (bytes_of self.now) i → MatchOption result (i + 1 ≡ length (texts (bytes_of self.now))) (λ to. (i + 1 < length (texts (bytes_of self.now))) × (to ≡ offset_of (bytes_of self.now) (i + 1))) }
+    {
+        let size = self.spelling_at(at).len();
+        let to = at + size + back_length_of(size).len();
+        if to + 1 == self.bytes.len() { None } else { Some(to) }
+    }
+
+    /// The offset of the entry before the one at `at`.
+    pub fn prev(&self, at: usize) -> Option<usize>
+        requires { IsOffset (bytes_of self.now) at }
+        ensures { (i : ℕ) → i < length (texts (bytes_of self.now)) → at ≡ offset_of (bytes_of self.now) i → MatchOption result (i ≡ 0) (λ to. (0 < i) × (to ≡ offset_of (bytes_of self.now) (i - 1))) }
+    {
+        if at == 6 { None } else { Some(self.before(at)) }
+    }
+
+    /// The element at an offset: a part of the bytes, or the number that stands there.
+    pub fn get(&self, at: usize) -> Element<'a>
+        requires { IsOffset (bytes_of self.now) at }
+        ensures text { (i : ℕ) → i < length (texts (bytes_of self.now)) → at ≡ offset_of (bytes_of self.now) i → element_text result ≡ get_or (texts (bytes_of self.now)) i [] }
+        ensures number { IsTrue (is_number result) ↔ IsNumberByte (slice_index (bytes_of self.now) at) }
+    {
+        element_of(self.spelling_at(at))
     }
 }

@@ -4,7 +4,7 @@ use Rattle.listpack.proofs.Backs.{ends, Ends, one, two, three, four, five}
 use Rattle.listpack.proofs.back.entry_len_before.Goals as goal
 
 pub returns-then-a-lt128 : goal.returns-then-a-lt128
-returns-then-a-lt128 c = λ front size h e. elim (ends front c.args.bytes.now size e) [
+returns-then-a-lt128 c = λ front size e. elim (ends front c.args.bytes.now size e) [
   | one r z1 n l ↦ omega arith
   | two l r z1 z2 n k ↦ omega arith
   | three l r z1 z2 z3 n k ↦ omega arith
@@ -13,7 +13,7 @@ returns-then-a-lt128 c = λ front size h e. elim (ends front c.args.bytes.now si
 ]
 
 pub returns : goal.returns
-returns c = λ front size h e. elim (ends front c.args.bytes.now size e) [
+returns c = λ front size e. elim (ends front c.args.bytes.now size e) [
   | one r z1 n l ↦ omega arith
   | two l r z1 z2 n k ↦ omega arith
   | three l r z1 z2 z3 n k ↦ omega arith
@@ -22,7 +22,7 @@ returns c = λ front size h e. elim (ends front c.args.bytes.now size e) [
 ]
 
 pub returns-then-b-lt128 : goal.returns-then-b-lt128
-returns-then-b-lt128 c = λ front size h e. elim (ends front c.args.bytes.now size e) [
+returns-then-b-lt128 c = λ front size e. elim (ends front c.args.bytes.now size e) [
   | one r z1 n l ↦ omega arith
   | two l r z1 z2 n k ↦ omega arith
   | three l r z1 z2 z3 n k ↦ omega arith
@@ -31,7 +31,7 @@ returns-then-b-lt128 c = λ front size h e. elim (ends front c.args.bytes.now si
 ]
 
 pub returns-then-c-lt128 : goal.returns-then-c-lt128
-returns-then-c-lt128 c = λ front size h e. elim (ends front c.args.bytes.now size e) [
+returns-then-c-lt128 c = λ front size e. elim (ends front c.args.bytes.now size e) [
   | one r z1 n l ↦ omega arith
   | two l r z1 z2 n k ↦ omega arith
   | three l r z1 z2 z3 n k ↦ omega arith
@@ -40,7 +40,7 @@ returns-then-c-lt128 c = λ front size h e. elim (ends front c.args.bytes.now si
 ]
 
 pub returns-then-d-lt128 : goal.returns-then-d-lt128
-returns-then-d-lt128 c = λ front size h e. elim (ends front c.args.bytes.now size e) [
+returns-then-d-lt128 c = λ front size e. elim (ends front c.args.bytes.now size e) [
   | one r z1 n l ↦ omega arith
   | two l r z1 z2 n k ↦ omega arith
   | three l r z1 z2 z3 n k ↦ omega arith
