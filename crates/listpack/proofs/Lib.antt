@@ -1,5 +1,6 @@
 pub mod Backs
 pub mod Encodings
 pub mod Laws
+pub mod Offsets
 pub mod Regions
 pub mod Spellings
