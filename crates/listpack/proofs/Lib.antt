@@ -4,3 +4,4 @@ pub mod Laws
 pub mod Offsets
 pub mod Regions
 pub mod Spellings
+pub mod Writings

@@ -2,3 +2,4 @@ pub mod Element
 pub mod Entry
 pub mod Pack
 pub mod View
+pub mod Writing

@@ -7,9 +7,11 @@ mod encoding;
 mod entry;
 mod fault;
 mod header;
+mod spelling;
 mod walks;
 
 pub use checking::{check, exactly_one, known};
 pub use encoding::Element;
 pub use fault::PackFault;
+pub use spelling::fits;
 pub use walks::Pack;

@@ -1,0 +1,68 @@
+-- The writer's spelling.
+use Rattle.std.proofs.Common.{◌≡◌, ◌≢◌, ℕ, zero, suc, ◌+◌, ◌-◌, ◌*◌, ◌/◌, ◌%◌, ◌^◌, ◌<◌, ◌≤◌, Bool, true, false, List, [], ◌∷◌, ◌++◌, length, take, drop, get_or, slice_index, refl, sym, ap, subst, ◌∙◌, inl, inr, arith}
+use Rattle.std.specs.Prelude.{ℤ, pos, negsuc, nat_abs, neg_ℤ, Option, Some, None, IfSome, IfNone, FitsSigned, ◌≤ℤ◌, ◌<ℤ◌, decimal}
+use Rattle.std.specs.Int.{w64}
+use Rattle.std.specs.Fmt.{signed_decimal}
+use Rattle.std.specs.Str.{bytes_eq}
+use Rattle.std.specs.Str.Parse.{AllDigits, digits_value}
+use Rattle.std.proofs.lemmas.Bool.Decides.{nat_tests}
+use Rattle.std.proofs.lemmas.Int.{ints}
+use Rattle.std.proofs.lemmas.Str.Parse.{digit_from_value}
+use Rattle.std.proofs.lemmas.Fmt.{decimal_is_IsNumeral, length_signed_le}
+use Rattle.std.proofs.lemmas.Slice.Eq.{bytes_eq-Decides}
+use Rattle.byteorder.specs.Endian.{little_bytes, low_bytes}
+use Rattle.int_text.specs.Decimal.{canonical, IsI64Text, Reads}
+use Rattle.listpack.specs.Writing.{value_of, magnitude, has_bits, i64_of, is_small, thirteen_low, number_spelling, text_head, spelling, spelling_by}
+
+pub number_small : (n : ℤ) → pos 0 ≤ℤ n → magnitude n < 128 → number_spelling n ≡ magnitude n ∷ []
+unfolding number_spelling
+number_small (pos m) l h = grind (arith, nat_tests)
+number_small (negsuc m) l h = absurd (omega (arith, ints, l))
+
+number_thirteen : (n : ℤ) → is_small n ≡ false → magnitude n < 4096 → number_spelling n ≡ (0xC0 + thirteen_low n / 256) ∷ thirteen_low n % 256 ∷ []
+unfolding number_spelling
+number_thirteen n l h = grind (arith, nat_tests)
+
+pub number_thirteen_pos : (n : ℤ) → 128 ≤ magnitude n → magnitude n < 4096 → number_spelling n ≡ (0xC0 + thirteen_low n / 256) ∷ thirteen_low n % 256 ∷ []
+number_thirteen_pos (pos m) l h = number_thirteen (pos m) (grind (arith, nat_tests)) h
+number_thirteen_pos (negsuc m) l h = number_thirteen (negsuc m) refl h
+
+pub number_thirteen_neg : (n : ℤ) → n <ℤ pos 0 → magnitude n < 4096 → number_spelling n ≡ (0xC0 + thirteen_low n / 256) ∷ thirteen_low n % 256 ∷ []
+number_thirteen_neg (pos m) l h = absurd (omega (arith, ints, l))
+number_thirteen_neg (negsuc m) l h = number_thirteen (negsuc m) refl h
+
+large : (n : ℤ) → 4096 ≤ magnitude n → is_small n ≡ false
+large (pos m) h = grind (arith, nat_tests)
+large (negsuc m) h = refl
+
+pub number_two : (n : ℤ) → 4096 ≤ magnitude n → magnitude n < 32768 → number_spelling n ≡ 0xF1 ∷ little_bytes 2 (low_bytes w64 2 n)
+unfolding number_spelling
+number_two n l h = let e = large n l in grind (arith, nat_tests)
+
+pub number_three : (n : ℤ) → 32768 ≤ magnitude n → magnitude n < 8388608 → number_spelling n ≡ 0xF2 ∷ little_bytes 3 (low_bytes w64 3 n)
+unfolding number_spelling
+number_three n l h = let e = large n (omega arith) in grind (arith, nat_tests)
+
+pub number_four : (n : ℤ) → 8388608 ≤ magnitude n → magnitude n < 2147483648 → number_spelling n ≡ 0xF3 ∷ little_bytes 4 (low_bytes w64 4 n)
+unfolding number_spelling
+number_four n l h = let e = large n (omega arith) in grind (arith, nat_tests)
+
+pub number_eight : (n : ℤ) → 2147483648 ≤ magnitude n → number_spelling n ≡ 0xF4 ∷ little_bytes 8 (low_bytes w64 8 n)
+unfolding number_spelling
+number_eight n l = let e = large n (omega arith) in grind (arith, nat_tests)
+
+pub ruleset numbers = (arith, number_small, number_thirteen_pos, number_thirteen_neg, number_two, number_three, number_four, number_eight)
+
+pub head_short : (n : ℕ) → n < 64 → text_head n ≡ (0x80 + n) ∷ []
+unfolding text_head
+head_short n h = grind (arith, nat_tests)
+
+pub head_medium : (n : ℕ) → 64 ≤ n → n < 4096 → text_head n ≡ (0xE0 + n / 256) ∷ n % 256 ∷ []
+unfolding text_head
+head_medium n l h = grind (arith, nat_tests)
+
+pub head_long : (n : ℕ) → 4096 ≤ n → text_head n ≡ 0xF0 ∷ little_bytes 4 n
+unfolding text_head
+head_long n l = grind (arith, nat_tests)
+
+pub ruleset heads = (arith, head_short, head_medium, head_long)
