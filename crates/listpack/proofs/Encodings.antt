@@ -62,7 +62,7 @@ needed_eight b more h = rw h (needed_by_encoding 244 more (Signed 8) refl)
 
 pub ruleset sizes = (arith, needed_small_number, needed_short_text, needed_thirteen_bits, needed_medium_text, needed_long_text, needed_two, needed_three, needed_four, needed_eight, needed_no_encoding)
 
-text_by_encoding : (b : ℕ) (more : List ℕ) (e : Encoding) → encoding_of b ≡ e → text_of (b ∷ more) ≡ text_by e b more
+pub text_by_encoding : (b : ℕ) (more : List ℕ) (e : Encoding) → encoding_of b ≡ e → text_of (b ∷ more) ≡ text_by e b more
 unfolding text_of
 text_by_encoding b more e h = rw h refl
 

@@ -13,5 +13,5 @@ mod walks;
 pub use checking::{check, exactly_one, known};
 pub use encoding::Element;
 pub use fault::PackFault;
-pub use spelling::fits;
+pub use spelling::{fits, spelling_is_read_back};
 pub use walks::Pack;

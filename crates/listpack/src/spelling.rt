@@ -1,8 +1,9 @@
 // How an element is spelled.
 
-ghost use Rattle.std.specs.Prelude.{◌≡◌, ◌∷◌, [], ◌++◌, ◌+◌, ◌<◌, ◌≤◌, ◌^◌, ◌↔◌, IsTrue, ℕ, length, take};
+ghost use Rattle.std.specs.Prelude.{◌≡◌, ◌∷◌, [], ◌++◌, ◌+◌, ◌<◌, ◌≤◌, ◌^◌, ◌↔◌, IsTrue, ℕ, List, length, take};
 ghost use Rattle.std.specs.Int.{w64};
 ghost use Rattle.byteorder.specs.Endian.{little_bytes, low_bytes};
+ghost use Rattle.listpack.specs.Entry.{IsSpelling, text_of};
 ghost use Rattle.listpack.specs.Writing.{magnitude, thirteen_low, number_spelling, text_head, spelling, Fits};
 
 use crate::back::back_length_of;
@@ -122,7 +123,9 @@ fn text_head_of(len: usize) -> Head
 /// The spelling of an element: an encoding, and the bytes that follow it.
 pub(crate) fn spell(element: &[u8]) -> (Head, &[u8])
     requires { length element.now < 2 ^ 32 }
-    ensures { take result.0.len result.0.bytes ++ result.1.now ≡ spelling element.now }
+    ensures bytes { take result.0.len result.0.bytes ++ result.1.now ≡ spelling element.now }
+    ensures head { result.0.len ≤ 9 }
+    ensures content { length result.1.now ≤ length element.now }
 {
     match read_i64(element) {
         Some(n) => (number_head(n), &element[..0]),
@@ -140,4 +143,10 @@ pub fn fits(pack: &[u8], element: &[u8]) -> bool
     let (head, content) = spell(element);
     let size = head.len() + content.len();
     pack.len() + size + back_length_of(size).len() <= u32::MAX as usize
+}
+
+/// The writer's spelling of an element is one encoding with its content, and is read as that element.
+pub fn spelling_is_read_back()
+    ensures { (text : List ℕ) → length text < 2 ^ 32 → IsSpelling (spelling text) × (text_of (spelling text) ≡ text) }
+{
 }
