@@ -4,5 +4,6 @@ pub mod Laws
 pub mod Offsets
 pub mod ReadBack
 pub mod Regions
+pub mod Repacking
 pub mod Spellings
 pub mod Writings

@@ -1,3 +1,4 @@
+pub mod Edits
 pub mod Element
 pub mod Entry
 pub mod Pack

@@ -3,6 +3,7 @@
 
 mod back;
 mod checking;
+mod edits;
 mod encoding;
 mod entry;
 mod fault;
@@ -11,6 +12,7 @@ mod spelling;
 mod walks;
 
 pub use checking::{check, exactly_one, known};
+pub use edits::{Memory, append, empty, insert, remove, replace};
 pub use encoding::Element;
 pub use fault::PackFault;
 pub use spelling::{fits, spelling_is_read_back};

@@ -83,13 +83,42 @@ impl<'a> Pack<'a> {
         if self.is_empty() { None } else { Some(self.before(self.bytes.len() - 1)) }
     }
 
+    // How many bytes the entry at an offset takes.
+    pub(crate) fn entry_len(&self, at: usize) -> usize
+        requires { IsOffset (bytes_of self.now) at }
+        ensures next { (i : ℕ) → i < length (texts (bytes_of self.now)) → at ≡ offset_of (bytes_of self.now) i → offset_of (bytes_of self.now) (i + 1) ≡ at + result }
+        ensures inside { at + result < length (bytes_of self.now) }
+    {
+        let size = self.spelling_at(at).len();
+        size + back_length_of(size).len()
+    }
+
+    // The offset of the entry at an index, or behind all entries that of the last byte.
+    pub(crate) fn offset(&self, index: usize) -> usize
+        requires { index ≤ length (texts (bytes_of self.now)) }
+        ensures place { result ≡ offset_of (bytes_of self.now) index }
+        ensures inside { result < length (bytes_of self.now) }
+    {
+        let mut at = 6;
+        for _ in 0..index {
+            at += self.entry_len(at);
+        }
+        at
+    }
+
+    /// The offset of the entry at an index. It takes a step for each entry before it.
+    pub fn seek(&self, index: usize) -> Option<usize>
+        ensures { MatchOption result (length (texts (bytes_of self.now)) ≤ index) (λ at. (index < length (texts (bytes_of self.now))) × (at ≡ offset_of (bytes_of self.now) index)) }
+    {
+        if index < self.len() { Some(self.offset(index)) } else { None }
+    }
+
     /// The offset of the entry behind the one at `at`.
     pub fn next(&self, at: usize) -> Option<usize>
         requires { IsOffset (bytes_of self.now) at }
         ensures { (i : ℕ) → i < length (texts (bytes_of self.now)) → at ≡ offset_of (bytes_of self.now) i → MatchOption result (i + 1 ≡ length (texts (bytes_of self.now))) (λ to. (i + 1 < length (texts (bytes_of self.now))) × (to ≡ offset_of (bytes_of self.now) (i + 1))) }
     {
-        let size = self.spelling_at(at).len();
-        let to = at + size + back_length_of(size).len();
+        let to = at + self.entry_len(at);
         if to + 1 == self.bytes.len() { None } else { Some(to) }
     }
 
