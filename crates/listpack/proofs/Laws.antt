@@ -42,8 +42,8 @@ from_parts bytes spellings header size b ended count = record {
 -- the one fault that reading can end with
 stop_fault : List ℕ → ℕ → PackFault
 stop_fault rest last =
-  if nat_lt 0 (length rest) then (if nat_lt (length rest) (needed rest) then faults.Entry else faults.BackLength) else
-  if last == 255 then faults.Count else faults.End
+    if nat_lt 0 (length rest) then (if nat_lt (length rest) (needed rest) then faults.Entry else faults.BackLength) else
+    if last == 255 then faults.Count else faults.End
 
 cut_short_is : (rest : List ℕ) (last : ℕ) → IsCutShort rest → faults.Entry ≡ stop_fault rest last
 unfolding stop_fault
@@ -108,6 +108,9 @@ whole_or_stopped bytes spellings faults.Count h f =
     f.1.4 (h.count f.1.3 ∙ ap length same.0)
 whole_or_stopped bytes spellings faults.End h f = f.1.2 h.ended
 
+pub pack_or_fault : (bytes : List ℕ) (fault : PackFault) → IsPack bytes → IsFault bytes fault → ⊥
+pack_or_fault bytes fault p f = whole_or_stopped bytes (spellings_of bytes) fault p f
+
 region_fault : (bytes : List ℕ) (fault : PackFault) → IsSized bytes → IsRegionFault (region bytes) fault → IsFault bytes fault
 region_fault bytes faults.Short z f = absurd f.3
 region_fault bytes faults.Total z f = absurd f.3
@@ -148,5 +151,6 @@ exactly_one bytes = record {
   either = either bytes;
   not_both = λ list fault p f. whole_or_stopped bytes p.0 fault p.1 f;
   one_fault = λ f g a b. one_seen bytes f g (seen bytes f a) (seen bytes g b);
+  whole = λ p. (spellings_of bytes, p, refl);
   read = λ list p. (is_pack bytes p.0 p.1, p.2 ∙ ap (map text_of) (sym (spellings_read bytes p.0 p.1)));
 }

@@ -62,9 +62,13 @@ drop-offset bytes i p =
 -- the bytes from an entry on to the last byte
 pub length-offset : (bytes : List ℕ) (i : ℕ) → IsPack bytes → length bytes ≡ offset_of bytes i + length (entries (drop i (spellings_of bytes))) + 1
 length-offset bytes i p =
-    omega (arith, ap length (cut_at bytes i p), length-front bytes i p,
+    omega (
+      arith,
+      ap length (cut_at bytes i p),
+      length-front bytes i p,
       length-append (take 6 bytes ++ entries (take i (spellings_of bytes))) (entries (drop i (spellings_of bytes)) ++ 0xFF ∷ []),
-      length-append (entries (drop i (spellings_of bytes))) (0xFF ∷ []))
+      length-append (entries (drop i (spellings_of bytes))) (0xFF ∷ []),
+    )
 
 pub entries_from : (i : ℕ) (ss : List (List ℕ)) → i < length ss → entries (drop i ss) ≡ entry_of (get_or ss i []) ++ entries (drop (i + 1) ss)
 entries_from i ss h = ap entries (drop_more ss i [] h)
@@ -190,10 +194,12 @@ offset_above bytes i p some h =
 
 pub empty : (bytes : List ℕ) → IsPack bytes → (length bytes ≡ 7 → length (texts bytes) ≡ 0) × (length (texts bytes) ≡ 0 → length bytes ≡ 7)
 empty bytes p = (
-    λ seven. elim (cases_lt 0 (length (spellings_of bytes))) [
-      | inl some ↦ let far = offset_inside bytes 0 p some in absurd (omega (arith, far))
-      | inr none ↦ omega (arith, length-texts bytes) ],
-    λ none. let far = offset_end bytes 0 p (omega (arith, length-texts bytes)) in omega (arith, far))
+  λ seven. elim (cases_lt 0 (length (spellings_of bytes))) [
+    | inl some ↦ let far = offset_inside bytes 0 p some in absurd (omega (arith, far))
+    | inr none ↦ omega (arith, length-texts bytes)
+  ],
+  λ none. let far = offset_end bytes 0 p (omega (arith, length-texts bytes)) in omega (arith, far),
+)
 
 pub is_some : (b : Bool) (n : ℕ) → (n ≡ 0 → b ≡ true) → b ≡ false → 0 < n
 is_some b zero says no_more = let t = says refl in cc

@@ -43,9 +43,10 @@ signed_spelled b k n e small back =
     let x = low_bytes w64 k n in
     let more = little_bytes k x in
     let size : length more ≡ k = length-bytes_low_first 0 k x in
-    let read : little_number k more ≡ x = ap (little_number k) (sym (append-nil more)) ∙ little_number-reads_back k x [] small in
-    (omega (arith, size, needed_signed b k more e),
-     text_by_encoding b more (Signed k) e ∙ ap (λ (y : ℕ). signed_decimal (twos_complement k y)) read ∙ ap signed_decimal back)
+    let read : little_number k more ≡ x = ap (little_number k) (sym (append-nil more)) ∙ little_number-reads_back k x [] small in (
+      omega (arith, size, needed_signed b k more e),
+      text_by_encoding b more (Signed k) e ∙ ap (λ (y : ℕ). signed_decimal (twos_complement k y)) read ∙ ap signed_decimal back,
+    )
 
 thirteen_back : (n : ℤ) → magnitude n < 4096 → (thirteen_low n < 8192) × (thirteen_bits (thirteen_low n) ≡ n)
 thirteen_back (pos m) h = (omega arith, grind (arith, ints, nat_tests))
@@ -113,7 +114,7 @@ text_spelled text h = elim (cases_lt (length text) 64) [
         let told = little_number-reads_back 4 n text (omega arith) in
         let four = length-bytes_low_first 0 4 n in
         subst (λ (x : List ℕ). Spelled text (x ++ text)) (sym (head_long n d))
-          (omega (arith, size, told, four, length-append field text), text_long_text 0xF0 more refl ∙ drop_at field text 4 four)
+        (omega (arith, size, told, four, length-append field text), text_long_text 0xF0 more refl ∙ drop_at field text 4 four)
   ]
 ]
 
@@ -122,4 +123,5 @@ pub spelled : (text : List ℕ) → length text < 2 ^ 32 → Spelled text (spell
 spelled text h = elim (i64_cases text) [
   | inl none ↦ subst (Spelled text) (sym (spelling_as text None none)) (text_spelled text h)
   | inr some ↦
-      subst (Spelled text) (sym (spelling_as text (Some some.0) some.1)) (subst (λ (x : List ℕ). Spelled x (number_spelling some.0)) (sym some.3) (number_spelled some.0 some.2)) ]
+      subst (Spelled text) (sym (spelling_as text (Some some.0) some.1)) (subst (λ (x : List ℕ). Spelled x (number_spelling some.0)) (sym some.3) (number_spelled some.0 some.2))
+]

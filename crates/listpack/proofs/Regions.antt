@@ -141,18 +141,25 @@ stripped rest s more p after e back same_bytes tail =
     e ∙ ap (λ (x : List ℕ). s ++ x) whole ∙ sym (append_assoc s (back_length (length s)) after)
 
 pub not_stripped : (rest s more p : List ℕ) → rest ≡ s ++ more → IsSpelling s → p ≡ back_length (length s) → bytes_eq (take (length p) more) p ≡ false → LacksBackLength rest
-not_stripped rest s more p e own back differ = (s, more, e, own, λ after h.
-    let same : take (length p) more ≡ p = ap (take (length p)) (h ∙ ap (λ (x : List ℕ). x ++ after) (sym back)) ∙ take_at p after (length p) refl in
-    let equal = (bytes_eq-Decides (take (length p) more) p).1 same in
-    cc)
+not_stripped rest s more p e own back differ = (
+  s,
+  more,
+  e,
+  own,
+  λ after h.
+      let same : take (length p) more ≡ p = ap (take (length p)) (h ∙ ap (λ (x : List ℕ). x ++ after) (sym back)) ∙ take_at p after (length p) refl in
+      let equal = (bytes_eq-Decides (take (length p) more) p).1 same in
+      cc,
+)
 
 -- one entry more at the end
 pub begins_push : (bytes rest after s : List ℕ) (spellings : List (List ℕ)) → Begins bytes spellings rest → rest ≡ entry_of s ++ after → IsSpelling s → Begins bytes (spellings ++ s ∷ []) after
 begins_push bytes rest after s spellings b e own =
     let one : entries (s ∷ []) ≡ entry_of s = append-nil (entry_of s) in
-    let joined : entries (spellings ++ s ∷ []) ≡ entries spellings ++ entry_of s = flat_map-append entry_of spellings (s ∷ []) ∙ ap (λ (x : List ℕ). entries spellings ++ x) one in
-    (b.0 ∙ ap (λ (x : List ℕ). entries spellings ++ x) e ∙ sym (append_assoc (entries spellings) (entry_of s) after) ∙ ap (λ (x : List ℕ). x ++ after) (sym joined),
-     All-push IsSpelling spellings s b.1 own)
+    let joined : entries (spellings ++ s ∷ []) ≡ entries spellings ++ entry_of s = flat_map-append entry_of spellings (s ∷ []) ∙ ap (λ (x : List ℕ). entries spellings ++ x) one in (
+      b.0 ∙ ap (λ (x : List ℕ). entries spellings ++ x) e ∙ sym (append_assoc (entries spellings) (entry_of s) after) ∙ ap (λ (x : List ℕ). x ++ after) (sym joined),
+      All-push IsSpelling spellings s b.1 own,
+    )
 
 -- a fault is one of an entry
 pub fault_there : (fault : PackFault) (rest : List ℕ) → IsEntryFault rest fault → 0 < length rest

@@ -42,15 +42,17 @@ made n count ys each size small fits known =
     let part : region bytes ≡ c = ap (take (length bytes - 1 - 6)) behind ∙ take_at c end (length bytes - 1 - 6) (omega (arith, whole, size)) in
     let last : last_byte bytes ≡ 0xFF =
     ap (λ (x : List ℕ). get_or x (length bytes - 1) 0) (front ∙ sym (append_assoc (a ++ b) c end))
-    ∙ get_or_at ((a ++ b) ++ c) 0xFF [] 0 (length bytes - 1) (omega (arith, whole, size, six, length-append (a ++ b) c)) in
-    (record {
-      header = omega (arith, whole, size);
-      size = omega (arith, whole, total_is);
-      all_entries = part;
-      each = each;
-      ended = last;
-      count = λ no_mark. omega (arith, told_is, known (λ e. no_mark (told_is ∙ e)));
-    }, told_is)
+    ∙ get_or_at ((a ++ b) ++ c) 0xFF [] 0 (length bytes - 1) (omega (arith, whole, size, six, length-append (a ++ b) c)) in (
+      record {
+        header = omega (arith, whole, size);
+        size = omega (arith, whole, total_is);
+        all_entries = part;
+        each = each;
+        ended = last;
+        count = λ no_mark. omega (arith, told_is, known (λ e. no_mark (told_is ∙ e)));
+      },
+      told_is,
+    )
 
 pub edited_as : (bytes : List ℕ) (n count : ℕ) (ys : List (List ℕ)) → bytes ≡ packed n count ys → All IsSpelling ys → n ≡ 7 + length (entries ys) → n < 2 ^ 32
     → count < 65536 → (count ≢ 65535 → count ≡ length ys) → IsEdited bytes ys count
@@ -116,7 +118,8 @@ count_falls n mark count e m less = less ∙ sym (unmarked n m) ∙ ap one_less 
 less_known : (old : List ℕ) (count : ℕ) → IsPack old → 0 < length (spellings_of old) → count ≡ one_less (told old) → count ≢ 65535 → count + 1 ≡ length (spellings_of old)
 less_known old count p some e no_mark = elim (cases_eq (told old) 65535) [
   | inl mark ↦ absurd (no_mark (e ∙ marked (told old) mark ∙ mark))
-  | inr known ↦ let k = p.count known in omega (arith, e, unmarked (told old) known, k) ]
+  | inr known ↦ let k = p.count known in omega (arith, e, unmarked (told old) known, k)
+]
 
 one_less-small : (n : ℕ) → n < 65536 → one_less n < 65536
 one_less-small n h = grind (arith, nat_tests)
@@ -129,10 +132,10 @@ inserted old inner new text i count p h short cut_as put_as small e =
     let one : entries (spelling text ∷ []) ≡ entry text = append-nil (entry text) in
     let room : count < 65536 = omega (arith, e) in
     subst (λ (k : ℕ). IsEdited new (insert (spellings_of old) i (spelling text)) k) e
-      (edited old inner new (spelling text ∷ []) i i count p (one_spelled text short)
-        (cut_as ∙ ap (λ (x : List ℕ). take (offset_of old i) old ++ (x ++ drop (offset_of old i) old)) (sym one))
-        put_as small room
-        (λ no_mark. omega (arith, more_known old count p e no_mark, length-insert (spellings_of old) i (spelling text) (omega (arith, length-texts old)))))
+    (edited old inner new (spelling text ∷ []) i i count p (one_spelled text short)
+    (cut_as ∙ ap (λ (x : List ℕ). take (offset_of old i) old ++ (x ++ drop (offset_of old i) old)) (sym one))
+    put_as small room
+    (λ no_mark. omega (arith, more_known old count p e no_mark, length-insert (spellings_of old) i (spelling text) (omega (arith, length-texts old)))))
 
 pub appended : (old inner new text : List ℕ) (at count : ℕ) → IsPack old → length text < 2 ^ 32 → at ≡ length old - 1
     → inner ≡ take at old ++ (entry text ++ drop at old)
@@ -142,8 +145,8 @@ appended old inner new text at count p short place cut_as put_as small e =
     let n = length (spellings_of old) in
     let end : at ≡ offset_of old n = omega (arith, place, offset_end old n p (omega arith)) in
     subst (λ (x : List (List ℕ)). IsEdited new x (one_more (told old))) (insert_end (spellings_of old) (spelling text))
-      (inserted old inner new text n count p (omega (arith, length-texts old)) short
-        (cut_as ∙ ap (λ (k : ℕ). take k old ++ (entry text ++ drop k old)) end) put_as small e)
+    (inserted old inner new text n count p (omega (arith, length-texts old)) short
+    (cut_as ∙ ap (λ (k : ℕ). take k old ++ (entry text ++ drop k old)) end) put_as small e)
 
 -- the count after a replacement
 pub replaced : (old inner new text : List ℕ) (i count : ℕ) → IsPack old → i < length (texts old) → length text < 2 ^ 32
@@ -158,11 +161,11 @@ replaced old inner new text i count p h short cut_as put_as small room e =
     let shape : spliced ss i (i + 1) (spelling text ∷ []) ≡ set ss i (spelling text) =
     ap (λ (k : ℕ). take i ss ++ (spelling text ∷ drop k ss)) next ∙ sym (set_split ss i (spelling text) inside) in
     subst (λ (k : ℕ). IsEdited new (set ss i (spelling text)) k) e
-      (subst (λ (x : List (List ℕ)). IsEdited new x count) shape
-        (edited old inner new (spelling text ∷ []) i (i + 1) count p (one_spelled text short)
-          (cut_as ∙ ap (λ (x : List ℕ). take (offset_of old i) old ++ (x ++ drop (offset_of old (i + 1)) old)) (sym one))
-          put_as small room
-          (λ no_mark. omega (arith, e, p.count (λ m. no_mark (e ∙ m)), ap length shape, length-set ss i (spelling text)))))
+    (subst (λ (x : List (List ℕ)). IsEdited new x count) shape
+    (edited old inner new (spelling text ∷ []) i (i + 1) count p (one_spelled text short)
+    (cut_as ∙ ap (λ (x : List ℕ). take (offset_of old i) old ++ (x ++ drop (offset_of old (i + 1)) old)) (sym one))
+    put_as small room
+    (λ no_mark. omega (arith, e, p.count (λ m. no_mark (e ∙ m)), ap length shape, length-set ss i (spelling text)))))
 
 pub taken_out : (old inner new : List ℕ) (i count : ℕ) → IsPack old → i < length (texts old)
     → inner ≡ take (offset_of old i) old ++ drop (offset_of old (i + 1)) old
@@ -174,9 +177,9 @@ taken_out old inner new i count p h cut_as put_as small room e =
     let next : i + 1 ≡ suc i = omega arith in
     let shape : spliced ss i (i + 1) [] ≡ remove ss i = ap (λ (k : ℕ). take i ss ++ drop k ss) next in
     subst (λ (k : ℕ). IsEdited new (remove ss i) k) e
-      (subst (λ (x : List (List ℕ)). IsEdited new x count) shape
-        (edited old inner new [] i (i + 1) count p (All-nil IsSpelling) cut_as put_as small room
-          (λ no_mark. omega (arith, less_known old count p (omega arith) e no_mark, ap length shape, length-remove ss i inside))))
+    (subst (λ (x : List (List ℕ)). IsEdited new x count) shape
+    (edited old inner new [] i (i + 1) count p (All-nil IsSpelling) cut_as put_as small room
+    (λ no_mark. omega (arith, less_known old count p (omega arith) e no_mark, ap length shape, length-remove ss i inside))))
 
 -- an entry put in, and then the one behind it taken out
 pub exchanged : (old first second e : List ℕ) (at size behind : ℕ) → at ≤ length old → first ≡ take at old ++ (e ++ drop at old) → behind ≡ at + length e

@@ -110,7 +110,8 @@ tested_cases text n false b e f = inl (rw e refl)
 pub i64_cases : (text : List ℕ) → (i64_of text ≡ None) ⊎ ((n : ℤ) × (i64_of text ≡ Some n) × (magnitude n < 2 ^ 63) × (text ≡ canonical n))
 i64_cases text = elim (tested_cases text (value_of text) (bytes_eq (canonical (value_of text)) text) (has_bits 63 (value_of text)) refl refl) [
   | inl none ↦ inl (tested_is text ∙ none)
-  | inr some ↦ inr (value_of text, tested_is text ∙ some.0, some.1, some.2) ]
+  | inr some ↦ inr (value_of text, tested_is text ∙ some.0, some.1, some.2)
+]
 
 fits_from : (n : ℤ) → magnitude n < 2 ^ 63 → FitsSigned w64 n
 fits_from (pos m) h = record { sfits = h }
@@ -127,7 +128,8 @@ read_some text n f e = ap i64_of e ∙ i64_of_canonical n (magnitude_from n f)
 pub read_none : (text : List ℕ) → ¬ (IsI64Text text) → i64_of text ≡ None
 read_none text h = elim (i64_cases text) [
   | inl none ↦ none
-  | inr some ↦ absurd (h (some.0, fits_from some.0 some.2, some.3)) ]
+  | inr some ↦ absurd (h (some.0, fits_from some.0 some.2, some.3))
+]
 
 pub spelling_as : (text : List ℕ) (o : Option ℤ) → i64_of text ≡ o → spelling text ≡ spelling_by o text
 unfolding spelling
@@ -144,4 +146,5 @@ canonical_short n h = let f = fits_from n h in length_signed_le 19 n (short n h)
 pub element_short : (text : List ℕ) → length (spelling text) < 2 ^ 32 → length text < 2 ^ 32
 element_short text h = elim (i64_cases text) [
   | inl none ↦ let e = spelling_as text None none in omega (arith, h, ap length e, length-append (text_head (length text)) text)
-  | inr some ↦ let e = canonical_short some.0 some.2 in omega (arith, e, ap length some.3) ]
+  | inr some ↦ let e = canonical_short some.0 some.2 in omega (arith, e, ap length some.3)
+]

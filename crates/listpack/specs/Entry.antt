@@ -81,3 +81,14 @@ back_length n =
 -- the whole entry of a spelling
 abbrev pub entry_of : List ℕ → List ℕ
 entry_of s = s ++ back_length (length s)
+
+-- The back lengths next to the limits of their widths.
+pub record BackLengthLimits : Type 0 where
+  pub one : back_length 127 ≡ 0x7F ∷ []
+  pub two : back_length 128 ≡ 0x01 ∷ 0x80 ∷ []
+  pub two_last : back_length 16382 ≡ 0x7F ∷ 0xFE ∷ []
+  pub three : back_length 16383 ≡ 0x00 ∷ 0xFF ∷ 0xFF ∷ []
+  pub three_last : back_length 2097150 ≡ 0x7F ∷ 0xFF ∷ 0xFE ∷ []
+  pub four : back_length 2097151 ≡ 0x00 ∷ 0xFF ∷ 0xFF ∷ 0xFF ∷ []
+  pub four_last : back_length 268435454 ≡ 0x7F ∷ 0xFF ∷ 0xFF ∷ 0xFE ∷ []
+  pub five : back_length 268435455 ≡ 0x00 ∷ 0xFF ∷ 0xFF ∷ 0xFF ∷ 0xFF ∷ []

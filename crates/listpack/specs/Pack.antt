@@ -99,12 +99,17 @@ pub record ExactlyOne (bytes : List ℕ) : Type 0 where
   pub either : ((list : List (List ℕ)) × Packs bytes list) ⊎ ((fault : PackFault) × IsFault bytes fault)
   pub not_both : (list : List (List ℕ)) (fault : PackFault) → Packs bytes list → IsFault bytes fault → ⊥
   pub one_fault : (f g : PackFault) → IsFault bytes f → IsFault bytes g → f ≡ g
+  pub whole : IsPack bytes → Packs bytes (texts bytes)
   pub read : (list : List (List ℕ)) → Packs bytes list → IsPack bytes × (list ≡ texts bytes)
 
 -- the offset of the entry i, or at the end of all entries that of the last byte
 abbrev pub offset_of : List ℕ → ℕ → ℕ
 offset_of bytes i = 6 + length (entries (take i (spellings_of bytes)))
 
+-- the entry i stands at this offset
+abbrev pub IsAt : List ℕ → ℕ → ℕ → Type 0
+IsAt bytes i at = (i < length (texts bytes)) × (at ≡ offset_of bytes i)
+
 -- the offset of an entry
 abbrev pub IsOffset : List ℕ → ℕ → Type 0
-IsOffset bytes at = (i : ℕ) × (i < length (texts bytes)) × (at ≡ offset_of bytes i)
+IsOffset bytes at = (i : ℕ) × IsAt bytes i at

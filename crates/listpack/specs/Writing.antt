@@ -38,19 +38,19 @@ thirteen_low (negsuc n) = 8191 - n
 -- encoding and content of a number
 unfoldable pub number_spelling : ℤ → List ℕ
 number_spelling n =
-  if is_small n then magnitude n ∷ [] else
-  if has_bits 12 n then (0xC0 + thirteen_low n / 256) ∷ thirteen_low n % 256 ∷ [] else
-  if has_bits 15 n then 0xF1 ∷ little_bytes 2 (low_bytes w64 2 n) else
-  if has_bits 23 n then 0xF2 ∷ little_bytes 3 (low_bytes w64 3 n) else
-  if has_bits 31 n then 0xF3 ∷ little_bytes 4 (low_bytes w64 4 n) else
-  0xF4 ∷ little_bytes 8 (low_bytes w64 8 n)
+    if is_small n then magnitude n ∷ [] else
+    if has_bits 12 n then (0xC0 + thirteen_low n / 256) ∷ thirteen_low n % 256 ∷ [] else
+    if has_bits 15 n then 0xF1 ∷ little_bytes 2 (low_bytes w64 2 n) else
+    if has_bits 23 n then 0xF2 ∷ little_bytes 3 (low_bytes w64 3 n) else
+    if has_bits 31 n then 0xF3 ∷ little_bytes 4 (low_bytes w64 4 n) else
+    0xF4 ∷ little_bytes 8 (low_bytes w64 8 n)
 
 -- the encoding of a string of n bytes
 unfoldable pub text_head : ℕ → List ℕ
 text_head n =
-  if nat_lt n 64 then (0x80 + n) ∷ [] else
-  if nat_lt n 4096 then (0xE0 + n / 256) ∷ n % 256 ∷ [] else
-  0xF0 ∷ little_bytes 4 n
+    if nat_lt n 64 then (0x80 + n) ∷ [] else
+    if nat_lt n 4096 then (0xE0 + n / 256) ∷ n % 256 ∷ [] else
+    0xF0 ∷ little_bytes 4 n
 
 -- encoding and content of an element
 abbrev pub spelling_by : Option ℤ → List ℕ → List ℕ

@@ -1,7 +1,7 @@
 // Back lengths.
 
 ghost use Rattle.std.specs.Prelude.{◌≡◌, ◌<◌, ◌≤◌, ◌^◌, ◌+◌, ◌-◌, ◌*◌, ◌%◌, ◌++◌, ℕ, List, length, slice_index, take};
-ghost use Rattle.listpack.specs.Entry.{back_length, seven_bits};
+ghost use Rattle.listpack.specs.Entry.{back_length, seven_bits, BackLengthLimits};
 
 /// The back length of an entry: the first `len` of these bytes.
 #[derive(Clone, Copy)]
@@ -110,3 +110,8 @@ pub(crate) fn entry_len_before(bytes: &[u8]) -> usize
     let e = from_end(bytes, 5);
     joined(joined(joined(joined(e, d), c), b), a) + 5
 }
+
+/// The back lengths at the limits of each width, byte by byte.
+pub fn back_lengths_at_limits()
+    ensures { BackLengthLimits }
+{}

@@ -1,6 +1,6 @@
 // Checking bytes.
 
-ghost use Rattle.std.specs.Prelude.{◌≡◌, ℕ, List, IfOk, IfErr, OnOk};
+ghost use Rattle.std.specs.Prelude.{◌≡◌, ◌↔◌, ◌<◌, ◌^◌, ℕ, List, IfOk, IfErr, IsOk, OnOk, length};
 ghost use Rattle.listpack.specs.Pack.{IsPack, IsFault, ExactlyOne};
 ghost use Rattle.listpack.specs.View.{bytes_of};
 
@@ -10,10 +10,10 @@ use crate::header::{END, NOT_TOLD, told_count};
 use crate::walks::Pack;
 use byteorder::{ByteOrder, LittleEndian};
 
-/// Takes bytes as a listpack, or names the first rule that they break.
-pub fn check(bytes: &[u8]) -> Result<Pack<'_>, PackFault>
+// The first rule that bytes break.
+fn check_rules(bytes: &[u8]) -> Result<(), PackFault>
     ensures pack { OnOk result (IsPack bytes.now) }
-    ensures bytes { IfOk result (λ p. bytes_of p ≡ bytes.now) }
+    ensures small { OnOk result (length bytes.now < 2 ^ 32) }
     ensures fault { IfErr result (λ e. IsFault bytes.now e) }
 {
     let len = bytes.len();
@@ -31,7 +31,19 @@ pub fn check(bytes: &[u8]) -> Result<Pack<'_>, PackFault>
     if told != NOT_TOLD && usize::from(told) != count {
         return Err(PackFault::Count);
     }
-    Ok(Pack { bytes })
+    Ok(())
+}
+
+/// Takes bytes as a listpack, or names the first rule that they break.
+pub fn check(bytes: &[u8]) -> Result<Pack<'_>, PackFault>
+    ensures ok { IsOk result ↔ IsPack bytes.now }
+    ensures bytes { IfOk result (λ p. bytes_of p ≡ bytes.now) }
+    ensures fault { IfErr result (λ e. IsFault bytes.now e) }
+{
+    match check_rules(bytes) {
+        Ok(()) => Ok(Pack { bytes }),
+        Err(fault) => Err(fault),
+    }
 }
 
 /// Takes bytes that are known to be a listpack.

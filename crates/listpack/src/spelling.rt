@@ -42,21 +42,30 @@ fn signed(encoding: u8, n: i64, width: usize) -> Head
     let mut bytes = [0; 9];
     bytes[0] = encoding;
     LittleEndian::write_int(&mut bytes[1..], n, width);
-    Head { bytes, len: 1 + width }
+    Head {
+        bytes,
+        len: 1 + width,
+    }
 }
 
 fn two_bytes(high: u8, low: u8) -> Head
     ensures bytes { take result.len result.bytes ≡ high ∷ low ∷ [] }
     ensures len { result.len ≡ 2 }
 {
-    Head { bytes: [high, low, 0, 0, 0, 0, 0, 0, 0], len: 2 }
+    Head {
+        bytes: [high, low, 0, 0, 0, 0, 0, 0, 0],
+        len: 2,
+    }
 }
 
 fn one_byte(byte: u8) -> Head
     ensures bytes { take result.len result.bytes ≡ byte ∷ [] }
     ensures len { result.len ≡ 1 }
 {
-    Head { bytes: [byte, 0, 0, 0, 0, 0, 0, 0, 0], len: 1 }
+    Head {
+        bytes: [byte, 0, 0, 0, 0, 0, 0, 0, 0],
+        len: 1,
+    }
 }
 
 // The number, or of a negative one how far it is below -1.
@@ -148,5 +157,4 @@ pub fn fits(pack: &[u8], element: &[u8]) -> bool
 /// The writer's spelling of an element is one encoding with its content, and is read as that element.
 pub fn spelling_is_read_back()
     ensures { (text : List ℕ) → length text < 2 ^ 32 → IsSpelling (spelling text) × (text_of (spelling text) ≡ text) }
-{
-}
+{}

@@ -1,9 +1,9 @@
 // A checked listpack, and the walks over its entries.
 
-ghost use Rattle.std.specs.Prelude.{◌≡◌, ◌+◌, ◌-◌, ◌<◌, ◌≤◌, ◌^◌, ◌↔◌, ℕ, List, [], length, get_or, slice_index, IsTrue, MatchOption};
+ghost use Rattle.std.specs.Prelude.{◌≡◌, ◌+◌, ◌-◌, ◌<◌, ◌≤◌, ◌^◌, ◌↔◌, ℕ, List, [], length, get_or, slice_index, IsTrue, MatchOption, IfSome};
 ghost use Rattle.listpack.specs.Entry.{IsSpelling};
 ghost use Rattle.listpack.specs.Element.{element_text, is_number, IsNumberByte};
-ghost use Rattle.listpack.specs.Pack.{IsPack, IsOffset, texts, spellings_of, offset_of};
+ghost use Rattle.listpack.specs.Pack.{IsPack, IsOffset, IsAt, texts, spellings_of, offset_of};
 
 use crate::back::{back_length_of, entry_len_before};
 use crate::encoding::{Element, element_of, split_spelling};
@@ -53,7 +53,7 @@ impl<'a> Pack<'a> {
     fn spelling_at(&self, at: usize) -> &'a [u8]
         requires { IsOffset (bytes_of self.now) at }
         ensures own { IsSpelling result.now }
-        ensures value { (i : ℕ) → i < length (texts (bytes_of self.now)) → at ≡ offset_of (bytes_of self.now) i → result.now ≡ get_or (spellings_of (bytes_of self.now)) i [] }
+        ensures value { (i : ℕ) → IsAt (bytes_of self.now) i at → result.now ≡ get_or (spellings_of (bytes_of self.now)) i [] }
     {
         match split_spelling(&self.bytes[at..self.bytes.len() - 1]) {
             Some((spelling, _)) => spelling,
@@ -71,22 +71,28 @@ impl<'a> Pack<'a> {
 
     /// The offset of the first entry.
     pub fn first(&self) -> Option<usize>
-        ensures { MatchOption result (length (texts (bytes_of self.now)) ≡ 0) (λ at. (0 < length (texts (bytes_of self.now))) × (at ≡ offset_of (bytes_of self.now) 0)) }
+        ensures place { MatchOption result (length (texts (bytes_of self.now)) ≡ 0) (λ at. IsAt (bytes_of self.now) 0 at) }
+        ensures offset { IfSome result (λ to. IsOffset (bytes_of self.now) to) }
     {
         if self.is_empty() { None } else { Some(6) }
     }
 
     /// The offset of the last entry.
     pub fn last(&self) -> Option<usize>
-        ensures { MatchOption result (length (texts (bytes_of self.now)) ≡ 0) (λ at. (0 < length (texts (bytes_of self.now))) × (at ≡ offset_of (bytes_of self.now) (length (texts (bytes_of self.now)) - 1))) }
+        ensures place { MatchOption result (length (texts (bytes_of self.now)) ≡ 0) (λ at. IsAt (bytes_of self.now) (length (texts (bytes_of self.now)) - 1) at) }
+        ensures offset { IfSome result (λ to. IsOffset (bytes_of self.now) to) }
     {
-        if self.is_empty() { None } else { Some(self.before(self.bytes.len() - 1)) }
+        if self.is_empty() {
+            None
+        } else {
+            Some(self.before(self.bytes.len() - 1))
+        }
     }
 
     // How many bytes the entry at an offset takes.
     pub(crate) fn entry_len(&self, at: usize) -> usize
         requires { IsOffset (bytes_of self.now) at }
-        ensures next { (i : ℕ) → i < length (texts (bytes_of self.now)) → at ≡ offset_of (bytes_of self.now) i → offset_of (bytes_of self.now) (i + 1) ≡ at + result }
+        ensures next { (i : ℕ) → IsAt (bytes_of self.now) i at → offset_of (bytes_of self.now) (i + 1) ≡ at + result }
         ensures inside { at + result < length (bytes_of self.now) }
     {
         let size = self.spelling_at(at).len();
@@ -108,24 +114,35 @@ impl<'a> Pack<'a> {
 
     /// The offset of the entry at an index. It takes a step for each entry before it.
     pub fn seek(&self, index: usize) -> Option<usize>
-        ensures { MatchOption result (length (texts (bytes_of self.now)) ≤ index) (λ at. (index < length (texts (bytes_of self.now))) × (at ≡ offset_of (bytes_of self.now) index)) }
+        ensures place { MatchOption result (length (texts (bytes_of self.now)) ≤ index) (λ at. IsAt (bytes_of self.now) index at) }
+        ensures offset { IfSome result (λ to. IsOffset (bytes_of self.now) to) }
     {
-        if index < self.len() { Some(self.offset(index)) } else { None }
+        if index < self.len() {
+            Some(self.offset(index))
+        } else {
+            None
+        }
     }
 
     /// The offset of the entry behind the one at `at`.
     pub fn next(&self, at: usize) -> Option<usize>
         requires { IsOffset (bytes_of self.now) at }
-        ensures { (i : ℕ) → i < length (texts (bytes_of self.now)) → at ≡ offset_of (bytes_of self.now) i → MatchOption result (i + 1 ≡ length (texts (bytes_of self.now))) (λ to. (i + 1 < length (texts (bytes_of self.now))) × (to ≡ offset_of (bytes_of self.now) (i + 1))) }
+        ensures place { (i : ℕ) → IsAt (bytes_of self.now) i at → MatchOption result (i + 1 ≡ length (texts (bytes_of self.now))) (λ to. IsAt (bytes_of self.now) (i + 1) to) }
+        ensures offset { IfSome result (λ to. IsOffset (bytes_of self.now) to) }
     {
         let to = at + self.entry_len(at);
-        if to + 1 == self.bytes.len() { None } else { Some(to) }
+        if to + 1 == self.bytes.len() {
+            None
+        } else {
+            Some(to)
+        }
     }
 
     /// The offset of the entry before the one at `at`.
     pub fn prev(&self, at: usize) -> Option<usize>
         requires { IsOffset (bytes_of self.now) at }
-        ensures { (i : ℕ) → i < length (texts (bytes_of self.now)) → at ≡ offset_of (bytes_of self.now) i → MatchOption result (i ≡ 0) (λ to. (0 < i) × (to ≡ offset_of (bytes_of self.now) (i - 1))) }
+        ensures place { (i : ℕ) → IsAt (bytes_of self.now) i at → MatchOption result (i ≡ 0) (λ to. (0 < i) × IsAt (bytes_of self.now) (i - 1) to) }
+        ensures offset { IfSome result (λ to. IsOffset (bytes_of self.now) to) }
     {
         if at == 6 { None } else { Some(self.before(at)) }
     }
@@ -133,7 +150,7 @@ impl<'a> Pack<'a> {
     /// The element at an offset: a part of the bytes, or the number that stands there.
     pub fn get(&self, at: usize) -> Element<'a>
         requires { IsOffset (bytes_of self.now) at }
-        ensures text { (i : ℕ) → i < length (texts (bytes_of self.now)) → at ≡ offset_of (bytes_of self.now) i → element_text result ≡ get_or (texts (bytes_of self.now)) i [] }
+        ensures text { (i : ℕ) → IsAt (bytes_of self.now) i at → element_text result ≡ get_or (texts (bytes_of self.now)) i [] }
         ensures number { IsTrue (is_number result) ↔ IsNumberByte (slice_index (bytes_of self.now) at) }
     {
         element_of(self.spelling_at(at))

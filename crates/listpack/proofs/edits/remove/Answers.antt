@@ -19,9 +19,10 @@ returns-clause-entries c =
     let same = c.told_count-count.ensures ∙ ap told c.deref.ensures.value in
     let count : c.if-count.write_header ≡ one_less (told old) = elim c.if-count.branch [
       | then-count w ↦ count_stays c.told_count-count.result (told old) c.if-count.write_header same (omega arith) w.write_header-is
-      | else-count w ↦ count_falls c.told_count-count.result (told old) c.if-count.write_header same w.if-count.false w.write_header-is ] in
+      | else-count w ↦ count_falls c.told_count-count.result (told old) c.if-count.write_header same w.if-count.false w.write_header-is
+    ] in
     taken_out old c.cut.new.pack.items c.write_header.new.pack.items i c.if-count.write_header c.requires.packed c.requires.index inner c.write_header.ensures small
-      (omega arith) count
+    (omega arith) count
 
 pub returns-clause-list : goal.returns-clause-list
 returns-clause-list c = texts_removed c.args.pack.now.items c.write_header.new.pack.items c.args.index _ (returns-clause-entries c)

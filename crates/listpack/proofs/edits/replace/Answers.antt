@@ -24,11 +24,11 @@ returns-clause-entries c =
     let second = exchanged old c.put.new.pack.items c.cut.new.pack.items (entry text) place size (place + (c.len.result - c.len-len.result)) (omega (arith, inside)) first behind c.cut.ensures in
     let inner = second ∙ ap (λ (k : ℕ). take k old ++ (entry text ++ drop (place + size) old)) at ∙ ap (λ (k : ℕ). take (offset_of old i) old ++ (entry text ++ drop k old)) next in
     replaced old c.cut.new.pack.items c.write_header.new.pack.items text i c.told_count-count.result c.requires.packed c.requires.index
-      (element_fits old text c.requires.fits) inner c.write_header.ensures
-      (length-exchanged old c.cut.new.pack.items text place size second c.requires.fits (omega (arith, inside)))
-      (omega arith) (c.told_count-count.ensures ∙ ap told c.deref.ensures.value)
+    (element_fits old text c.requires.fits) inner c.write_header.ensures
+    (length-exchanged old c.cut.new.pack.items text place size second c.requires.fits (omega (arith, inside)))
+    (omega arith) (c.told_count-count.ensures ∙ ap told c.deref.ensures.value)
 
 pub returns-clause-list : goal.returns-clause-list
 returns-clause-list c =
     texts_replaced c.args.pack.now.items c.write_header.new.pack.items c.args.element.now c.args.index _ (returns-clause-entries c)
-      (element_fits c.args.pack.now.items c.args.element.now c.requires.fits)
+    (element_fits c.args.pack.now.items c.args.element.now c.requires.fits)

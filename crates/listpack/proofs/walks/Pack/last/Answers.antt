@@ -11,10 +11,13 @@ before-requires c =
     let far = offset_end bytes n c.args.self.now.packed (omega (arith, length-texts bytes)) in
     (n, some, omega arith, omega (arith, far))
 
-pub returns-else-is_empty : goal.returns-else-is_empty
-returns-else-is_empty c =
+pub returns-else-is_empty-clause-place : goal.returns-else-is_empty-clause-place
+returns-else-is_empty-clause-place c =
     let bytes = c.args.self.now.bytes.now in
     let n = length (texts bytes) in
     let some : 0 < n = is_some c.is_empty.result n c.is_empty.ensures.1 c.if-is_empty.false in
     let far = offset_end bytes n c.args.self.now.packed (omega (arith, length-texts bytes)) in
-    (some, c.before-else-is_empty.ensures n some (omega arith) (omega (arith, far)))
+    (omega (arith, some), c.before-else-is_empty.ensures n some (omega arith) (omega (arith, far)))
+
+pub returns-else-is_empty-clause-offset : goal.returns-else-is_empty-clause-offset
+returns-else-is_empty-clause-offset c = (length (texts c.args.self.now.bytes.now) - 1, returns-else-is_empty-clause-place c)
