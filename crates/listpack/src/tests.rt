@@ -200,3 +200,97 @@ fn truncated_and_changed_bytes_have_their_faults(rt: HostRuntime) -> Result<(), 
     try_changes(&rt, rt.alloc(), EACH_WIDTH, EACH_WIDTH_CHANGED)?;
     try_changes(&rt, rt.alloc(), WIDE, WIDE_CHANGED)
 }
+
+#[test]
+fn long_entries_take_longer_back_lengths(rt: HostRuntime) -> Result<(), Fail> {
+    for (len, ending) in [(16_377, [0x7f, 0xfe, 0xff]), (16_378, [0xff, 0xff, 0xff])] {
+        let text = vec![in rt.alloc(); b'x'; len]?;
+        let mut pack = empty(rt.alloc())?;
+        assert!(rt; fits(&pack, &text));
+        append(&mut pack, &text)?;
+        assert!(rt; pack.ends_with(&ending));
+    }
+    Ok(())
+}
+
+#[test]
+fn edits_leave_the_bytes_of_the_changed_list(rt: HostRuntime) -> Result<(), Fail> {
+    let mut pack = empty(rt.alloc())?;
+    assert!(rt; fits(&pack, b"hello"));
+    append(&mut pack, b"hello")?;
+    assert!(rt; fits(&pack, b"007"));
+    append(&mut pack, b"007")?;
+    assert!(rt; fits(&pack, b"-7"));
+    insert(&mut pack, 0, b"-7")?;
+    let three = [
+        0x16, 0, 0, 0, 3, 0, 0xdf, 0xf9, 2, 0x85, b'h', b'e', b'l', b'l', b'o', 6, 0x83, b'0',
+        b'0', b'7', 4, 0xff,
+    ];
+    assert_eq!(rt; pack.as_slice(), three.as_slice());
+    assert_eq!(rt; known(&pack).len(), 3);
+    assert!(rt; fits(&pack, b"4096"));
+    replace(&mut pack, 1, b"4096")?;
+    remove(&mut pack, 0);
+    let two = [
+        0x10, 0, 0, 0, 2, 0, 0xf1, 0, 0x10, 3, 0x83, b'0', b'0', b'7', 4, 0xff,
+    ];
+    assert_eq!(rt; pack.as_slice(), two.as_slice());
+    Ok(())
+}
+
+#[test]
+fn walks_meet_each_element_from_both_ends(rt: HostRuntime) -> Result<(), Fail> {
+    let pack = check(TWO).ok().ok_or("a listpack")?;
+    assert_eq!(rt; pack.bytes(), TWO);
+    assert!(rt; !pack.is_empty());
+    let first = pack.first().ok_or("first")?;
+    assert!(rt; matches!(pack.get(first), Element::Text(b"f")));
+    let last = pack.last().ok_or("last")?;
+    assert!(rt; matches!(pack.get(last), Element::Number(1)));
+    assert_eq!(rt; pack.next(first), Some(last));
+    assert_eq!(rt; pack.prev(last), Some(first));
+    assert_eq!(rt; pack.seek(1), Some(9));
+    assert_eq!(rt; pack.seek(2), None);
+    Ok(())
+}
+
+#[test]
+fn each_encoding_means_its_element(rt: HostRuntime) -> Result<(), Fail> {
+    let numbers: [(&[u8], i64); 9] = [
+        (&[9, 0, 0, 0, 0xff, 0xff, 0x7f, 1, 0xff], 127),
+        (&[10, 0, 0, 0, 0xff, 0xff, 0xc0, 5, 2, 0xff], 5),
+        (&[10, 0, 0, 0, 0xff, 0xff, 0xd0, 0, 2, 0xff], -4096),
+        (&[11, 0, 0, 0, 0xff, 0xff, 0xf1, 0xff, 0xff, 3, 0xff], -1),
+        (
+            &[12, 0, 0, 0, 0xff, 0xff, 0xf2, 0, 0, 0x80, 4, 0xff],
+            -8_388_608,
+        ),
+        (
+            &[12, 0, 0, 0, 0xff, 0xff, 0xf2, 0xff, 0xff, 0x7f, 4, 0xff],
+            8_388_607,
+        ),
+        (
+            &[13, 0, 0, 0, 0xff, 0xff, 0xf3, 0, 0, 0, 0x80, 5, 0xff],
+            -2_147_483_648,
+        ),
+        (
+            &[
+                17, 0, 0, 0, 0xff, 0xff, 0xf4, 7, 0, 0, 0, 0, 0, 0, 0, 9, 0xff,
+            ],
+            7,
+        ),
+        (
+            &[
+                17, 0, 0, 0, 0xff, 0xff, 0xf4, 0, 0, 0, 0, 0, 0, 0, 0x80, 9, 0xff,
+            ],
+            i64::MIN,
+        ),
+    ];
+    for (bytes, number) in numbers {
+        let pack = check(bytes).ok().ok_or("a listpack")?;
+        assert_eq!(rt; pack.len(), 1);
+        let at = pack.first().ok_or("an element")?;
+        assert!(rt; matches!(pack.get(at), Element::Number(n) if n == number));
+    }
+    Ok(())
+}
