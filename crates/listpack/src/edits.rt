@@ -129,10 +129,10 @@ pub fn insert(pack: &mut Vec<u8>, index: usize, element: &[u8]) -> Result<(), Me
     ensures list { OnOk result (texts pack.new.items ≡ inserted (texts pack.old.items) index element.now) }
     ensures memory { OnErr result (pack.new.items ≡ pack.old.items) }
 {
-    let count = told_count(pack);
+    let told = told_count(pack);
     let at = known(pack).offset(index);
     put(pack, at, element)?;
-    write_header(pack, count.saturating_add(1));
+    write_header(pack, told.saturating_add(1));
     Ok(())
 }
 

@@ -19,7 +19,7 @@ pub struct Pack<'a> {
 }
 
 impl<'a> Pack<'a> {
-    ghost use Rattle.listpack.specs.View.{bytes_of};
+    ghost use Rattle.listpack.specs.View.{bytes_of, list_of};
 
     /// The bytes of the whole listpack.
     pub fn bytes(&self) -> &'a [u8]
@@ -31,7 +31,7 @@ impl<'a> Pack<'a> {
 
     /// The number of elements. It takes a pass over the bytes where the header does not tell it.
     pub fn len(&self) -> usize
-        ensures { result ≡ length (texts (bytes_of self.now)) }
+        ensures { result ≡ length (list_of self.now) }
     {
         let told = told_count(self.bytes);
         if told != NOT_TOLD {
@@ -44,7 +44,7 @@ impl<'a> Pack<'a> {
     }
 
     pub fn is_empty(&self) -> bool
-        ensures { IsTrue result ↔ (length (texts (bytes_of self.now)) ≡ 0) }
+        ensures { IsTrue result ↔ (length (list_of self.now) ≡ 0) }
     {
         self.bytes.len() == 7
     }
@@ -63,15 +63,16 @@ impl<'a> Pack<'a> {
 
     // The offset of the entry that ends at `end`.
     fn before(&self, end: usize) -> usize
-        requires { (i : ℕ) × (0 < i) × (i ≤ length (texts (bytes_of self.now))) × (end ≡ offset_of (bytes_of self.now) i) }
-        ensures { (i : ℕ) → 0 < i → i ≤ length (texts (bytes_of self.now)) → end ≡ offset_of (bytes_of self.now) i → result ≡ offset_of (bytes_of self.now) (i - 1) }
+        requires { (i : ℕ) × (0 < i) × (i ≤ length (list_of self.now)) × (end ≡ offset_of (bytes_of self.now) i) }
+        ensures { (i : ℕ) → 0 < i → i ≤ length (list_of self.now) → end ≡ offset_of (bytes_of self.now) i
+            → result ≡ offset_of (bytes_of self.now) (i - 1) }
     {
         end - entry_len_before(&self.bytes[..end])
     }
 
     /// The offset of the first entry.
     pub fn first(&self) -> Option<usize>
-        ensures place { MatchOption result (length (texts (bytes_of self.now)) ≡ 0) (λ at. IsAt (bytes_of self.now) 0 at) }
+        ensures place { MatchOption result (length (list_of self.now) ≡ 0) (λ at. IsAt (bytes_of self.now) 0 at) }
         ensures offset { IfSome result (λ to. IsOffset (bytes_of self.now) to) }
     {
         if self.is_empty() { None } else { Some(6) }
@@ -79,7 +80,7 @@ impl<'a> Pack<'a> {
 
     /// The offset of the last entry.
     pub fn last(&self) -> Option<usize>
-        ensures place { MatchOption result (length (texts (bytes_of self.now)) ≡ 0) (λ at. IsAt (bytes_of self.now) (length (texts (bytes_of self.now)) - 1) at) }
+        ensures place { MatchOption result (length (list_of self.now) ≡ 0) (λ at. IsAt (bytes_of self.now) (length (list_of self.now) - 1) at) }
         ensures offset { IfSome result (λ to. IsOffset (bytes_of self.now) to) }
     {
         if self.is_empty() {
@@ -101,7 +102,7 @@ impl<'a> Pack<'a> {
 
     // The offset of the entry at an index, or behind all entries that of the last byte.
     pub(crate) fn offset(&self, index: usize) -> usize
-        requires { index ≤ length (texts (bytes_of self.now)) }
+        requires { index ≤ length (list_of self.now) }
         ensures place { result ≡ offset_of (bytes_of self.now) index }
         ensures inside { result < length (bytes_of self.now) }
     {
@@ -114,7 +115,7 @@ impl<'a> Pack<'a> {
 
     /// The offset of the entry at an index. It takes a step for each entry before it.
     pub fn seek(&self, index: usize) -> Option<usize>
-        ensures place { MatchOption result (length (texts (bytes_of self.now)) ≤ index) (λ at. IsAt (bytes_of self.now) index at) }
+        ensures place { MatchOption result (length (list_of self.now) ≤ index) (λ at. IsAt (bytes_of self.now) index at) }
         ensures offset { IfSome result (λ to. IsOffset (bytes_of self.now) to) }
     {
         if index < self.len() {
@@ -127,7 +128,8 @@ impl<'a> Pack<'a> {
     /// The offset of the entry behind the one at `at`.
     pub fn next(&self, at: usize) -> Option<usize>
         requires { IsOffset (bytes_of self.now) at }
-        ensures place { (i : ℕ) → IsAt (bytes_of self.now) i at → MatchOption result (i + 1 ≡ length (texts (bytes_of self.now))) (λ to. IsAt (bytes_of self.now) (i + 1) to) }
+        ensures place { (i : ℕ) → IsAt (bytes_of self.now) i at
+            → MatchOption result (i + 1 ≡ length (list_of self.now)) (λ to. IsAt (bytes_of self.now) (i + 1) to) }
         ensures offset { IfSome result (λ to. IsOffset (bytes_of self.now) to) }
     {
         let to = at + self.entry_len(at);
@@ -141,7 +143,8 @@ impl<'a> Pack<'a> {
     /// The offset of the entry before the one at `at`.
     pub fn prev(&self, at: usize) -> Option<usize>
         requires { IsOffset (bytes_of self.now) at }
-        ensures place { (i : ℕ) → IsAt (bytes_of self.now) i at → MatchOption result (i ≡ 0) (λ to. (0 < i) × IsAt (bytes_of self.now) (i - 1) to) }
+        ensures place { (i : ℕ) → IsAt (bytes_of self.now) i at
+            → MatchOption result (i ≡ 0) (λ to. (0 < i) × IsAt (bytes_of self.now) (i - 1) to) }
         ensures offset { IfSome result (λ to. IsOffset (bytes_of self.now) to) }
     {
         if at == 6 { None } else { Some(self.before(at)) }
@@ -150,7 +153,7 @@ impl<'a> Pack<'a> {
     /// The element at an offset: a part of the bytes, or the number that stands there.
     pub fn get(&self, at: usize) -> Element<'a>
         requires { IsOffset (bytes_of self.now) at }
-        ensures text { (i : ℕ) → IsAt (bytes_of self.now) i at → element_text result ≡ get_or (texts (bytes_of self.now)) i [] }
+        ensures text { (i : ℕ) → IsAt (bytes_of self.now) i at → element_text result ≡ get_or (list_of self.now) i [] }
         ensures number { IsTrue (is_number result) ↔ IsNumberByte (slice_index (bytes_of self.now) at) }
     {
         element_of(self.spelling_at(at))

@@ -16,7 +16,7 @@ returns-clause-entries c =
     (inner ∙ ap (λ (k : ℕ). take k old ++ (entry text ++ drop k old)) at)
     c.write_header.ensures
     (length-put old c.put.new.pack.items text c.offset-at.result inner c.requires.fits)
-    (c.saturating_add.ensures ∙ ap (λ (k : ℕ). min (k + 1) 65535) (c.told_count-count.ensures ∙ ap told c.deref.ensures.value))
+    (c.saturating_add.ensures ∙ ap (λ (k : ℕ). min (k + 1) 65535) (c.told_count-told.ensures ∙ ap told c.deref.ensures.value))
 
 pub returns-clause-list : goal.returns-clause-list
 returns-clause-list c =
