@@ -1,9 +1,8 @@
 -- What a first byte asks for, by its range.
 use Rattle.std.proofs.Common.{◌≡◌, ℕ, ◌+◌, ◌-◌, ◌*◌, ◌<◌, ◌≤◌, List, [], ◌∷◌, length, slice_index, refl, sym, arith, inl, inr, ◌⊎◌}
-use Rattle.std.specs.Prelude.{nat_lt, true, false}
 use Rattle.std.proofs.lemmas.Bool.Decides.{nat_tests}
 use Rattle.std.proofs.lemmas.Bool.{cases_eq}
-use Rattle.std.specs.Prelude.{ℤ, pos, drop}
+use Rattle.std.specs.Prelude.{pos, drop}
 use Rattle.std.specs.Fmt.{signed_decimal}
 use Rattle.byteorder.specs.Endian.{little_number, twos_complement}
 use Rattle.listpack.specs.Entry.{Encoding, SmallNumber, ShortText, ThirteenBits, MediumText, LongText, Signed, NoEncoding, encoding_of, needed, needed_by, IsSpelling, text_of, text_by, thirteen_bits}

@@ -1,16 +1,15 @@
 -- Exactly one of a listpack and a first fault.
 use Rattle.std.proofs.Common.{◌≡◌, ◌≢◌, ◌⊎◌, ℕ, ◌+◌, ◌-◌, ◌<◌, ◌≤◌, List, [], ◌∷◌, ◌++◌, length, map, refl, sym, ap, subst, ◌∙◌, inl, inr, arith}
-use Rattle.std.specs.Prelude.{nat_lt, ◌==◌, if◌then◌else◌, slice_range, true, false}
-use Rattle.std.specs.List.{All}
+use Rattle.std.specs.Prelude.{nat_lt, ◌==◌, if◌then◌else◌}
 use Rattle.std.proofs.lemmas.Bool.{cases_lt, cases_eq}
 use Rattle.std.proofs.lemmas.Bool.Decides.{nat_tests}
-use Rattle.std.proofs.lemmas.List.{append-nil, length-take, length-drop, nil_from_length}
+use Rattle.std.proofs.lemmas.List.{append-nil, length-take, length-drop}
 use Rattle.listpack.specs.declared.fault.PackFault.{PackFault}
 use Rattle.listpack.specs.declared.fault.PackFault.TheVariants as faults
-use Rattle.listpack.specs.Entry.{needed, IsSpelling, text_of}
+use Rattle.listpack.specs.Entry.{needed, text_of}
 use Rattle.listpack.specs.Pack.{entries, total, told, region, last_byte, HasSpellings, Packs, Begins, IsSized, IsCutShort, LacksBackLength, IsEntryFault, IsRegionFault, IsFault, spellings_of, IsPack, texts, ExactlyOne}
-use Rattle.listpack.proofs.Spellings.{spelling-pos, needed-append}
-use Rattle.listpack.proofs.Regions.{Scanned, scan, Stop, at_end, at_fault, one_stop, fault_there, cut-entries}
+use Rattle.listpack.proofs.Spellings.{needed-append}
+use Rattle.listpack.proofs.Regions.{scan, Stop, at_end, at_fault, one_stop, fault_there, cut-entries}
 
 length-region : (bytes : List ℕ) → length (region bytes) ≤ length bytes
 length-region bytes = omega (arith, length-take (length bytes - 1 - 6) (Rattle.std.proofs.Common.drop 6 bytes), length-drop 6 bytes)

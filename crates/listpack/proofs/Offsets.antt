@@ -1,15 +1,13 @@
 -- What stands at the offsets of a listpack's entries.
-use Rattle.std.proofs.Common.{◌≡◌, ◌⊎◌, Bool, true, false, ℕ, zero, suc, ◌+◌, ◌-◌, ◌<◌, ◌≤◌, List, [], ◌∷◌, ◌++◌, length, take, drop, map, get_or, refl, sym, ap, subst, ◌∙◌, inl, inr, arith}
-use Rattle.std.specs.List.{All, flat_map}
-use Rattle.std.specs.Prelude.{slice_range}
+use Rattle.std.proofs.Common.{◌≡◌, Bool, true, false, ℕ, zero, suc, ◌+◌, ◌-◌, ◌<◌, ◌≤◌, List, [], ◌∷◌, ◌++◌, length, take, drop, get_or, refl, sym, ap, ◌∙◌, inl, inr, arith}
 use Rattle.std.proofs.lemmas.Bool.{cases_lt}
-use Rattle.std.proofs.lemmas.List.{append_assoc, append-nil, take_at, drop_at, take-append-drop, length-append, length-drop, length-take-le, length-map, drop_more, drop_all, take_more, take_all, get_or-drop, get_or_append_left}
+use Rattle.std.proofs.lemmas.List.{append_assoc, append-nil, take_at, drop_at, take-append-drop, length-append, length-take-le, length-map, drop_more, drop_all, take_more, get_or-drop, get_or_append_left}
 use Rattle.std.proofs.lemmas.List.Concat.{flat_map-append}
 use Rattle.std.proofs.lemmas.List.Edits.{split_between}
 use Rattle.std.proofs.lemmas.List.Elements.{All-get_or}
 use Rattle.listpack.specs.declared.fault.PackFault.{PackFault}
 use Rattle.listpack.specs.Entry.{needed, IsSpelling, back_length, entry_of, text_of}
-use Rattle.listpack.specs.Pack.{entries, region, Begins, IsRegionFault, HasSpellings, IsPack, spellings_of, texts, offset_of}
+use Rattle.listpack.specs.Pack.{entries, region, Begins, IsRegionFault, IsPack, spellings_of, texts, offset_of}
 use Rattle.listpack.proofs.Spellings.{spelling-pos, needed-append}
 use Rattle.listpack.proofs.Regions.{length-entry, one_stop, at_end, at_fault, fault_there}
 

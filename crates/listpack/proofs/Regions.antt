@@ -1,17 +1,17 @@
 -- A region of entries is read in one way.
-use Rattle.std.proofs.Common.{◌≡◌, ◌≢◌, ◌⊎◌, ℕ, zero, suc, ◌+◌, ◌-◌, ◌<◌, ◌≤◌, Bool, true, false, List, [], ◌∷◌, ◌++◌, length, take, drop, refl, sym, ap, subst, ◌∙◌, inl, inr, arith}
+use Rattle.std.proofs.Common.{◌≡◌, ◌≢◌, ◌⊎◌, ℕ, zero, suc, ◌+◌, ◌<◌, ◌≤◌, Bool, true, false, List, [], ◌∷◌, ◌++◌, length, take, drop, refl, sym, ap, ◌∙◌, inl, inr, arith}
 use Rattle.std.specs.Str.{bytes_eq}
 use Rattle.std.proofs.lemmas.List.Concat.{flat_map-append}
-use Rattle.std.specs.List.{All, flat_map}
+use Rattle.std.specs.List.{All}
 use Rattle.std.proofs.lemmas.Bool.{cases_lt}
-use Rattle.std.proofs.lemmas.List.{append_assoc, append-nil, append_cancel_left, take_at, drop_at, take-append-drop, length-append, length-drop, length-take-le, drop-drop, nil_from_length}
+use Rattle.std.proofs.lemmas.List.{append_assoc, append-nil, append_cancel_left, take_at, drop_at, take-append-drop, length-append}
 use Rattle.std.proofs.lemmas.List.Elements.{All-nil, All-cons, All-head, All-tail, All-push}
 use Rattle.std.proofs.lemmas.Slice.Eq.{bytes_eq-Decides}
 use Rattle.listpack.specs.declared.fault.PackFault.{PackFault}
 use Rattle.listpack.specs.declared.fault.PackFault.TheVariants as faults
 use Rattle.listpack.specs.Entry.{needed, IsSpelling, back_length, entry_of}
-use Rattle.listpack.specs.Pack.{entries, Begins, IsCutShort, LacksBackLength, IsEntryFault, IsRegionFault, cut}
-use Rattle.listpack.proofs.Spellings.{needed-pos, spelling-pos, needed-append, spelling-take}
+use Rattle.listpack.specs.Pack.{entries, Begins, LacksBackLength, IsEntryFault, IsRegionFault, cut}
+use Rattle.listpack.proofs.Spellings.{spelling-pos, needed-append, spelling-take}
 
 -- one entry more in front
 pub begins_more : (s : List ℕ) (spellings : List (List ℕ)) (bytes rest more : List ℕ) → IsSpelling s → bytes ≡ entry_of s ++ more → Begins more spellings rest → Begins bytes (s ∷ spellings) rest

@@ -1,10 +1,9 @@
 -- Bytes put together anew are a listpack.
-use Rattle.std.proofs.Common.{◌≡◌, ◌≢◌, ℕ, suc, ◌+◌, ◌-◌, ◌^◌, ◌<◌, ◌≤◌, List, [], ◌∷◌, ◌++◌, length, take, drop, map, get_or, set, refl, sym, ap, subst, ◌∙◌, inl, inr, arith}
-use Rattle.std.specs.Prelude.{min, slice_set, ◌==◌, if◌then◌else◌}
-use Rattle.std.specs.List.{All, flat_map, insert, remove}
+use Rattle.std.proofs.Common.{◌≡◌, ◌≢◌, ℕ, suc, ◌+◌, ◌-◌, ◌^◌, ◌<◌, ◌≤◌, List, [], ◌∷◌, ◌++◌, length, take, drop, map, get_or, set, sym, ap, subst, ◌∙◌, inl, inr, arith}
+use Rattle.std.specs.List.{All, insert, remove}
 use Rattle.std.proofs.lemmas.Bool.{cases_eq}
 use Rattle.std.proofs.lemmas.Bool.Decides.{nat_tests}
-use Rattle.std.proofs.lemmas.List.{append_assoc, append-nil, take_at, drop_at, drop-drop, take-append-drop, length-append, length-take-le, length-drop, length-map, map-append, take-map, drop-map, map-set, get_or_at, set_split, length-set, take_all, drop_all}
+use Rattle.std.proofs.lemmas.List.{append_assoc, append-nil, take_at, drop_at, drop-drop, take-append-drop, length-append, length-take-le, length-drop, map-append, take-map, drop-map, map-set, get_or_at, set_split, length-set}
 use Rattle.std.proofs.lemmas.List.Concat.{flat_map-append}
 use Rattle.std.proofs.lemmas.List.Edits.{insert_end, length-insert, length-remove}
 use Rattle.std.proofs.lemmas.List.Elements.{All-nil, All-cons, All-append, All-take, All-drop}
@@ -15,7 +14,7 @@ use Rattle.listpack.specs.Pack.{entries, total, told, region, last_byte, HasSpel
 use Rattle.listpack.specs.Writing.{spelling, entry}
 use Rattle.listpack.specs.Edits.{IsEdited, one_more, one_less}
 use Rattle.listpack.proofs.Laws.{spellings_read, is_pack}
-use Rattle.listpack.proofs.Offsets.{length-texts, take-offset, drop-offset, length-front, length-offset, offset_end, offset_next}
+use Rattle.listpack.proofs.Offsets.{length-texts, take-offset, drop-offset, offset_end}
 use Rattle.listpack.proofs.Writings.{element_short}
 use Rattle.listpack.proofs.ReadBack.{spelled}
 

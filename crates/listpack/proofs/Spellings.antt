@@ -1,8 +1,7 @@
 -- Where a spelling ends: its first bytes tell, whatever follows.
-use Rattle.std.proofs.Common.{◌≡◌, ℕ, zero, suc, ◌+◌, ◌-◌, ◌*◌, ◌<◌, ◌≤◌, List, [], ◌∷◌, ◌++◌, length, take, drop, slice_index, refl, sym, ap, subst, get_or, ◌∙◌, arith}
-use Rattle.std.proofs.lemmas.List.{get_or_append_left, get_or-take, length-take-le, take_at, drop_at, take-append-drop, length-append, length-take, length-drop}
+use Rattle.std.proofs.Common.{◌≡◌, ℕ, zero, suc, ◌+◌, ◌-◌, ◌≤◌, List, [], ◌∷◌, ◌++◌, length, take, drop, refl, sym, ap, subst, get_or, ◌∙◌, arith}
+use Rattle.std.proofs.lemmas.List.{get_or_append_left, get_or-take, length-take-le, take-append-drop}
 use Rattle.std.proofs.lemmas.Slice.{first_rest}
-use Rattle.byteorder.specs.Endian.{little_number}
 use Rattle.byteorder.specs.Numbers.{little_from-append, little_from-take}
 use Rattle.listpack.specs.Entry.{Encoding, SmallNumber, ShortText, ThirteenBits, MediumText, LongText, Signed, NoEncoding, encoding_of, needed, needed_by, IsSpelling}
 

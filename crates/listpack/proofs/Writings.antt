@@ -1,11 +1,10 @@
 -- The writer's spelling.
 use Rattle.std.proofs.Common.{◌≡◌, ◌≢◌, ℕ, zero, suc, ◌+◌, ◌-◌, ◌*◌, ◌/◌, ◌%◌, ◌^◌, ◌<◌, ◌≤◌, Bool, true, false, cond, eqb, ◌&&◌, ◌⊎◌, List, [], ◌∷◌, ◌++◌, length, take, drop, get_or, slice_index, refl, sym, ap, subst, ◌∙◌, length-append, inl, inr, arith}
-use Rattle.std.specs.Prelude.{ℤ, pos, negsuc, nat_abs, neg_ℤ, Option, Some, None, IfSome, IfNone, FitsSigned, ◌≤ℤ◌, ◌<ℤ◌, decimal}
+use Rattle.std.specs.Prelude.{ℤ, pos, negsuc, neg_ℤ, Option, Some, None, FitsSigned, ◌≤ℤ◌, ◌<ℤ◌, decimal}
 use lib.Signed.{mag}
 use Rattle.std.specs.Int.{w64}
-use Rattle.std.specs.Fmt.{signed_decimal}
 use Rattle.std.specs.Str.{bytes_eq}
-use Rattle.std.specs.Str.Parse.{AllDigits, digits_value}
+use Rattle.std.specs.Str.Parse.{AllDigits}
 use Rattle.std.proofs.lemmas.Bool.{ne_eqb, lt-ltb, ltb-true}
 use Rattle.std.proofs.lemmas.Bool.Decides.{nat_tests}
 use Rattle.std.proofs.lemmas.Int.{ints}
@@ -13,7 +12,7 @@ use Rattle.std.proofs.lemmas.Str.Parse.{digit_from_value}
 use Rattle.std.proofs.lemmas.Fmt.{decimal_is_IsNumeral, length_signed_le}
 use Rattle.std.proofs.lemmas.Slice.Eq.{bytes_eq-Decides}
 use Rattle.byteorder.specs.Endian.{little_bytes, low_bytes}
-use Rattle.int_text.specs.Decimal.{canonical, IsI64Text, Reads}
+use Rattle.int_text.specs.Decimal.{canonical, IsI64Text}
 use Rattle.listpack.specs.Writing.{value_of, magnitude, has_bits, i64_of, is_small, thirteen_low, number_spelling, text_head, spelling, spelling_by}
 
 pub number_small : (n : ℤ) → pos 0 ≤ℤ n → magnitude n < 128 → number_spelling n ≡ magnitude n ∷ []

@@ -1,6 +1,5 @@
-use Rattle.std.proofs.Common.{arith, ◌≡◌, ◌<◌, ◌+◌, ℕ, List, length}
-use Rattle.listpack.specs.Entry.{back_length}
-use Rattle.listpack.proofs.Backs.{ends, Ends, one, two, three, four, five}
+use Rattle.std.proofs.Common.{arith}
+use Rattle.listpack.proofs.Backs.{ends, one, two, three, four, five}
 use Rattle.listpack.proofs.back.entry_len_before.Goals as goal
 
 pub returns-then-a-lt128 : goal.returns-then-a-lt128

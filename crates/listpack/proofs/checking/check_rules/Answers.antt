@@ -1,4 +1,4 @@
-use Rattle.std.proofs.Common.{◌≡◌, ℕ, List, length, arith, sym, ◌∙◌}
+use Rattle.std.proofs.Common.{arith}
 use Rattle.listpack.proofs.Laws.{is_pack, from_parts}
 use Rattle.listpack.proofs.checking.check_rules.Goals as goal
 use Rattle.listpack.proofs.checking.check_rules.Goals.{else-told-via-then-told+else-from-count, else-told-via-else-told}

@@ -1,7 +1,6 @@
-use Rattle.std.proofs.Common.{◌≡◌, ◌+◌, ◌-◌, ◌++◌, ◌<◌, ℕ, List, length, take, drop, length-append, sym, ap, ◌∙◌, arith}
+use Rattle.std.proofs.Common.{◌+◌, ◌-◌, ℕ, ap, ◌∙◌, arith}
 use Rattle.std.specs.Prelude.{min}
-use Rattle.listpack.specs.Pack.{offset_of, told}
-use Rattle.listpack.specs.Writing.{entry}
+use Rattle.listpack.specs.Pack.{told}
 use Rattle.listpack.proofs.Repacking.{appended, texts_appended, element_fits, length-put}
 use Rattle.listpack.proofs.edits.append.Goals as goal
 

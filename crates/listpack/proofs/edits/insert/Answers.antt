@@ -1,4 +1,4 @@
-use Rattle.std.proofs.Common.{◌≡◌, ◌+◌, ◌++◌, ◌<◌, ℕ, List, length, take, drop, length-append, sym, ap, ◌∙◌, arith}
+use Rattle.std.proofs.Common.{◌+◌, ◌++◌, ℕ, List, take, drop, ap, ◌∙◌}
 use Rattle.std.specs.Prelude.{min}
 use Rattle.listpack.specs.Pack.{offset_of, told}
 use Rattle.listpack.specs.Writing.{entry}

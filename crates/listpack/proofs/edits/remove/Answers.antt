@@ -1,5 +1,4 @@
-use Rattle.std.proofs.Common.{◌≡◌, ◌+◌, ◌++◌, ◌<◌, ◌^◌, ℕ, List, length, take, drop, sym, ap, ◌∙◌, arith, rules}
-use Rattle.std.specs.Prelude.{vec_len}
+use Rattle.std.proofs.Common.{◌≡◌, ◌+◌, ◌++◌, ◌<◌, ◌^◌, ℕ, List, length, take, drop, sym, ap, ◌∙◌, arith}
 use Rattle.listpack.specs.Pack.{offset_of, told}
 use Rattle.listpack.specs.Edits.{one_less}
 use Rattle.listpack.proofs.Repacking.{taken_out, texts_removed, count_stays, count_falls, length-cut}

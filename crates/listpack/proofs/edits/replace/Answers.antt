@@ -1,8 +1,8 @@
-use Rattle.std.proofs.Common.{◌≡◌, ◌+◌, ◌-◌, ◌++◌, ◌<◌, ◌^◌, ℕ, List, length, take, drop, sym, ap, ◌∙◌, arith, rules}
+use Rattle.std.proofs.Common.{◌≡◌, ◌+◌, ◌-◌, ◌++◌, ◌<◌, ℕ, List, length, take, drop, sym, ap, ◌∙◌, arith, rules}
 use Rattle.std.specs.Prelude.{vec_len}
 use Rattle.listpack.specs.Pack.{offset_of, told}
 use Rattle.listpack.specs.Writing.{entry}
-use Rattle.listpack.proofs.Repacking.{replaced, texts_replaced, exchanged, element_fits, length-put, length_put_is, length-exchanged}
+use Rattle.listpack.proofs.Repacking.{replaced, texts_replaced, exchanged, element_fits, length_put_is, length-exchanged}
 use Rattle.listpack.proofs.edits.replace.Goals as goal
 
 pub returns-clause-entries : goal.returns-clause-entries

@@ -1,6 +1,5 @@
-use Rattle.std.proofs.Common.{arith, ◌≡◌, ◌∷◌, ◌++◌, ℕ, List, length, take, drop}
-use Rattle.listpack.specs.Entry.{needed}
-use Rattle.listpack.proofs.Spellings.{needed-pos, spelling-take, split_parts}
+use Rattle.std.proofs.Common.{arith}
+use Rattle.listpack.proofs.Spellings.{needed-pos, split_parts}
 use Rattle.listpack.proofs.encoding.split_spelling.Goals as goal
 
 pub returns-in_default-clause-none : goal.returns-in_default-clause-none

@@ -1,5 +1,4 @@
-use Rattle.std.proofs.Common.{◌≡◌, ◌++◌, ◌∙◌, ℕ, List, length}
-use Rattle.listpack.specs.Entry.{back_length, entry_of}
+use Rattle.std.proofs.Common.{◌∙◌}
 use Rattle.listpack.proofs.Regions.{stripped, not_stripped}
 use Rattle.listpack.proofs.entry.split_entry.Goals as goal
 

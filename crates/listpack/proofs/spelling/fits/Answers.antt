@@ -1,4 +1,4 @@
-use Rattle.std.proofs.Common.{◌≡◌, ◌<◌, ◌+◌, length, length-append, arith}
+use Rattle.std.proofs.Common.{length, length-append, arith}
 use Rattle.listpack.specs.Entry.{back_length}
 use Rattle.listpack.specs.Writing.{spelling}
 use Rattle.listpack.proofs.Writings.{element_short}

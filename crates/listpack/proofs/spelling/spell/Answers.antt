@@ -1,9 +1,9 @@
-use Rattle.std.proofs.Common.{◌≡◌, ◌++◌, ℕ, List, [], ap, sym, ◌∙◌, rules}
-use Rattle.std.specs.Prelude.{FitsSigned, Some, None, ℤ}
+use Rattle.std.proofs.Common.{◌++◌, ℕ, List, ap, sym, ◌∙◌, rules}
+use Rattle.std.specs.Prelude.{FitsSigned, Some, None}
 use Rattle.std.specs.Int.{w64}
 use Rattle.std.proofs.lemmas.List.{append-nil}
 use Rattle.std.proofs.lemmas.Int.{to_z-of_z}
-use Rattle.listpack.specs.Writing.{spelling, number_spelling}
+use Rattle.listpack.specs.Writing.{number_spelling}
 use Rattle.listpack.proofs.Writings.{read_some, read_none, spelling_as}
 use Rattle.listpack.proofs.spelling.spell.Goals as goal
 

@@ -1,6 +1,6 @@
 use Rattle.std.proofs.Common.{◌≡◌, ◌+◌, ◌-◌, ◌<◌, ◌≤◌, ℕ, List, [], length, ap, sym, take, ◌∙◌, get_or, arith, rules}
 use Rattle.listpack.specs.Entry.{back_length}
-use Rattle.listpack.specs.Pack.{IsPack, IsOffset, texts, offset_of, spellings_of, entries}
+use Rattle.listpack.specs.Pack.{IsPack, texts, offset_of, spellings_of}
 use Rattle.std.proofs.lemmas.List.{length-take-le}
 use Rattle.listpack.proofs.Offsets.{length-texts, length-offset, offset_next, ends_with}
 use Rattle.listpack.proofs.walks.Pack.before.Goals as goal

@@ -1,5 +1,4 @@
-use Rattle.std.proofs.Common.{◌≡◌, ◌+◌, ◌<◌, ◌≤◌, ℕ, List, [], length, arith, get_or, inl, inr}
-use Rattle.listpack.specs.Pack.{texts}
+use Rattle.std.proofs.Common.{arith}
 use Rattle.listpack.proofs.Offsets.{step_at}
 use Rattle.listpack.proofs.walks.Pack.entry_len.Goals as goal
 

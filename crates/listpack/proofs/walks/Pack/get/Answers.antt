@@ -1,4 +1,4 @@
-use Rattle.std.proofs.Common.{◌≡◌, ℕ, ap, sym, subst, ◌∙◌, get_or, length, List, arith}
+use Rattle.std.proofs.Common.{◌≡◌, ℕ, ap, sym, subst, ◌∙◌, get_or, List, arith}
 use Rattle.std.specs.Prelude.{IsTrue}
 use Rattle.listpack.specs.Element.{is_number, IsNumberByte}
 use Rattle.listpack.proofs.Offsets.{length-texts, first_byte}

@@ -1,4 +1,4 @@
-use Rattle.std.proofs.Common.{◌≡◌, ◌-◌, ◌<◌, ◌≤◌, ℕ, length, arith}
+use Rattle.std.proofs.Common.{◌-◌, ◌<◌, length, arith}
 use Rattle.listpack.specs.Pack.{texts}
 use Rattle.listpack.proofs.Offsets.{length-texts, offset_end, is_some}
 use Rattle.listpack.proofs.walks.Pack.last.Goals as goal

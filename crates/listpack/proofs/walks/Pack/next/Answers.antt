@@ -1,4 +1,4 @@
-use Rattle.std.proofs.Common.{◌≡◌, ◌+◌, ◌<◌, ◌≤◌, ℕ, List, [], length, arith, inl, inr}
+use Rattle.std.proofs.Common.{◌+◌, length, arith, inl, inr}
 use Rattle.std.proofs.lemmas.Bool.{cases_lt}
 use Rattle.listpack.specs.Pack.{texts}
 use Rattle.listpack.proofs.Offsets.{length-texts, offset_end, offset_inside}

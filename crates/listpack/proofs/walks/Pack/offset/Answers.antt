@@ -1,5 +1,4 @@
-use Rattle.std.proofs.Common.{◌≡◌, ℕ, ap, length, arith}
-use Rattle.listpack.specs.Pack.{offset_of}
+use Rattle.std.proofs.Common.{arith}
 use Rattle.listpack.proofs.Offsets.{length-offset}
 use Rattle.listpack.proofs.walks.Pack.offset.Goals as goal
 

@@ -1,6 +1,6 @@
-use Rattle.std.proofs.Common.{◌≡◌, ◌<◌, ◌≤◌, ℕ, length, arith, ap, inl, inr}
+use Rattle.std.proofs.Common.{◌≡◌, arith, ap, inl, inr}
 use Rattle.std.proofs.lemmas.Bool.{cases_lt}
-use Rattle.listpack.specs.Pack.{texts, offset_of}
+use Rattle.listpack.specs.Pack.{offset_of}
 use Rattle.listpack.proofs.Offsets.{offset_above}
 use Rattle.listpack.proofs.walks.Pack.prev.Goals as goal
 

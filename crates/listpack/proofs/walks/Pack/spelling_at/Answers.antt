@@ -1,5 +1,5 @@
-use Rattle.std.proofs.Common.{◌≡◌, ◌+◌, ◌-◌, ◌<◌, ◌≤◌, ℕ, List, [], length, arith, rules}
-use Rattle.listpack.specs.Pack.{IsPack, IsOffset, texts, offset_of, spellings_of}
+use Rattle.std.proofs.Common.{◌+◌, ◌<◌, ℕ, List, length, arith, rules}
+use Rattle.listpack.specs.Pack.{IsPack, IsOffset}
 use Rattle.listpack.proofs.Offsets.{length-texts, offset_inside, found_at, not_missing}
 use Rattle.listpack.proofs.walks.Pack.spelling_at.Goals as goal
 
