@@ -1,0 +1,8 @@
+//! Whole numbers as text: decimal text and score text.
+#![tactic(auto)]
+
+mod decimal;
+mod laws;
+
+pub use decimal::{Memory, print, read_i64, read_u64};
+pub use laws::printed_text_is_read_back;

@@ -1,0 +1,9 @@
+pub mod Backs
+pub mod Encodings
+pub mod Laws
+pub mod Offsets
+pub mod ReadBack
+pub mod Regions
+pub mod Repacking
+pub mod Spellings
+pub mod Writings

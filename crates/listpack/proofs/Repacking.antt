@@ -1,0 +1,238 @@
+-- Bytes put together anew are a listpack.
+use Rattle.std.proofs.Common.{◌≡◌, ◌≢◌, ℕ, suc, ◌+◌, ◌-◌, ◌^◌, ◌<◌, ◌≤◌, List, [], ◌∷◌, ◌++◌, length, take, drop, map, get_or, set, sym, ap, subst, ◌∙◌, inl, inr, arith}
+use Rattle.std.specs.List.{All, insert, remove}
+use Rattle.std.proofs.lemmas.Bool.{cases_eq}
+use Rattle.std.proofs.lemmas.Bool.Decides.{nat_tests}
+use Rattle.std.proofs.lemmas.List.{append_assoc, append-nil, take_at, drop_at, drop-drop, take-append-drop, length-append, length-take-le, length-drop, map-append, take-map, drop-map, map-set, get_or_at, set_split, length-set}
+use Rattle.std.proofs.lemmas.List.Concat.{flat_map-append}
+use Rattle.std.proofs.lemmas.List.Edits.{insert_end, length-insert, length-remove}
+use Rattle.std.proofs.lemmas.List.Elements.{All-nil, All-cons, All-append, All-take, All-drop}
+use Rattle.byteorder.specs.Endian.{little_number, little_bytes}
+use Rattle.byteorder.specs.Numbers.{length-bytes_low_first, little_number-reads_back}
+use Rattle.listpack.specs.Entry.{IsSpelling, text_of, entry_of, back_length}
+use Rattle.listpack.specs.Pack.{entries, total, told, region, last_byte, HasSpellings, IsPack, spellings_of, texts, offset_of}
+use Rattle.listpack.specs.Writing.{spelling, entry}
+use Rattle.listpack.specs.Edits.{IsEdited, one_more, one_less}
+use Rattle.listpack.proofs.Laws.{spellings_read, is_pack}
+use Rattle.listpack.proofs.Offsets.{length-texts, take-offset, drop-offset, offset_end}
+use Rattle.listpack.proofs.Writings.{element_short}
+use Rattle.listpack.proofs.ReadBack.{spelled}
+
+-- header, entries and last byte
+abbrev pub packed : ℕ → ℕ → List (List ℕ) → List ℕ
+packed n count spellings = little_bytes 4 n ++ (little_bytes 2 count ++ (entries spellings ++ 0xFF ∷ []))
+
+made : (n count : ℕ) (ys : List (List ℕ)) → All IsSpelling ys → n ≡ 7 + length (entries ys) → n < 2 ^ 32 → count < 65536 → (count ≢ 65535 → count ≡ length ys)
+    → HasSpellings (packed n count ys) ys × (told (packed n count ys) ≡ count)
+made n count ys each size small fits known =
+    let a = little_bytes 4 n in
+    let b = little_bytes 2 count in
+    let c = entries ys in
+    let end : List ℕ = 0xFF ∷ [] in
+    let bytes = packed n count ys in
+    let four = length-bytes_low_first 0 4 n in
+    let two = length-bytes_low_first 0 2 count in
+    let whole : length bytes ≡ n = omega (arith, size, four, two, length-append a (b ++ (c ++ end)), length-append b (c ++ end), length-append c end) in
+    let total_is : total bytes ≡ n = little_number-reads_back 4 n (b ++ (c ++ end)) (omega arith) in
+    let told_is : told bytes ≡ count = ap (little_number 2) (drop_at a (b ++ (c ++ end)) 4 four) ∙ little_number-reads_back 2 count (c ++ end) (omega arith) in
+    let front : bytes ≡ (a ++ b) ++ (c ++ end) = sym (append_assoc a b (c ++ end)) in
+    let six : length (a ++ b) ≡ 6 = omega (arith, four, two, length-append a b) in
+    let behind : drop 6 bytes ≡ c ++ end = ap (drop 6) front ∙ drop_at (a ++ b) (c ++ end) 6 six in
+    let part : region bytes ≡ c = ap (take (length bytes - 1 - 6)) behind ∙ take_at c end (length bytes - 1 - 6) (omega (arith, whole, size)) in
+    let last : last_byte bytes ≡ 0xFF =
+    ap (λ (x : List ℕ). get_or x (length bytes - 1) 0) (front ∙ sym (append_assoc (a ++ b) c end))
+    ∙ get_or_at ((a ++ b) ++ c) 0xFF [] 0 (length bytes - 1) (omega (arith, whole, size, six, length-append (a ++ b) c)) in (
+      record {
+        header = omega (arith, whole, size);
+        size = omega (arith, whole, total_is);
+        all_entries = part;
+        each = each;
+        ended = last;
+        count = λ no_mark. omega (arith, told_is, known (λ e. no_mark (told_is ∙ e)));
+      },
+      told_is,
+    )
+
+pub edited_as : (bytes : List ℕ) (n count : ℕ) (ys : List (List ℕ)) → bytes ≡ packed n count ys → All IsSpelling ys → n ≡ 7 + length (entries ys) → n < 2 ^ 32
+    → count < 65536 → (count ≢ 65535 → count ≡ length ys) → IsEdited bytes ys count
+edited_as bytes n count ys e each size small fits known =
+    let t = made n count ys each size small fits known in
+    let h : HasSpellings bytes ys = subst (λ (x : List ℕ). HasSpellings x ys) (sym e) t.0 in
+    record { pack = is_pack bytes ys h; entries = spellings_read bytes ys h; count_is = ap told e ∙ t.1 }
+
+-- the entries xs in the place of those from i to below j
+abbrev spliced : List (List ℕ) → ℕ → ℕ → List (List ℕ) → List (List ℕ)
+spliced ss i j xs = take i ss ++ (xs ++ drop j ss)
+
+entries_spliced : (ss xs : List (List ℕ)) (i j : ℕ) → entries (spliced ss i j xs) ≡ entries (take i ss) ++ (entries xs ++ entries (drop j ss))
+entries_spliced ss xs i j = flat_map-append entry_of (take i ss) (xs ++ drop j ss) ∙ ap (λ (x : List ℕ). entries (take i ss) ++ x) (flat_map-append entry_of xs (drop j ss))
+
+edited : (old inner new : List ℕ) (xs : List (List ℕ)) (i j count : ℕ) → IsPack old → All IsSpelling xs
+    → inner ≡ take (offset_of old i) old ++ (entries xs ++ drop (offset_of old j) old)
+    → new ≡ little_bytes 4 (length inner) ++ (little_bytes 2 count ++ drop 6 inner)
+    → length inner < 2 ^ 32 → count < 65536 → (count ≢ 65535 → count ≡ length (spliced (spellings_of old) i j xs))
+    → IsEdited new (spliced (spellings_of old) i j xs) count
+edited old inner new xs i j count p each cut_as put_as small fits known =
+    let ss = spellings_of old in
+    let a = entries (take i ss) in
+    let m = entries xs in
+    let b = entries (drop j ss) in
+    let end : List ℕ = 0xFF ∷ [] in
+    let header : 7 ≤ length old = p.header in
+    let six : length (take 6 old) ≡ 6 = length-take-le 6 old (omega arith) in
+    let whole : inner ≡ (take 6 old ++ a) ++ (m ++ (b ++ end)) =
+    cut_as ∙ ap (λ (x : List ℕ). x ++ (m ++ drop (offset_of old j) old)) (take-offset old i p) ∙ ap (λ (x : List ℕ). (take 6 old ++ a) ++ (m ++ x)) (drop-offset old j p) in
+    let all : a ++ (m ++ (b ++ end)) ≡ entries (spliced ss i j xs) ++ end =
+    ap (λ (x : List ℕ). a ++ x) (sym (append_assoc m b end)) ∙ sym (append_assoc a (m ++ b) end) ∙ ap (λ (x : List ℕ). x ++ end) (sym (entries_spliced ss xs i j)) in
+    let shape : inner ≡ take 6 old ++ (entries (spliced ss i j xs) ++ end) = whole ∙ append_assoc (take 6 old) a (m ++ (b ++ end)) ∙ ap (λ (x : List ℕ). take 6 old ++ x) all in
+    let behind : drop 6 inner ≡ entries (spliced ss i j xs) ++ end = ap (drop 6) shape ∙ drop_at (take 6 old) (entries (spliced ss i j xs) ++ end) 6 six in
+    let size : length inner ≡ 7 + length (entries (spliced ss i j xs)) =
+    omega (arith, ap length shape, six, length-append (take 6 old) (entries (spliced ss i j xs) ++ end), length-append (entries (spliced ss i j xs)) end) in
+    let made_of : All IsSpelling (spliced ss i j xs) =
+    All-append IsSpelling (take i ss) (xs ++ drop j ss) (All-take IsSpelling i ss p.each) (All-append IsSpelling xs (drop j ss) each (All-drop IsSpelling j ss p.each)) in
+    edited_as new (length inner) count (spliced ss i j xs) (put_as ∙ ap (λ (x : List ℕ). little_bytes 4 (length inner) ++ (little_bytes 2 count ++ x)) behind) made_of size small fits known
+
+one_spelled : (text : List ℕ) → length text < 2 ^ 32 → All IsSpelling (spelling text ∷ [])
+one_spelled text h = All-cons IsSpelling (spelling text) [] (spelled text h).0 (All-nil IsSpelling)
+
+more_known : (old : List ℕ) (count : ℕ) → IsPack old → count ≡ one_more (told old) → count ≢ 65535 → count ≡ length (spellings_of old) + 1
+more_known old count p e no_mark =
+    let mark : told old ≢ 65535 = λ m. no_mark (omega (arith, e, m)) in
+    let k = p.count mark in
+    omega (arith, e, k, no_mark)
+
+-- a count that stays not told, and one that is told
+marked : (n : ℕ) → n ≡ 65535 → one_less n ≡ n
+marked n m = grind (arith, nat_tests)
+
+unmarked : (n : ℕ) → n ≢ 65535 → one_less n ≡ n - 1
+unmarked n m = grind (arith, nat_tests)
+
+pub count_stays : (n mark count : ℕ) → n ≡ mark → n ≡ 65535 → count ≡ n → count ≡ one_less mark
+count_stays n mark count e m same = same ∙ sym (marked n m) ∙ ap one_less e
+
+pub count_falls : (n mark count : ℕ) → n ≡ mark → n ≢ 65535 → count ≡ n - 1 → count ≡ one_less mark
+count_falls n mark count e m less = less ∙ sym (unmarked n m) ∙ ap one_less e
+
+less_known : (old : List ℕ) (count : ℕ) → IsPack old → 0 < length (spellings_of old) → count ≡ one_less (told old) → count ≢ 65535 → count + 1 ≡ length (spellings_of old)
+less_known old count p some e no_mark = elim (cases_eq (told old) 65535) [
+  | inl mark ↦ absurd (no_mark (e ∙ marked (told old) mark ∙ mark))
+  | inr known ↦ let k = p.count known in omega (arith, e, unmarked (told old) known, k)
+]
+
+one_less-small : (n : ℕ) → n < 65536 → one_less n < 65536
+one_less-small n h = grind (arith, nat_tests)
+
+pub inserted : (old inner new text : List ℕ) (i count : ℕ) → IsPack old → i ≤ length (texts old) → length text < 2 ^ 32
+    → inner ≡ take (offset_of old i) old ++ (entry text ++ drop (offset_of old i) old)
+    → new ≡ little_bytes 4 (length inner) ++ (little_bytes 2 count ++ drop 6 inner)
+    → length inner < 2 ^ 32 → count ≡ one_more (told old) → IsEdited new (insert (spellings_of old) i (spelling text)) (one_more (told old))
+inserted old inner new text i count p h short cut_as put_as small e =
+    let one : entries (spelling text ∷ []) ≡ entry text = append-nil (entry text) in
+    let room : count < 65536 = omega (arith, e) in
+    subst (λ (k : ℕ). IsEdited new (insert (spellings_of old) i (spelling text)) k) e
+    (edited old inner new (spelling text ∷ []) i i count p (one_spelled text short)
+    (cut_as ∙ ap (λ (x : List ℕ). take (offset_of old i) old ++ (x ++ drop (offset_of old i) old)) (sym one))
+    put_as small room
+    (λ no_mark. omega (arith, more_known old count p e no_mark, length-insert (spellings_of old) i (spelling text) (omega (arith, length-texts old)))))
+
+pub appended : (old inner new text : List ℕ) (at count : ℕ) → IsPack old → length text < 2 ^ 32 → at ≡ length old - 1
+    → inner ≡ take at old ++ (entry text ++ drop at old)
+    → new ≡ little_bytes 4 (length inner) ++ (little_bytes 2 count ++ drop 6 inner)
+    → length inner < 2 ^ 32 → count ≡ one_more (told old) → IsEdited new (spellings_of old ++ spelling text ∷ []) (one_more (told old))
+appended old inner new text at count p short place cut_as put_as small e =
+    let n = length (spellings_of old) in
+    let end : at ≡ offset_of old n = omega (arith, place, offset_end old n p (omega arith)) in
+    subst (λ (x : List (List ℕ)). IsEdited new x (one_more (told old))) (insert_end (spellings_of old) (spelling text))
+    (inserted old inner new text n count p (omega (arith, length-texts old)) short
+    (cut_as ∙ ap (λ (k : ℕ). take k old ++ (entry text ++ drop k old)) end) put_as small e)
+
+-- the count after a replacement
+pub replaced : (old inner new text : List ℕ) (i count : ℕ) → IsPack old → i < length (texts old) → length text < 2 ^ 32
+    → inner ≡ take (offset_of old i) old ++ (entry text ++ drop (offset_of old (i + 1)) old)
+    → new ≡ little_bytes 4 (length inner) ++ (little_bytes 2 count ++ drop 6 inner)
+    → length inner < 2 ^ 32 → count < 65536 → count ≡ told old → IsEdited new (set (spellings_of old) i (spelling text)) (told old)
+replaced old inner new text i count p h short cut_as put_as small room e =
+    let one : entries (spelling text ∷ []) ≡ entry text = append-nil (entry text) in
+    let ss = spellings_of old in
+    let inside : i < length ss = omega (arith, length-texts old) in
+    let next : i + 1 ≡ suc i = omega arith in
+    let shape : spliced ss i (i + 1) (spelling text ∷ []) ≡ set ss i (spelling text) =
+    ap (λ (k : ℕ). take i ss ++ (spelling text ∷ drop k ss)) next ∙ sym (set_split ss i (spelling text) inside) in
+    subst (λ (k : ℕ). IsEdited new (set ss i (spelling text)) k) e
+    (subst (λ (x : List (List ℕ)). IsEdited new x count) shape
+    (edited old inner new (spelling text ∷ []) i (i + 1) count p (one_spelled text short)
+    (cut_as ∙ ap (λ (x : List ℕ). take (offset_of old i) old ++ (x ++ drop (offset_of old (i + 1)) old)) (sym one))
+    put_as small room
+    (λ no_mark. omega (arith, e, p.count (λ m. no_mark (e ∙ m)), ap length shape, length-set ss i (spelling text)))))
+
+pub taken_out : (old inner new : List ℕ) (i count : ℕ) → IsPack old → i < length (texts old)
+    → inner ≡ take (offset_of old i) old ++ drop (offset_of old (i + 1)) old
+    → new ≡ little_bytes 4 (length inner) ++ (little_bytes 2 count ++ drop 6 inner)
+    → length inner < 2 ^ 32 → count < 65536 → count ≡ one_less (told old) → IsEdited new (remove (spellings_of old) i) (one_less (told old))
+taken_out old inner new i count p h cut_as put_as small room e =
+    let ss = spellings_of old in
+    let inside : i < length ss = omega (arith, length-texts old) in
+    let next : i + 1 ≡ suc i = omega arith in
+    let shape : spliced ss i (i + 1) [] ≡ remove ss i = ap (λ (k : ℕ). take i ss ++ drop k ss) next in
+    subst (λ (k : ℕ). IsEdited new (remove ss i) k) e
+    (subst (λ (x : List (List ℕ)). IsEdited new x count) shape
+    (edited old inner new [] i (i + 1) count p (All-nil IsSpelling) cut_as put_as small room
+    (λ no_mark. omega (arith, less_known old count p (omega arith) e no_mark, ap length shape, length-remove ss i inside))))
+
+-- an entry put in, and then the one behind it taken out
+pub exchanged : (old first second e : List ℕ) (at size behind : ℕ) → at ≤ length old → first ≡ take at old ++ (e ++ drop at old) → behind ≡ at + length e
+    → second ≡ take behind first ++ drop (behind + size) first → second ≡ take at old ++ (e ++ drop (at + size) old)
+exchanged old first second e at size behind inside one place two =
+    let whole : first ≡ (take at old ++ e) ++ drop at old = one ∙ sym (append_assoc (take at old) e (drop at old)) in
+    let long : length (take at old ++ e) ≡ behind = omega (arith, place, length-append (take at old) e, length-take-le at old inside) in
+    let front : take behind first ≡ take at old ++ e = ap (take behind) whole ∙ take_at (take at old ++ e) (drop at old) behind long in
+    let rest : drop (behind + size) first ≡ drop (at + size) old =
+    sym (drop-drop size behind first) ∙ ap (drop size) (ap (drop behind) whole ∙ drop_at (take at old ++ e) (drop at old) behind long) ∙ drop-drop size at old in
+    two ∙ ap (λ (x : List ℕ). x ++ drop (behind + size) first) front ∙ ap (λ (x : List ℕ). (take at old ++ e) ++ x) rest ∙ append_assoc (take at old) e (drop (at + size) old)
+
+-- the texts of spellings that were changed
+pub texts_inserted : (old new text : List ℕ) (i count : ℕ) → IsEdited new (insert (spellings_of old) i (spelling text)) count → length text < 2 ^ 32 → texts new ≡ insert (texts old) i text
+texts_inserted old new text i count t short =
+    let ss = spellings_of old in
+    let s = spelling text in
+    ap (map text_of) t.entries ∙ map-append text_of (take i ss) (s ∷ drop i ss)
+    ∙ ap (λ (x : List (List ℕ)). x ++ (text_of s ∷ map text_of (drop i ss))) (sym (take-map text_of i ss))
+    ∙ ap (λ (x : List (List ℕ)). take i (texts old) ++ (text_of s ∷ x)) (sym (drop-map text_of i ss))
+    ∙ ap (λ (x : List ℕ). take i (texts old) ++ (x ∷ drop i (texts old))) (spelled text short).1
+
+pub texts_appended : (old new text : List ℕ) (count : ℕ) → IsEdited new (spellings_of old ++ spelling text ∷ []) count → length text < 2 ^ 32 → texts new ≡ texts old ++ text ∷ []
+texts_appended old new text count t short =
+    ap (map text_of) t.entries ∙ map-append text_of (spellings_of old) (spelling text ∷ []) ∙ ap (λ (x : List ℕ). texts old ++ x ∷ []) (spelled text short).1
+
+pub texts_replaced : (old new text : List ℕ) (i count : ℕ) → IsEdited new (set (spellings_of old) i (spelling text)) count → length text < 2 ^ 32 → texts new ≡ set (texts old) i text
+texts_replaced old new text i count t short =
+    ap (map text_of) t.entries ∙ map-set text_of (spellings_of old) i (spelling text) ∙ ap (set (texts old) i) (spelled text short).1
+
+pub texts_removed : (old new : List ℕ) (i count : ℕ) → IsEdited new (remove (spellings_of old) i) count → texts new ≡ remove (texts old) i
+texts_removed old new i count t =
+    let ss = spellings_of old in
+    ap (map text_of) t.entries ∙ map-append text_of (take i ss) (drop (suc i) ss)
+    ∙ ap (λ (x : List (List ℕ)). x ++ map text_of (drop (suc i) ss)) (sym (take-map text_of i ss))
+    ∙ ap (λ (x : List (List ℕ)). take i (texts old) ++ x) (sym (drop-map text_of (suc i) ss))
+
+pub element_fits : (pack text : List ℕ) → length pack + length (entry text) < 2 ^ 32 → length text < 2 ^ 32
+element_fits pack text h = element_short text (omega (arith, h, length-append (spelling text) (back_length (length (spelling text)))))
+
+-- a list into which an entry was put
+pub length_put_is : (old inner text : List ℕ) (at : ℕ) → inner ≡ take at old ++ (entry text ++ drop at old) → length inner ≡ length old + length (entry text)
+length_put_is old inner text at e =
+    let whole = ap length (take-append-drop at old) in
+    omega (arith, ap length e, length-append (take at old) (entry text ++ drop at old), length-append (entry text) (drop at old), whole, length-append (take at old) (drop at old))
+
+pub length-put : (old inner text : List ℕ) (at : ℕ) → inner ≡ take at old ++ (entry text ++ drop at old) → length old + length (entry text) < 2 ^ 32 → length inner < 2 ^ 32
+length-put old inner text at e h = omega (arith, length_put_is old inner text at e, h)
+
+-- and out of which another was taken
+pub length-exchanged : (old inner text : List ℕ) (at size : ℕ) → inner ≡ take at old ++ (entry text ++ drop (at + size) old) → length old + length (entry text) < 2 ^ 32 → at + size ≤ length old → length inner < 2 ^ 32
+length-exchanged old inner text at size e h inside =
+    omega (arith, ap length e, length-append (take at old) (entry text ++ drop (at + size) old), length-append (entry text) (drop (at + size) old), length-take-le at old (omega arith), length-drop (at + size) old)
+
+pub length-cut : (old inner : List ℕ) (at size : ℕ) → inner ≡ take at old ++ drop (at + size) old → at + size ≤ length old → length old < 2 ^ 32 → length inner < 2 ^ 32
+length-cut old inner at size e inside h =
+    omega (arith, ap length e, length-append (take at old) (drop (at + size) old), length-take-le at old (omega arith), length-drop (at + size) old)

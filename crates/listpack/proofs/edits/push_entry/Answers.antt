@@ -1,0 +1,10 @@
+use Rattle.std.proofs.Common.{arith, length, length-append}
+use Rattle.listpack.specs.Entry.{back_length}
+use Rattle.listpack.specs.Writing.{spelling}
+use Rattle.listpack.proofs.Writings.{element_short}
+use Rattle.listpack.proofs.edits.push_entry.Goals as goal
+
+pub spell-requires : goal.spell-requires
+spell-requires c =
+    let s = spelling c.args.element.now in
+    element_short c.args.element.now (omega (arith, c.requires, length-append s (back_length (length s))))

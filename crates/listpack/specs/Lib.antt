@@ -1,0 +1,6 @@
+pub mod Edits
+pub mod Element
+pub mod Entry
+pub mod Pack
+pub mod View
+pub mod Writing

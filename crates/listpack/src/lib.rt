@@ -1,0 +1,23 @@
+//! Packed lists: the listpack format of Redis.
+#![tactic(auto)]
+
+mod back;
+mod checking;
+mod edits;
+mod encoding;
+mod entry;
+mod fault;
+mod header;
+mod spelling;
+mod walks;
+
+pub use back::back_lengths_at_limits;
+pub use checking::{check, exactly_one, known};
+pub use edits::{Memory, append, empty, insert, remove, replace};
+pub use encoding::Element;
+pub use fault::PackFault;
+pub use spelling::{fits, spelling_is_read_back};
+pub use walks::Pack;
+
+#[cfg(test)]
+mod tests;

@@ -1,0 +1,161 @@
+// A checked listpack, and the walks over its entries.
+
+ghost use Rattle.std.specs.Prelude.{◌≡◌, ◌+◌, ◌-◌, ◌<◌, ◌≤◌, ◌^◌, ◌↔◌, ℕ, List, [], length, get_or, slice_index, IsTrue, MatchOption, IfSome};
+ghost use Rattle.listpack.specs.Entry.{IsSpelling};
+ghost use Rattle.listpack.specs.Element.{element_text, is_number, IsNumberByte};
+ghost use Rattle.listpack.specs.Pack.{IsPack, IsOffset, IsAt, texts, spellings_of, offset_of};
+
+use crate::back::{back_length_of, entry_len_before};
+use crate::encoding::{Element, element_of, split_spelling};
+use crate::entry::count_entries;
+use crate::header::{NOT_TOLD, told_count};
+
+/// Bytes that are a listpack.
+#[derive(Clone, Copy, Debug)]
+pub struct Pack<'a> {
+    pub(crate) bytes: &'a [u8],
+    ghost packed: { IsPack bytes.now },
+    ghost small: { length bytes.now < 2 ^ 32 },
+}
+
+impl<'a> Pack<'a> {
+    ghost use Rattle.listpack.specs.View.{bytes_of, list_of};
+
+    /// The bytes of the whole listpack.
+    pub fn bytes(&self) -> &'a [u8]
+        ensures value { result.now ≡ bytes_of self.now }
+        ensures pack { IsPack result.now }
+    {
+        self.bytes
+    }
+
+    /// The number of elements. It takes a pass over the bytes where the header does not tell it.
+    pub fn len(&self) -> usize
+        ensures { result ≡ length (list_of self.now) }
+    {
+        let told = told_count(self.bytes);
+        if told != NOT_TOLD {
+            return usize::from(told);
+        }
+        match count_entries(&self.bytes[6..self.bytes.len() - 1]) {
+            Ok(count) => count,
+            Err(_) => unreachable!(),
+        }
+    }
+
+    pub fn is_empty(&self) -> bool
+        ensures { IsTrue result ↔ (length (list_of self.now) ≡ 0) }
+    {
+        self.bytes.len() == 7
+    }
+
+    // Encoding and content of the entry at an offset.
+    fn spelling_at(&self, at: usize) -> &'a [u8]
+        requires { IsOffset (bytes_of self.now) at }
+        ensures own { IsSpelling result.now }
+        ensures value { (i : ℕ) → IsAt (bytes_of self.now) i at → result.now ≡ get_or (spellings_of (bytes_of self.now)) i [] }
+    {
+        match split_spelling(&self.bytes[at..self.bytes.len() - 1]) {
+            Some((spelling, _)) => spelling,
+            None => unreachable!(),
+        }
+    }
+
+    // The offset of the entry that ends at `end`.
+    fn before(&self, end: usize) -> usize
+        requires { (i : ℕ) × (0 < i) × (i ≤ length (list_of self.now)) × (end ≡ offset_of (bytes_of self.now) i) }
+        ensures { (i : ℕ) → 0 < i → i ≤ length (list_of self.now) → end ≡ offset_of (bytes_of self.now) i
+            → result ≡ offset_of (bytes_of self.now) (i - 1) }
+    {
+        end - entry_len_before(&self.bytes[..end])
+    }
+
+    /// The offset of the first entry.
+    pub fn first(&self) -> Option<usize>
+        ensures place { MatchOption result (length (list_of self.now) ≡ 0) (λ at. IsAt (bytes_of self.now) 0 at) }
+        ensures offset { IfSome result (λ to. IsOffset (bytes_of self.now) to) }
+    {
+        if self.is_empty() { None } else { Some(6) }
+    }
+
+    /// The offset of the last entry.
+    pub fn last(&self) -> Option<usize>
+        ensures place { MatchOption result (length (list_of self.now) ≡ 0) (λ at. IsAt (bytes_of self.now) (length (list_of self.now) - 1) at) }
+        ensures offset { IfSome result (λ to. IsOffset (bytes_of self.now) to) }
+    {
+        if self.is_empty() {
+            None
+        } else {
+            Some(self.before(self.bytes.len() - 1))
+        }
+    }
+
+    // How many bytes the entry at an offset takes.
+    pub(crate) fn entry_len(&self, at: usize) -> usize
+        requires { IsOffset (bytes_of self.now) at }
+        ensures next { (i : ℕ) → IsAt (bytes_of self.now) i at → offset_of (bytes_of self.now) (i + 1) ≡ at + result }
+        ensures inside { at + result < length (bytes_of self.now) }
+    {
+        let size = self.spelling_at(at).len();
+        size + back_length_of(size).len()
+    }
+
+    // The offset of the entry at an index, or behind all entries that of the last byte.
+    pub(crate) fn offset(&self, index: usize) -> usize
+        requires { index ≤ length (list_of self.now) }
+        ensures place { result ≡ offset_of (bytes_of self.now) index }
+        ensures inside { result < length (bytes_of self.now) }
+    {
+        let mut at = 6;
+        for _ in 0..index {
+            at += self.entry_len(at);
+        }
+        at
+    }
+
+    /// The offset of the entry at an index. It takes a step for each entry before it.
+    pub fn seek(&self, index: usize) -> Option<usize>
+        ensures place { MatchOption result (length (list_of self.now) ≤ index) (λ at. IsAt (bytes_of self.now) index at) }
+        ensures offset { IfSome result (λ to. IsOffset (bytes_of self.now) to) }
+    {
+        if index < self.len() {
+            Some(self.offset(index))
+        } else {
+            None
+        }
+    }
+
+    /// The offset of the entry behind the one at `at`.
+    pub fn next(&self, at: usize) -> Option<usize>
+        requires { IsOffset (bytes_of self.now) at }
+        ensures place { (i : ℕ) → IsAt (bytes_of self.now) i at
+            → MatchOption result (i + 1 ≡ length (list_of self.now)) (λ to. IsAt (bytes_of self.now) (i + 1) to) }
+        ensures offset { IfSome result (λ to. IsOffset (bytes_of self.now) to) }
+    {
+        let to = at + self.entry_len(at);
+        if to + 1 == self.bytes.len() {
+            None
+        } else {
+            Some(to)
+        }
+    }
+
+    /// The offset of the entry before the one at `at`.
+    pub fn prev(&self, at: usize) -> Option<usize>
+        requires { IsOffset (bytes_of self.now) at }
+        ensures place { (i : ℕ) → IsAt (bytes_of self.now) i at
+            → MatchOption result (i ≡ 0) (λ to. (0 < i) × IsAt (bytes_of self.now) (i - 1) to) }
+        ensures offset { IfSome result (λ to. IsOffset (bytes_of self.now) to) }
+    {
+        if at == 6 { None } else { Some(self.before(at)) }
+    }
+
+    /// The element at an offset: a part of the bytes, or the number that stands there.
+    pub fn get(&self, at: usize) -> Element<'a>
+        requires { IsOffset (bytes_of self.now) at }
+        ensures text { (i : ℕ) → IsAt (bytes_of self.now) i at → element_text result ≡ get_or (list_of self.now) i [] }
+        ensures number { IsTrue (is_number result) ↔ IsNumberByte (slice_index (bytes_of self.now) at) }
+    {
+        element_of(self.spelling_at(at))
+    }
+}
