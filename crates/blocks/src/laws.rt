@@ -1,6 +1,6 @@
-ghost use Rattle.std.specs.Prelude.{◌≡◌, ◌≢◌, ℕ, ◌<◌, ◌⊎◌, Some, None, [], ◌∷◌, IfOk, OnErr, IsSome, IsTrue, false, replicate};
+ghost use Rattle.std.specs.Prelude.{◌≡◌, ◌≢◌, ℕ, ◌<◌, ◌⊎◌, Some, None, [], ◌∷◌, IfOk, OnErr, IsSome, IsTrue, false, replicate, length, ◌+◌, ◌≤◌};
 ghost use Rattle.blocks.specs.declared.BlockRef.{BlockRef};
-ghost use Rattle.blocks.specs.Blocks.{with_block, Changes, Served};
+ghost use Rattle.blocks.specs.Blocks.{with_block, overwritten, Changes, Served};
 ghost use Rattle.blocks.specs.Slabs.{wants, Calmer, Swept, slabs_of, used_of, needed};
 ghost use Rattle.blocks.specs.Laws.{ChangesLaws, ServedLaws};
 
@@ -18,17 +18,25 @@ pub fn served_laws<B: BlockStore>(_store: &B)
     ensures { ServedLaws B.blocks B.heap B.step }
 {}
 
-/// Law: what is placed and written is read back, and given back it leaves each block as it was. The
-/// answer is whether the bytes read are those written.
-pub fn written_is_read<B: BlockStore>(store: &mut B, bytes: &[u8]) -> Result<bool, Memory>
-    ensures read { IfOk result (λ same. IsTrue same) }
-    ensures blocks { B.blocks store.new ≡ B.blocks store.old }
+/// Law: what is written into a placed block is read back, and no other block changes. The answer is
+/// the block, and whether the bytes read are those written.
+pub fn written_is_read<B: BlockStore>(
+    store: &mut B,
+    len: usize,
+    from: usize,
+    piece: &[u8],
+) -> Result<(BlockRef, bool), Memory>
+    requires { from + length piece.now ≤ len }
+    ensures read { IfOk result (λ answer. IsTrue answer.1) }
+    ensures fresh { IfOk result (λ answer. B.blocks store.old answer.0 ≡ None) }
+    ensures placed { IfOk result (λ answer. B.blocks store.new ≡ with_block (B.blocks store.old) answer.0 (Some (overwritten (replicate len 0) from piece.now))) }
     ensures served { Served B.step store.old store.new }
+    ensures err { OnErr result (B.blocks store.new ≡ B.blocks store.old) }
 {
-    let at = put_block(store, bytes)?;
-    let same = store.bytes(at) == bytes;
-    store.give_back(at);
-    Ok(same)
+    let at = store.place(len)?;
+    store.write(at, from, piece);
+    let same = &store.bytes(at)[from..from + piece.len()] == piece;
+    Ok((at, same))
 }
 
 /// Law: a block that is given back and one placed after it never share a reference with a third.

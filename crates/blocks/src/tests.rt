@@ -47,7 +47,9 @@ fn laws_hold_of_a_plain_store(rt: HostRuntime) -> Result<(), Fail> {
     changes_laws();
     served_laws(&store);
     let other = put_block(&mut store, b"other")?;
-    assert!(rt; written_is_read(&mut store, b"some bytes")?);
+    let (written, same) = written_is_read(&mut store, 6, 2, b"abc")?;
+    assert!(rt; same);
+    assert_eq!(rt; store.bytes(written), b"\0\0abc\0".as_slice());
     let at = put_block(&mut store, b"old")?;
     let new = placed_anew(&mut store, at, 2)?;
     assert_ne!(rt; new, other);
