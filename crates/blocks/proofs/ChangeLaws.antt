@@ -1,5 +1,5 @@
 -- The laws of changes, together.
-use Rattle.std.proofs.Common.{◌≡◌, ℕ, ◌+◌, ◌≤◌, ◌<◌, List, ◌++◌, arith}
+use Rattle.std.proofs.Common.{◌≡◌, List, ◌++◌, arith}
 use Rattle.blocks.specs.declared.BlockRef.{BlockRef}
 use Rattle.blocks.specs.Blocks.{Blocks, times, IsIn, Changes, Owned, Owns}
 use Rattle.blocks.specs.Laws.{ChangesLaws}

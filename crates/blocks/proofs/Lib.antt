@@ -1,3 +1,4 @@
+pub mod Live
 pub mod Refs
 pub mod PlainLemmas
 pub mod Times

@@ -1,12 +1,11 @@
 -- What a plain store holds after a change of one place.
-use Rattle.std.proofs.Common.{◌≡◌, ◌≢◌, ℕ, Bool, true, false, cond, ◌&&◌, List, [], ◌∷◌, zero, suc, unwrap_or, map, Option, Some, None, IsSome, eqb, get_or, length, slice_set, ◌<◌, get_or-set_same, get_or-set_other, refl, sym, ap, ◌∙◌, subst, arith, inl, inr}
+use Rattle.std.proofs.Common.{◌≡◌, ℕ, Bool, true, false, cond, ◌&&◌, List, [], ◌∷◌, zero, suc, unwrap_or, map, Option, Some, None, IsSome, eqb, get_or, length, slice_set, ◌<◌, get_or-set_same, get_or-set_other, refl, sym, ap, ◌∙◌, arith}
 use Rattle.std.proofs.Math.ListN.{get_or-map}
-use Rattle.std.proofs.lemmas.Bool.{eqb-true, eq-eqb, eqb-false, and_parts, and_from, and_left, cases_Bool, cond-true, cond-false}
-use Rattle.std.proofs.lemmas.Bool.Decides.{eqb_tells}
+use Rattle.std.proofs.lemmas.Bool.{eqb-true, eq-eqb, eqb-false, cond-true}
 use Rattle.std.specs.Global.{Vec}
 use Rattle.slab.specs.Slab.{Slab, Updates, with_value}
 use Rattle.blocks.specs.declared.BlockRef.{BlockRef}
-use Rattle.blocks.specs.Blocks.{ref_eq, Blocks, with_block, bytes_at, overwritten}
+use Rattle.blocks.specs.Blocks.{with_block, bytes_at, overwritten}
 use Rattle.blocks.specs.Plain.{bytes_of, blocks_at}
 
 place_of : (s : Slab (Vec ℕ)) (n : ℕ) → get_or (map bytes_of s.slots) n None ≡ bytes_of (get_or s.slots n None)

@@ -1,15 +1,15 @@
 -- A pass over a store's slabs.
-use Rattle.std.specs.Prelude.{◌≡◌, ℕ, zero, suc, ◌+◌, ◌*◌, ◌-◌, ◌/◌, ◌<◌, ◌≤◌, ◌≢◌, Bool, true, false, nat_lt, nat_le, length, ◌==◌, ◌&&◌, not, List, [], ◌∷◌, Option, Some, None, IsSome, sum_by, count_by, map, slice_index_or, refl, if◌then◌else◌, ◌⊎◌}
-use Rattle.std.proofs.Common.{arith, eqb, cond, ap, ◌∙◌, sym, subst, inl, inr, get_or}
-use Rattle.std.proofs.lemmas.Bool.{cases_eq, cases_lt, cases_Bool, and_parts}
+use Rattle.std.specs.Prelude.{◌≡◌, ℕ, zero, suc, ◌+◌, ◌*◌, ◌-◌, ◌/◌, ◌<◌, ◌≤◌, ◌≢◌, Bool, true, false, nat_lt, nat_le, length, ◌==◌, ◌&&◌, not, List, [], ◌∷◌, Option, Some, None, IsSome, sum_by, count_by, map, slice_index_or, refl, ◌⊎◌}
+use Rattle.std.proofs.Common.{arith, cond, ap, ◌∙◌, sym, subst, inl, inr, get_or}
+use Rattle.std.proofs.lemmas.Bool.{cases_eq, cases_lt, and_parts}
 use borrow.Author.Tests.{ltb-true, leb-true}
 use Rattle.std.proofs.lemmas.Grind.{common_steps}
 use Rattle.std.proofs.lemmas.List.Sums.{sum_by-cons}
 use Rattle.blocks.specs.declared.BlockRef.{BlockRef}
-use Rattle.blocks.specs.Blocks.{Blocks, live}
+use Rattle.blocks.specs.Blocks.{Blocks}
 use Rattle.blocks.proofs.Change.{cases_live}
 use Rattle.blocks.proofs.Sums.{count_cons, sum_two}
-use Rattle.blocks.specs.Slabs.{SlabUse, Heap, per_slab, is_of, is_kept, used_in, waiting_in, spare_in, slabs_of, kept_of, used_of, waiting_of, spare_of, needed, wants, is_other, Calmer, released, ended, IsSoundHeap, Swept, Begun, Moves, one_fewer, one_more_in, unmarked, slab_at, sizes, size_of, blocks_in}
+use Rattle.blocks.specs.Slabs.{SlabUse, Heap, per_slab, is_of, is_kept, used_in, waiting_in, spare_in, slabs_of, kept_of, used_of, waiting_of, spare_of, needed, wants, is_other, Calmer, released, ended, IsSoundHeap, Swept, Begun, Moves, one_fewer, one_more_in, unmarked, slab_at, sizes, blocks_in}
 
 pub Calmer-same : (h : Heap) → Calmer h h
 Calmer-same h = record { passing = refl; calm = λ r e. e; kept = λ c. refl; used = λ c. refl }

@@ -1,5 +1,5 @@
 -- What a block holds after it was placed and written whole.
-use Rattle.std.proofs.Common.{◌≡◌, ◌∙◌, ap, ℕ, ◌+◌, ◌≤◌, List, [], ◌++◌, length, take, drop, Option, Some, None, unwrap_or, refl, sym, replicate, zero, suc, ◌-◌, arith, true, nat_eq, append-nil}
+use Rattle.std.proofs.Common.{◌≡◌, ◌∙◌, ap, ℕ, ◌+◌, ◌≤◌, List, [], length, take, drop, Some, unwrap_or, sym, replicate, ◌-◌, arith, true, nat_eq}
 use Rattle.std.proofs.lemmas.Grind.{common_steps}
 use Rattle.std.proofs.lemmas.Cmp.{nat_list_eq_equiv}
 use lib.Pointwise.{pointwise}

@@ -1,5 +1,5 @@
 -- What a store of blocks holds, and what calls on it may change.
-use Rattle.std.specs.Prelude.{◌≡◌, ℕ, ◌+◌, Bool, true, false, ◌==◌, ◌&&◌, List, Option, Some, None, is_some, IsSome, ◌≤◌, ◌<◌, ◌∷◌, take, drop, length, ◌++◌, [], unwrap_or, if◌then◌else◌}
+use Rattle.std.specs.Prelude.{◌≡◌, ℕ, ◌+◌, Bool, ◌==◌, ◌&&◌, List, Option, None, is_some, IsSome, ◌≤◌, ◌<◌, ◌∷◌, take, drop, length, ◌++◌, [], unwrap_or, if◌then◌else◌}
 use Rattle.blocks.specs.declared.BlockRef.{BlockRef}
 
 -- both references name one block

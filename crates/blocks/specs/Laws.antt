@@ -1,7 +1,7 @@
 -- Laws of changes and of what a store was served.
-use Rattle.std.specs.Prelude.{◌≡◌, ℕ, ◌+◌, ◌≤◌, ◌<◌, List, ◌++◌, Option, None, IsSome}
+use Rattle.std.specs.Prelude.{◌≡◌, List, ◌++◌}
 use Rattle.blocks.specs.declared.BlockRef.{BlockRef}
-use Rattle.blocks.specs.Blocks.{Blocks, times, IsIn, IsOut, Changes, Owned, Owns, Served}
+use Rattle.blocks.specs.Blocks.{Blocks, IsIn, Changes, Owned, Owns, Served}
 use Rattle.blocks.specs.Slabs.{Heap}
 use Rattle.blocks.specs.Steps.{IsStep}
 

@@ -1,7 +1,6 @@
 -- What a plain store holds.
 use Rattle.std.specs.Prelude.{ℕ, Bool, List, [], Option, Some, None, slice_index_or, if◌then◌else◌, ◌==◌}
 use Rattle.std.specs.Global.{Vec}
-use Rattle.blocks.specs.declared.BlockRef.{BlockRef}
 use Rattle.blocks.specs.Blocks.{Blocks}
 use Rattle.blocks.specs.Slabs.{Heap}
 use Rattle.blocks.specs.Steps.{IsStep}

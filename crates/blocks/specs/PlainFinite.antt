@@ -1,6 +1,6 @@
 -- A plain store has finitely many blocks, and no slab to count.
-use Rattle.std.specs.Prelude.{◌≡◌, ℕ, zero, suc, ◌+◌, ◌≤◌, ◌<◌, Bool, true, false, List, [], ◌∷◌, length, Option, Some, None, IsSome, slice_index_or, ◌==◌, refl, if◌then◌else◌}
-use Rattle.std.proofs.Common.{arith, eqb, cond, ap, ◌∙◌, sym, subst, inl, inr}
+use Rattle.std.specs.Prelude.{◌≡◌, ℕ, zero, suc, ◌<◌, Bool, true, false, List, [], ◌∷◌, length, Option, Some, None, IsSome, slice_index_or, refl}
+use Rattle.std.proofs.Common.{arith, eqb, cond, sym, inl, inr}
 use Rattle.std.proofs.lemmas.Bool.{eqb-true, eq-eqb, cond-true, and_from, cases_eq}
 use Rattle.blocks.specs.declared.BlockRef.{BlockRef}
 use Rattle.blocks.specs.Blocks.{Blocks, ref_eq, times, IsFinite}

@@ -1,5 +1,5 @@
 -- The steps that a store may take by its calls, passes and moves apart.
-use Rattle.std.specs.Prelude.{◌≡◌, ℕ, ◌+◌, ◌≤◌, List, Option, Some, None, IsSome, length, replicate}
+use Rattle.std.specs.Prelude.{◌≡◌, ℕ, ◌+◌, ◌≤◌, List, Some, None, IsSome, length, replicate}
 use Rattle.blocks.specs.declared.BlockRef.{BlockRef}
 use Rattle.blocks.specs.Blocks.{Blocks, with_block, overwritten, bytes_at}
 use Rattle.blocks.specs.Slabs.{Heap}

@@ -83,6 +83,7 @@ pub fn start_sweep<B: BlockStore>(store: &mut B)
 pub fn finish_sweep<B: BlockStore>(store: &mut B)
     requires { Swept (B.heap store.old) (λ r. IsSome (B.blocks store.old r)) }
     ensures blocks { B.blocks store.new ≡ B.blocks store.old }
+    ensures closed { (B.heap store.new).passing ≡ false }
     ensures least { (class : ℕ) → class < 36 → slabs_of (B.heap store.new) class ≡ needed (B.heap store.new) class }
     ensures used { (class : ℕ) → used_of (B.heap store.new) class ≡ used_of (B.heap store.old) class }
 {

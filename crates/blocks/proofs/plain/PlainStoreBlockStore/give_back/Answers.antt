@@ -1,5 +1,5 @@
-use Rattle.std.proofs.Common.{◌∙◌, ap, sym, subst, refl}
-use Rattle.std.specs.Prelude.{IsSome, None}
+use Rattle.std.proofs.Common.{◌∙◌, ap}
+use Rattle.std.specs.Prelude.{None}
 use Rattle.blocks.specs.Plain.{blocks_at}
 use Rattle.blocks.specs.Blocks.{with_block}
 use Rattle.blocks.specs.Steps.{returned}

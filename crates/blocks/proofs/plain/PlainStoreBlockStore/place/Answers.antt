@@ -1,9 +1,9 @@
-use Rattle.std.proofs.Common.{◌∙◌, ap, sym, subst, refl, map, ◌≡◌, replicate, rules}
-use Rattle.std.specs.Prelude.{IsSome, Some, None}
+use Rattle.std.proofs.Common.{◌∙◌, ap, sym, refl, map, ◌≡◌, replicate, rules}
+use Rattle.std.specs.Prelude.{Some, None}
 use Rattle.blocks.specs.Plain.{plain_blocks, bytes_of, blocks_at}
 use Rattle.blocks.specs.Blocks.{with_block}
 use Rattle.blocks.specs.Steps.{placed}
-use Rattle.blocks.proofs.PlainLemmas.{plain_updated, plain_slot, plain_vacant}
+use Rattle.blocks.proofs.PlainLemmas.{plain_updated, plain_vacant}
 use Rattle.blocks.proofs.plain.PlainStoreBlockStore.place.Goals as goal
 
 pub returns-clause-placed : goal.returns-clause-placed

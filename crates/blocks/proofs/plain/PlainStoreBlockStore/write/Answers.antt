@@ -1,4 +1,4 @@
-use Rattle.std.proofs.Common.{◌∙◌, ap, sym, refl, rules}
+use Rattle.std.proofs.Common.{ap, sym}
 use Rattle.blocks.specs.Plain.{plain_heap}
 use Rattle.blocks.specs.Steps.{written}
 use Rattle.blocks.proofs.PlainLemmas.{plain_put}
