@@ -104,8 +104,6 @@ fn word_at(bytes: &[u8], word: usize) -> u64
 /// SipHash of the bytes under the key `k0`, `k1`, with `c` rounds a word and `d` rounds at the end, by
 /// Aumasson and Bernstein's "SipHash: a fast short-input PRF".
 pub fn sip(c: u32, d: u32, k0: u64, k1: u64, bytes: &[u8]) -> u64
-    requires few { c ≤ 16 }
-    requires few_last { d ≤ 16 }
     ensures { result ≡ sip c d k0 k1 bytes.now }
 {
     let mut state = State::new(k0, k1);

@@ -8,8 +8,9 @@ pub type Memory = AllocError;
 
 /// What can be scanned by moves, each over an interval of places.
 pub trait BucketScan {
-    /// The place of each item, by its number.
-    ghost place_of: { Self → ℕ → Option ℕ };
+    /// Whether these can be the places of its items, by their numbers. Where a move gives all items at
+    /// once, as that of a packed collection does, any places can be.
+    ghost can_stand: { Self → (ℕ → Option ℕ) → Type 0 };
 
     /// The numbers of the items that a move at a cursor gives.
     ghost move_at: { Self → ℕ → List ℕ };
@@ -25,8 +26,8 @@ pub trait BucketScan {
         ensures err { OnErr result (found.new.items ≡ found.old.items) };
 
     /// A move gives each item of its interval once, and none behind it.
-    ghost spans: { (s : Self) (cursor : ℕ) → Span (place_of s) cursor (after s cursor) (move_at s cursor) };
+    ghost spans: { (s : Self) (place_of : ℕ → Option ℕ) (cursor : ℕ) → can_stand s place_of → Span place_of cursor (after s cursor) (move_at s cursor) };
 
     /// A move at a cursor that was answered gives no item before that cursor.
-    ghost starts: { (s : Self) (cursor : ℕ) → StartsAt (place_of s) (after s cursor) (move_at s (after s cursor)) };
+    ghost starts: { (s : Self) (place_of : ℕ → Option ℕ) (cursor : ℕ) → can_stand s place_of → StartsAt place_of (after s cursor) (move_at s (after s cursor)) };
 }
