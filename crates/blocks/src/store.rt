@@ -13,7 +13,7 @@ use crate::{BlockRef, ClassUse, Memory};
 /// blocks stand by classes of size. A slab has 65,536 bytes. A pass over the store packs blocks
 /// into as few slabs as they need: from `begin_pass` to `end_pass` some slabs are kept, and each
 /// block in another slab of a class wants to move into one of them.
-pub trait BlockStore {
+pub trait BlockStore: Drop {
     /// The bytes of each live block.
     ghost blocks: { Self → BlockRef → Option (List ℕ) };
 
