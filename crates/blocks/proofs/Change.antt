@@ -118,15 +118,19 @@ Counts-placed m after at bytes old new fresh is more =
       kept = λ r a b. with_block-other m at r (Some bytes) (other_than r at (omega (arith, more r, b)));
     })
 
+-- where a reference that isn't in the list is asked, it is another than one that is
+not_in : (r at : BlockRef) (xs : List BlockRef) → IsIn at xs → IsOut r xs → ref_eq r at ≡ false
+not_in r at xs own out = elim (cases_ref r at) [
+  | inl same ↦ absurd (let e : times r xs ≡ times at xs = ap (λ q. times q xs) same in omega (arith, out, own, e))
+  | inr other ↦ other
+]
+
 -- a call of `write`
 pub Counts-written : (m after : Blocks) (at : BlockRef) (bytes : List ℕ) (old new : List BlockRef) → IsSome (m at) → after ≡ with_block m at (Some bytes) → IsIn at old → ((r : BlockRef) → times r new ≡ times r old) → Counts m after old new
 Counts-written m after at bytes old new was is own same =
     subst (λ n. Counts m n old new) (sym is) (record {
       balance = λ r. omega (arith, same r, live_written m at bytes was r);
-      kept = λ r a b. elim (cases_ref r at) [
-        | inl here' ↦ absurd (let e : times r old ≡ times at old = ap (λ q. times q old) here' in omega (arith, a, own, e))
-        | inr other ↦ with_block-other m at r (Some bytes) other
-      ];
+      kept = λ r a b. with_block-other m at r (Some bytes) (not_in r at old own a);
     })
 
 -- a call of `give_back`
@@ -136,13 +140,6 @@ Counts-ended m after at old new was is less =
       balance = λ r. omega (arith, less r, live_ended m at was r);
       kept = λ r a b. with_block-other m at r None (other_than r at (omega (arith, less r, a)));
     })
-
--- where a reference that isn't in the list is asked, it is another than one that is
-not_in : (r at : BlockRef) (xs : List BlockRef) → IsIn at xs → IsOut r xs → ref_eq r at ≡ false
-not_in r at xs own out = elim (cases_ref r at) [
-  | inl same ↦ absurd (let e : times r xs ≡ times at xs = ap (λ q. times q xs) same in omega (arith, out, own, e))
-  | inr other ↦ other
-]
 
 some_of : (o : Option (List ℕ)) → IsSome o → (bytes : List ℕ) × (o ≡ Some bytes)
 some_of None h = cc
