@@ -1,7 +1,7 @@
 """Makes the table of crates/digests/src/siphash/tests.rt: SipHash with 1 and 2 rounds.
 
-Written apart from the crate, from the paper "SipHash: a fast short-input PRF", for that test alone.
-It first checks itself on the paper's vector for 2 and 4 rounds. Run: python3 bench/siphash_table.py
+Written apart from the crate, after "SipHash: a fast short-input PRF", for that test alone.
+It first checks itself on the published vector for 2 and 4 rounds. Run: python3 bench/siphash_table.py
 """
 
 WORD = 2**64

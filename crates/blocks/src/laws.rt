@@ -1,10 +1,10 @@
-ghost use Rattle.std.specs.Prelude.{◌≡◌, ◌≢◌, ℕ, ◌<◌, ◌⊎◌, Some, None, [], ◌∷◌, IfOk, OnErr, IsSome, IsTrue, false, replicate, length, ◌+◌, ◌≤◌};
+ghost use Rattle.std.specs.Prelude.{◌≡◌, ◌≢◌, ℕ, ◌<◌, Some, None, [], ◌∷◌, IfOk, OnErr, IsSome, IsTrue, false, replicate, length, ◌+◌, ◌≤◌};
 ghost use Rattle.blocks.specs.declared.BlockRef.{BlockRef};
 ghost use Rattle.blocks.specs.Blocks.{with_block, overwritten, Changes, Served};
 ghost use Rattle.blocks.specs.Slabs.{wants, Calmer, Swept, slabs_of, used_of, needed};
 ghost use Rattle.blocks.specs.Laws.{ChangesLaws, ServedLaws};
 
-use crate::{BlockRef, BlockStore, Memory, put_block};
+use crate::{BlockRef, BlockStore, Memory};
 
 /// Law: changes hold of a store and itself, go on from call to call, compose where their references
 /// are disjoint, and leave what is outside.

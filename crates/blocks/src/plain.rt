@@ -1,4 +1,4 @@
-ghost use Rattle.std.specs.Prelude.{◌≡◌, ℕ, List, Option, None, [], true, false, ◌∷◌, ◌+◌, ◌≤◌, length};
+ghost use Rattle.std.specs.Prelude.{◌≡◌, Option, None, true, false, ◌+◌, ◌≤◌, length};
 ghost use Rattle.blocks.specs.Blocks.{overwritten, no_blocks};
 ghost use Rattle.blocks.specs.Slabs.{no_slabs};
 ghost use Rattle.blocks.specs.Plain.{plain_blocks, plain_heap, IsPlainStep};

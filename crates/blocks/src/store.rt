@@ -1,4 +1,4 @@
-ghost use Rattle.std.specs.Prelude.{◌≡◌, ℕ, ◌+◌, ◌<◌, ◌≤◌, Bool, true, false, List, Option, Some, None, length, replicate, IfOk, OnErr, OnOk, IfSome, IfNone, IsSome, IsTrue, is_some, ◌↔◌};
+ghost use Rattle.std.specs.Prelude.{◌≡◌, ℕ, ◌+◌, ◌<◌, ◌≤◌, false, List, Option, Some, None, length, replicate, IfOk, OnErr, IfSome, IfNone, IsSome, is_some};
 ghost use Rattle.blocks.specs.declared.BlockRef.{BlockRef};
 ghost use Rattle.blocks.specs.declared.ClassUse.{ClassUse};
 ghost use Rattle.blocks.specs.Blocks.{with_block, overwritten, bytes_at, IsFinite};

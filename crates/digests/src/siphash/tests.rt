@@ -82,7 +82,7 @@ const SHORT: [u64; 65] = [
     0x7c52_5393_77fd_a0d0,
 ];
 
-// The example of the paper's appendix.
+// The vector that SipHash's authors published, in appendix A.
 #[test]
 fn published_vector(rt: HostRuntime) {
     assert_eq!(rt; sip(2, 4, K0, K1, &MESSAGE[..15]), 0xa129_ca61_49be_45e5);
