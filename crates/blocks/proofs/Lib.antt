@@ -1,0 +1,10 @@
+pub mod Live
+pub mod Refs
+pub mod PlainLemmas
+pub mod Times
+pub mod Change
+pub mod ChangeLaws
+pub mod Serve
+pub mod Sums
+pub mod Sweeps
+pub mod Written

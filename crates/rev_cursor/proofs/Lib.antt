@@ -1,0 +1,3 @@
+pub mod Reversal
+pub mod Places
+pub mod Walks
