@@ -1,7 +1,7 @@
 -- Lists of numbers that stand packed in bytes.
-use Rattle.std.proofs.Common.{◌≡◌, inl, inr, ℕ, zero, suc, ◌+◌, ◌*◌, ◌-◌, ◌<◌, ◌≤◌, List, [], ◌∷◌, ◌++◌, length, take, drop, get_or, refl, sym, ap, ◌∙◌, arith, length-append, Some}
+use Rattle.std.proofs.Common.{◌≡◌, inl, inr, ℕ, zero, suc, ◌+◌, ◌*◌, ◌-◌, ◌<◌, ◌≤◌, List, [], ◌∷◌, ◌++◌, length, take, drop, get_or, refl, sym, ap, ◌∙◌, arith, Some}
 use Rattle.std.proofs.Math.Nat.{mul-le-mul_left, mul-le-mul_right}
-use Rattle.std.proofs.lemmas.List.{take_all, length-drop, drop-drop, drop_at, drop-append-le}
+use Rattle.std.proofs.lemmas.List.{take_all, length-drop, drop-drop, drop-append-le}
 use Rattle.std.specs.Prelude.{ℤ, slice_get}
 use Rattle.byteorder.specs.Numbers.{little_from-append}
 use Rattle.intset.specs.Intset.{packed_numbers, first_number, numbers_of, width_of, count_of, IsWidth}

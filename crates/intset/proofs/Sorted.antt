@@ -1,15 +1,14 @@
 -- A rising list into which a number is put, and from which one is taken.
-use Rattle.std.proofs.Common.{◌≡◌, ◌≢◌, ℕ, zero, suc, ◌+◌, ◌-◌, ◌<◌, ◌≤◌, List, [], ◌∷◌, ◌++◌, length, take, drop, get_or, refl, sym, ap, ◌∙◌, arith, inl, inr, true, false, Bool, not, subst}
+use Rattle.std.proofs.Common.{◌≡◌, ℕ, zero, suc, ◌+◌, ◌-◌, ◌<◌, ◌≤◌, List, [], ◌∷◌, length, get_or, refl, sym, ap, ◌∙◌, arith, inl, inr, true, false}
 use Rattle.std.specs.Prelude.{ℤ, ◌<ℤ◌, int_lt}
 use Rattle.std.specs.Ordering.{int_eq}
-use Rattle.std.specs.List.{insert, remove, filter, count_by, Contains}
+use Rattle.std.specs.List.{insert, remove, filter}
 use Rattle.std.proofs.lemmas.Int.{ints}
 use Rattle.std.proofs.lemmas.Bool.{cases_lt}
 use Rattle.std.proofs.lemmas.List.Edits.{get_or-insert_below, get_or-insert_at, get_or-insert_above, length-insert}
 use Rattle.std.proofs.lemmas.List.Sums.{length-filter}
 use Rattle.intset.specs.Intset.{IsRising, with_number, without_number}
 use Rattle.intset.specs.Places.{IsPlace}
-use Rattle.intset.proofs.Halves.{place-absent}
 
 lt_true : (a b : ℤ) → a <ℤ b → int_lt a b ≡ true
 lt_true a b h = grind (arith, ints)

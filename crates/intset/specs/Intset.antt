@@ -2,7 +2,7 @@
 -- intset of the RDB format): the width of a number in bytes as four bytes, how many numbers there
 -- are as four bytes, and then the numbers, signed, each of that width and each greater than the
 -- one before it. All numbers stand with their lowest byte first.
-use Rattle.std.specs.Prelude.{◌≡◌, ℕ, zero, suc, ◌+◌, ◌*◌, ◌^◌, ◌<◌, ◌≤◌, ◌⊎◌, Bool, not, nat_lt, if◌then◌else◌, List, [], ◌∷◌, length, drop, ℤ, pos, negsuc, int_lt, ◌<ℤ◌, slice_index_or}
+use Rattle.std.specs.Prelude.{◌≡◌, ℕ, zero, suc, ◌+◌, ◌*◌, ◌^◌, ◌≤◌, ◌⊎◌, Bool, not, nat_lt, if◌then◌else◌, List, [], ◌∷◌, length, drop, ℤ, pos, negsuc, int_lt, ◌<ℤ◌}
 use Rattle.std.specs.List.{AllPairs, count_by, filter, insert}
 use Rattle.std.specs.Ordering.{int_eq}
 use Rattle.byteorder.specs.Endian.{little_number, twos_complement}

@@ -1,6 +1,6 @@
 -- What the private functions of the crate say to each other.
-use Rattle.std.specs.Prelude.{◌≡◌, ℕ, suc, ◌+◌, ◌*◌, ◌<◌, ◌≤◌, List, length, take, ℤ, ◌<ℤ◌, slice_index_or}
-use Rattle.intset.specs.Intset.{IsWidth, HasWidth, HasLength, IsRising, packed_numbers, numbers_of, width_of, count_of}
+use Rattle.std.specs.Prelude.{◌≡◌, ℕ, suc, ◌*◌, ◌<◌, ◌≤◌, List, length, take, ℤ, ◌<ℤ◌, slice_index_or}
+use Rattle.intset.specs.Intset.{IsWidth, HasWidth, HasLength, IsRising, packed_numbers, numbers_of, width_of}
 
 -- the bytes are so many numbers of that width, which rise
 pub record IsPacked (width count : ℕ) (packed : List ℕ) : Type 0 where

@@ -1,6 +1,6 @@
-use Rattle.std.proofs.Common.{◌≡◌, ◌∙◌, ◌<◌, ◌≤◌, ap, sym, arith, length, w64}
+use Rattle.std.proofs.Common.{◌∙◌, ap, arith, length, w64}
 use Rattle.std.proofs.lemmas.Int.{to_z-of_z}
-use Rattle.intset.specs.Intset.{numbers_of, count_of}
+use Rattle.intset.specs.Intset.{numbers_of}
 use Rattle.intset.specs.Places.{IsPlace}
 use Rattle.intset.proofs.Edited.{edited_intset, length-numbers_of}
 use Rattle.intset.proofs.Sorted.{rising-insert, insert_place}

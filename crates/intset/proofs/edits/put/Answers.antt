@@ -1,11 +1,9 @@
-use Rattle.std.proofs.Common.{◌≡◌, ◌∙◌, ℕ, List, ◌++◌, ap, arith, length, take, drop, w64}
+use Rattle.std.proofs.Common.{◌≡◌, ◌∙◌, ◌++◌, ap, length, take, w64}
 use Rattle.std.proofs.lemmas.Int.{to_z-of_z}
-use Rattle.std.proofs.lemmas.List.{length-take-le}
 use Rattle.byteorder.specs.Endian.{little_bytes, low_bytes}
 use Rattle.byteorder.specs.Numbers.{length-bytes_low_first}
 use Rattle.intset.specs.Intset.{count_of, IsWidth, first_number}
 use Rattle.intset.proofs.Edited.{put_edits, take_drop_at}
-use Rattle.intset.proofs.Packed.{width_high}
 use Rattle.intset.proofs.Written.{written}
 use Rattle.intset.proofs.edits.put.Goals as goal
 

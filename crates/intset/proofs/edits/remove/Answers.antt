@@ -1,11 +1,11 @@
-use Rattle.std.proofs.Common.{◌≡◌, ◌∙◌, ◌+◌, ◌*◌, ◌<◌, ◌≤◌, ap, sym, arith, length, w64, refl, Some}
+use Rattle.std.proofs.Common.{◌≡◌, ◌∙◌, ◌*◌, ◌≤◌, ap, arith, w64, refl, Some}
 use Rattle.std.specs.Prelude.{slice_get}
 use Rattle.std.specs.List.{remove}
 use Rattle.std.proofs.lemmas.Int.{to_z-of_z}
 use Rattle.std.proofs.lemmas.List.Quantifiers.{all_pairs_remove}
 use Rattle.std.proofs.lemmas.Option.{get_or_from_slice_get, slice_get_within}
-use Rattle.std.specs.Prelude.{ℤ, ◌<ℤ◌}
-use Rattle.intset.specs.Intset.{IsWidth, numbers_of, width_of, count_of}
+use Rattle.std.specs.Prelude.{◌<ℤ◌}
+use Rattle.intset.specs.Intset.{numbers_of, width_of, count_of}
 use Rattle.intset.specs.Places.{IsEdited, IsPlace}
 use Rattle.intset.proofs.Edited.{cut_edits, edited_intset, length-numbers_of}
 use Rattle.intset.proofs.Packed.{packed_room, packed_small}
@@ -70,5 +70,5 @@ returns c =
       there = ((λ _. (c.in-Ok.place, within, here)), (λ _. refl));
       removed = edited.numbers_now ∙ remove_place numbers c.args.n c.in-Ok.place c.requires.intset.rising within here;
       width = edited.kept;
-      unchanged = λ h. absurd (cc);
+      unchanged = λ h. cc;
     }

@@ -1,8 +1,8 @@
-use Rattle.std.proofs.Common.{◌≡◌, ◌∙◌, ◌<◌, ◌≤◌, ap, sym, arith, length, w64, refl, take, Some}
+use Rattle.std.proofs.Common.{◌≡◌, ◌∙◌, ap, sym, arith, length, w64, Some}
 use Rattle.std.specs.Prelude.{slice_get}
 use Rattle.std.proofs.lemmas.Int.{to_z-of_z}
 use Rattle.std.proofs.lemmas.List.{take_all}
-use Rattle.intset.specs.Intset.{numbers_of, width_for}
+use Rattle.intset.specs.Intset.{numbers_of}
 use Rattle.intset.proofs.Edited.{copied_more, copied_count, number_held}
 use Rattle.intset.proofs.edits.widened.Goals as goal
 

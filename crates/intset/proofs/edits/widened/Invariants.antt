@@ -1,4 +1,3 @@
-use Rattle.std.proofs.Common.{◌≡◌}
 use Rattle.intset.specs.Intset.{numbers_of}
 use Rattle.intset.specs.Places.{IsCopied}
 use Rattle.intset.proofs.edits.widened.Given as goal

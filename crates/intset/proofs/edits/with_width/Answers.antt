@@ -1,4 +1,4 @@
-use Rattle.std.proofs.Common.{◌≡◌, ◌∙◌, ap, ◌++◌}
+use Rattle.std.proofs.Common.{◌∙◌, ap, ◌++◌}
 use Rattle.intset.proofs.Edited.{fresh_width, fresh_intset}
 use Rattle.intset.proofs.edits.with_width.Goals as goal
 

@@ -1,5 +1,5 @@
-use Rattle.std.proofs.Common.{◌≡◌, ◌∙◌, ◌*◌, ◌+◌, ◌≤◌, ◌<◌, length, arith, sym, ap, refl}
-use Rattle.intset.specs.Intset.{IsWidth, IsRising, HasWidth, HasLength, width_of, count_of, numbers_of, packed_numbers}
+use Rattle.std.proofs.Common.{arith, refl}
+use Rattle.intset.specs.Intset.{IsWidth}
 use Rattle.intset.proofs.Packed.{numbers_of-is, packed_small}
 use Rattle.intset.proofs.ints.check.Goals as goal
 

@@ -1,7 +1,7 @@
-use Rattle.std.proofs.Common.{◌≡◌, ◌∙◌, ℕ, ◌*◌, ◌+◌, ◌-◌, ◌≤◌, ◌<◌, length, arith, sym, refl, get_or, w64, of_z, to_z, true, false}
+use Rattle.std.proofs.Common.{◌≡◌, ◌∙◌, ◌-◌, arith, sym, refl, w64, true, false}
 use Rattle.std.proofs.lemmas.Int.{to_z-of_z}
-use Rattle.std.specs.Prelude.{ℤ, ◌<ℤ◌, int_le}
-use Rattle.intset.specs.Intset.{IsWidth, IsRising, packed_numbers, first_number}
+use Rattle.std.specs.Prelude.{int_le}
+use Rattle.intset.specs.Intset.{packed_numbers}
 use Rattle.intset.proofs.Packed.{get_or-packed, length-packed}
 use Rattle.intset.proofs.Halves.{rises-rising, rises-more, rising-refuted, less_from_le}
 use Rattle.intset.proofs.ints.is_rising.Goals as goal

@@ -1,6 +1,5 @@
-use Rattle.std.proofs.Common.{◌≡◌, ◌*◌, ◌+◌, length, arith, refl}
+use Rattle.std.proofs.Common.{arith, refl}
 use Rattle.std.proofs.lemmas.List.{length-drop}
-use Rattle.intset.specs.Intset.{IsRising, width_of, count_of}
 use Rattle.intset.proofs.Packed.{numbers_of-is}
 use Rattle.intset.proofs.ints.known.Goals as goal
 

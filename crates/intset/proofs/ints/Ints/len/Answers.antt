@@ -1,5 +1,4 @@
-use Rattle.std.proofs.Common.{sym, subst}
-use Rattle.intset.specs.Intset.{IsRising}
+use Rattle.std.proofs.Common.{sym}
 use Rattle.intset.proofs.Packed.{length-packed}
 use Rattle.intset.proofs.ints.Ints.len.Goals as goal
 

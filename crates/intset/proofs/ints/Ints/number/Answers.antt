@@ -1,4 +1,4 @@
-use Rattle.std.proofs.Common.{◌≡◌, ◌<◌, length, arith, ap, w64}
+use Rattle.std.proofs.Common.{◌≡◌, length, arith, ap, w64}
 use Rattle.std.proofs.lemmas.Int.{to_z-of_z}
 use Rattle.intset.specs.Intset.{packed_numbers}
 use Rattle.intset.proofs.Packed.{length-packed, packed_room, slice_get-packed}

@@ -1,4 +1,4 @@
-use Rattle.std.proofs.Common.{◌≡◌, arith, ap, sym, ◌∙◌, ◌+◌, ◌-◌, ◌/◌, ◌<◌, ◌≤◌, w64, of_z, to_z}
+use Rattle.std.proofs.Common.{arith, ap, sym, ◌∙◌, w64, of_z, to_z}
 use Rattle.std.proofs.lemmas.Int.{to_z-of_z}
 use Rattle.intset.proofs.Halves.{between-upper, between-lower, less_true, more_false}
 use Rattle.intset.proofs.ints.Ints.search.Goals as goal

@@ -1,4 +1,4 @@
-use Rattle.std.proofs.Common.{◌-◌, ◌≡◌, ℕ, ◌+◌, ◌*◌, ◌<◌, ◌≤◌, ℤ, ◌<ℤ◌, length, get_or}
+use Rattle.std.proofs.Common.{◌-◌}
 use Rattle.intset.specs.Places.{IsBetween}
 use Rattle.intset.proofs.ints.Ints.search.Given as goal
 
