@@ -1,0 +1,2 @@
+pub mod Intset
+pub mod Places
