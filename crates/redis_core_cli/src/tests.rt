@@ -141,25 +141,25 @@ const SET_GET: &[u8] =
 
 #[test]
 fn faults_and_limits(rt: HostRuntime) -> Result<(), Fail> {
-    // the second take fails, when one request is whole
-    let (ended, written) = served(rt.alloc(), SET_GET, &[40], (&[1], &[]), 100, MANY_BYTES)?;
-    assert_eq!(rt; ended, 4);
-    assert_eq!(rt; written.as_slice(), b"+OK\r\n".as_slice());
-    // the first put fails
-    let (ended, written) = served(rt.alloc(), SET_GET, &[40], (&[], &[0]), 100, MANY_BYTES)?;
-    assert_eq!(rt; ended, 5);
-    assert_eq!(rt; written.as_slice(), b"".as_slice());
-    // the second put fails
-    let (ended, written) = served(rt.alloc(), SET_GET, &[40], (&[], &[1]), 100, MANY_BYTES)?;
-    assert_eq!(rt; ended, 5);
-    assert_eq!(rt; written.as_slice(), b"+OK\r\n".as_slice());
+    // each take brings one request, and one of the takes or puts fails
+    let pieces = [27usize, 20, 20];
+    let replies = b"+OK\r\n$1\r\n1\r\n$-1\r\n".as_slice();
+    let written_before = [0usize, 5, 12, 17];
+    for (call, len) in written_before.iter().enumerate() {
+        let call = [call as u64];
+        let (ended, written) = served(rt.alloc(), SET_GET, &pieces, (&call, &[]), 100, MANY_BYTES)?;
+        assert_eq!(rt; ended, 4);
+        assert_eq!(rt; Some(written.as_slice()), replies.get(..*len));
+        let (ended, written) = served(rt.alloc(), SET_GET, &pieces, (&[], &call), 100, MANY_BYTES)?;
+        assert_eq!(rt; ended, if *len == 17 { 0 } else { 5 });
+        assert_eq!(rt; Some(written.as_slice()), replies.get(..*len));
+    }
     // no room is left
     let (ended, written) = served(rt.alloc(), SET_GET, &[], (&[], &[]), 8, MANY_BYTES)?;
     assert_eq!(rt; ended, 5);
     assert_eq!(rt; written.as_slice(), b"+OK\r\n$1\r".as_slice());
     // the limit is the input's length, one less, and one more
     let whole = SET_GET.len() as u64;
-    let replies = b"+OK\r\n$1\r\n1\r\n$-1\r\n".as_slice();
     let (ended, written) = served(rt.alloc(), SET_GET, &[], (&[], &[]), 100, whole)?;
     assert_eq!(rt; ended, 9);
     assert_eq!(rt; written.as_slice(), replies);
