@@ -1,5 +1,5 @@
 -- The members of a class, one after the other.
-use Rattle.std.proofs.Common.{◌≡◌, ◌≢◌, ℕ, zero, suc, ◌+◌, ◌-◌, ◌<◌, ◌≤◌, Bool, true, false, cond, ◌||◌, ◌==◌, List, [], ◌∷◌, length, take, drop, get_or, refl, sym, ap, subst, ◌∙◌, arith}
+use Rattle.std.proofs.Common.{◌≡◌, ◌≢◌, ℕ, zero, suc, ◌+◌, ◌-◌, ◌<◌, Bool, true, false, cond, ◌||◌, List, [], ◌∷◌, length, take, drop, get_or, refl, sym, ap, subst, ◌∙◌, arith}
 use Rattle.glob.specs.declared.class.Member.{Member}
 use Rattle.glob.specs.Class.{first_member, is_within, holds_behind, rest_behind}
 use Rattle.std.proofs.lemmas.List.{take_rest, drop-drop, get_or-drop, length-drop}

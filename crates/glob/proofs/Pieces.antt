@@ -1,12 +1,11 @@
 -- The first piece of a pattern.
-use Rattle.std.proofs.Common.{◌≡◌, ◌≢◌, ℕ, ◌+◌, ◌-◌, ◌<◌, ◌≤◌, Bool, true, false, cond, ◌==◌, List, [], ◌∷◌, length, take, drop, get_or, refl, sym, ap, subst, ◌∙◌, add-one, arith, lit<}
+use Rattle.std.proofs.Common.{◌≡◌, ℕ, ◌+◌, ◌<◌, ◌≤◌, Bool, true, false, cond, ◌==◌, List, [], ◌∷◌, length, drop, get_or, refl, sym, ap, subst, ◌∙◌, add-one, arith, lit<}
 use Rattle.glob.specs.Class.{class_takes, behind_class}
 use Rattle.glob.specs.Pattern.{Matches, question, escaped, class}
 use Rattle.glob.specs.Piece.{TakesByte, IsPiece}
-use Rattle.glob.specs.declared.piece.Piece.TheVariants.{Star, Takes, Refuses}
+use Rattle.glob.specs.declared.piece.Piece.TheVariants.{Takes, Refuses}
 use Rattle.glob.proofs.Rules.{question_inv, escaped_inv, class_inv, IsItself, itself_inv, itself_taken}
 use Rattle.std.proofs.lemmas.Bool.{eqb-true, eqb-false}
-use Rattle.std.proofs.lemmas.List.{take_rest}
 
 piece_of : (p : List ℕ) (byte width : ℕ) (b : Bool) → (b ≡ true → TakesByte p byte width) → (b ≡ false → (left : List ℕ) → ¬ (Matches p (byte ∷ left))) → IsPiece p byte (cond b (Takes width) Refuses)
 piece_of p byte width true takes refuses = takes refl

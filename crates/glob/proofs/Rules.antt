@@ -1,9 +1,7 @@
 -- What a match says of the pattern's first byte.
-use Rattle.std.proofs.Common.{◌≡◌, ◌≢◌, ℕ, ◌+◌, ◌<◌, ◌≤◌, Bool, true, false, cond, ◌==◌, List, [], ◌∷◌, ◌++◌, length, drop, get_or, refl, sym, ap, subst, inl, inr, ◌∙◌, arith}
+use Rattle.std.proofs.Common.{◌≡◌, ◌≢◌, ℕ, ◌<◌, true, List, [], ◌∷◌, length, drop, get_or, refl, sym, subst, inl, inr, arith}
 use Rattle.glob.specs.Class.{class_takes, behind_class}
-use Rattle.glob.specs.Pattern.{IsPlain, Matches, empty, star, question, escaped, last_backslash, class, plain}
-use Rattle.glob.specs.Piece.{TakesByte, IsPiece}
-use Rattle.glob.specs.declared.piece.Piece.TheVariants.{Star, Takes, Refuses}
+use Rattle.glob.specs.Pattern.{Matches, empty, star, question, escaped, last_backslash, class, plain}
 use Rattle.std.proofs.lemmas.Bool.{cases_eq}
 
 pub no_bytes_left : (byte : ℕ) (left : List ℕ) → ¬ (Matches [] (byte ∷ left))

@@ -1,5 +1,5 @@
 -- Classes of a pattern. (Redis command reference, KEYS: `h[ae]llo`, `h[^e]llo`, `h[a-b]llo`.)
-use Rattle.std.specs.Prelude.{ℕ, zero, suc, ◌-◌, min, max, Bool, true, false, not, List, [], ◌∷◌, drop, if◌then◌else◌, ◌==◌, ◌&&◌, ◌||◌, nat_le, slice_index}
+use Rattle.std.specs.Prelude.{ℕ, zero, suc, ◌-◌, min, max, Bool, false, not, List, [], ◌∷◌, drop, if◌then◌else◌, ◌==◌, ◌&&◌, ◌||◌, nat_le, slice_index}
 use Rattle.glob.specs.declared.class.Member.{Member}
 
 abbrev pub one : ℕ → ℕ → Member

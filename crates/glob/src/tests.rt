@@ -1,105 +1,106 @@
 // Expected answers are worked out by hand from the rules of patterns in the Redis command reference (KEYS).
 
 use crate::matches;
+use std::process::Abort;
 use std::test::Fail;
 
-const CASES: [(&str, &str, bool); 78] = [
-    ("", "", true),
-    ("", "a", false),
-    ("a", "", false),
-    ("abc", "abc", true),
-    ("abc", "abd", false),
-    ("abc", "abcd", false),
-    ("abcd", "abc", false),
-    // any bytes, one byte
-    ("*", "", true),
-    ("*", "abc", true),
-    ("**", "", true),
-    ("a*", "a", true),
-    ("a*", "abc", true),
-    ("a*", "ba", false),
-    ("*c", "abc", true),
-    ("*c", "abcd", false),
-    ("a*c", "abbc", true),
-    ("a*b*c", "a-b-b-c", true),
-    ("a*b*c", "a-c-b", false),
-    ("*ab*ab", "abab", true),
-    ("*ab*ab", "aab", false),
-    ("h?llo", "hello", true),
-    ("h?llo", "hllo", false),
-    ("?", "", false),
-    ("*?", "", false),
-    ("*?", "a", true),
-    ("?*?", "a", false),
-    ("h*llo", "heeeello", true),
-    // escapes out of classes
-    ("\\*", "*", true),
-    ("\\*", "a", false),
-    ("\\?", "?", true),
-    ("\\[a]", "[a]", true),
-    ("\\a", "a", true),
-    ("\\\\", "\\", true),
-    ("a\\", "a\\", true),
-    ("a\\", "a", false),
-    ("*\\", "a\\", true),
-    // classes and negation
-    ("h[ae]llo", "hello", true),
-    ("h[ae]llo", "hallo", true),
-    ("h[ae]llo", "hillo", false),
-    ("h[ae]llo", "hllo", false),
-    ("h[^e]llo", "hallo", true),
-    ("h[^e]llo", "hello", false),
-    ("[a^]", "^", true),
-    ("[*]", "*", true),
-    ("[*]", "a", false),
-    ("[?]", "?", true),
-    ("*[0-9]", "key:17", true),
-    ("*[0-9]", "key:x", false),
-    // ranges, with swapped ends, and bytes that make none
-    ("h[a-c]llo", "hbllo", true),
-    ("h[a-c]llo", "hdllo", false),
-    ("h[c-a]llo", "hbllo", true),
-    ("[^a-c]", "b", false),
-    ("[^a-c]", "d", true),
-    ("[a-]", "a", true),
-    ("[a-]", "]", true),
-    ("[a-", "-", true),
-    ("[-a]", "-", true),
-    ("[-a]", "b", false),
-    ("[--0]", ".", true),
-    ("[a-c-e]", "d", false),
-    ("[a-c-e]", "-", true),
-    // escapes in classes
-    ("[\\]]", "]", true),
-    ("[\\^]", "^", true),
-    ("[^\\]]", "a", true),
-    ("[^\\]]", "]", false),
-    ("[\\a-c]", "b", false),
-    ("[\\a-c]", "-", true),
-    ("[a\\", "\\", true),
-    // a class without an end
-    ("[ab", "b", true),
-    ("[ab", "c", false),
-    ("[", "a", false),
-    ("[", "", false),
-    ("[^", "a", true),
-    // an empty class and a negated empty one
-    ("[]", "a", false),
-    ("[]a]", "a", false),
-    ("[^]", "a", true),
-    ("[^]", "", false),
-    ("[^]a", "ba", true),
-];
+// Each line has a pattern, `|` and a text.
+const MATCHING: &str = r"|
+abc|abc
+*|
+*|abc
+**|
+a*|a
+a*|abc
+*c|abc
+a*c|abbc
+a*b*c|a-b-b-c
+*ab*ab|abab
+h?llo|hello
+*?|a
+h*llo|heeeello
+\*|*
+\?|?
+\[a]|[a]
+\a|a
+\\|\
+a\|a\
+*\|a\
+h[ae]llo|hello
+h[ae]llo|hallo
+h[^e]llo|hallo
+[a^]|^
+[*]|*
+[?]|?
+*[0-9]|key:17
+h[a-c]llo|hbllo
+h[c-a]llo|hbllo
+[^a-c]|d
+[a-]|a
+[a-]|]
+[a-|-
+[-a]|-
+[--0]|.
+[a-c-e]|-
+[\]]|]
+[\^]|^
+[^\]]|a
+[\a-c]|-
+[a\|\
+[ab|b
+[^|a
+[^]|a
+[^]a|ba";
 
-#[test]
-fn cases(rt: HostRuntime) {
-    for (pattern, text, want) in CASES {
+const DIFFERENT: &str = r"|a
+a|
+abc|abd
+abc|abcd
+abcd|abc
+a*|ba
+*c|abcd
+a*b*c|a-c-b
+*ab*ab|aab
+h?llo|hllo
+?|
+*?|
+?*?|a
+\*|a
+a\|a
+h[ae]llo|hillo
+h[ae]llo|hllo
+h[^e]llo|hello
+[*]|a
+*[0-9]|key:x
+h[a-c]llo|hdllo
+[^a-c]|b
+[-a]|b
+[a-c-e]|d
+[^\]]|]
+[\a-c]|b
+[ab|c
+[|a
+[|
+[]|a
+[]a]|a
+[^]|";
+
+fn each_is(rt: &impl Abort, cases: &str, want: bool) -> Result<(), Fail> {
+    for case in cases.lines() {
+        let (pattern, text) = case.split_once('|').ok_or("no case")?;
         assert_eq!(rt;
             matches(pattern.as_bytes(), text.as_bytes()),
             want,
-            "{pattern} on {text}"
+            "{case}"
         );
     }
+    Ok(())
+}
+
+#[test]
+fn cases(rt: HostRuntime) -> Result<(), Fail> {
+    each_is(&rt, MATCHING, true)?;
+    each_is(&rt, DIFFERENT, false)
 }
 
 // A walk that tried every place of every star would not end.

@@ -1,4 +1,4 @@
-use Rattle.std.proofs.Common.{◌≡◌, ◌||◌, true, false, sym, ap, ◌∙◌, arith}
+use Rattle.std.proofs.Common.{◌≡◌, ◌||◌, sym, ap, ◌∙◌, arith}
 use Rattle.glob.specs.Class.{is_within}
 use Rattle.glob.proofs.ClassMembers.{takes_step, rest_loop_step}
 use Rattle.glob.proofs.class.read_members.Goals as goal

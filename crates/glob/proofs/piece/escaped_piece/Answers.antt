@@ -1,4 +1,3 @@
-use Rattle.std.proofs.Common.{arith}
 use Rattle.glob.proofs.Pieces.{backslash_last, backslash_before}
 use Rattle.glob.proofs.piece.escaped_piece.Goals as goal
 

@@ -1,8 +1,8 @@
-use Rattle.std.proofs.Common.{◌≡◌, ◌+◌, ◌-◌, ◌≤◌, ◌<◌, ◌∷◌, ◌∙◌, ℕ, List, [], length, take, drop, get_or, ap, sym, subst, arith}
+use Rattle.std.proofs.Common.{◌≡◌, ◌+◌, ◌-◌, ◌≤◌, ◌∷◌, ◌∙◌, ℕ, List, [], length, take, drop, get_or, ap, sym, subst, arith}
 use Rattle.glob.specs.Pattern.{Matches}
-use Rattle.glob.specs.Piece.{TakesByte, IsPiece}
+use Rattle.glob.specs.Piece.{TakesByte}
 use Rattle.std.proofs.lemmas.List.{take_rest, drop-drop, length-drop}
-use Rattle.glob.proofs.Walks.{Walked, Since, star_step, takes_step, refuses_none, refuses_some, at_end}
+use Rattle.glob.proofs.Walks.{Walked, Since, star_step, takes_step, refuses_some, at_end}
 use Rattle.glob.proofs.walk.matches.Goals as goal
 
 -- the pattern's rest as the code passes it
