@@ -1,2 +1,5 @@
 pub mod Numerals
+pub mod Capped
 pub mod Signed
+pub mod Parts
+pub mod Wholes

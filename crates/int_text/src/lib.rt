@@ -2,7 +2,11 @@
 #![tactic(auto)]
 
 mod decimal;
+mod digits;
 mod laws;
+mod score;
+mod value;
 
 pub use decimal::{Memory, print, read_i64, read_u64};
 pub use laws::printed_text_is_read_back;
+pub use score::ScoreFault;
