@@ -3,3 +3,5 @@ pub mod Capped
 pub mod Signed
 pub mod Parts
 pub mod Wholes
+pub mod Splits
+pub mod ValueRead
