@@ -5,3 +5,4 @@ pub mod Parts
 pub mod Wholes
 pub mod Splits
 pub mod ValueRead
+pub mod Exponents

@@ -3,6 +3,7 @@
 
 mod decimal;
 mod digits;
+mod exponent;
 mod laws;
 mod score;
 mod value;

@@ -1,9 +1,9 @@
 // The values of score texts.
 
-ghost use Rattle.std.specs.Prelude.{◌≡◌, ◌-◌, ◌+◌, ◌<◌, ◌^◌, ℕ, length, min, if◌then◌else◌};
+ghost use Rattle.std.specs.Prelude.{◌≡◌, ◌-◌, ◌+◌, ◌<◌, ◌^◌, length, min, if◌then◌else◌};
 ghost use Rattle.std.specs.Str.Parse.{AllDigits};
 ghost use Rattle.int_text.specs.Places.{IsValueAt};
-ghost use Rattle.int_text.specs.Score.{IsValue};
+ghost use Rattle.int_text.specs.Parts.{IsValueRead};
 
 use crate::digits::{are_zeros, with_digits, with_zeros};
 use crate::score::ScoreFault;
@@ -52,4 +52,14 @@ fn places_before(digits: usize, exponent: Exponent) -> usize
     } else {
         digits.saturating_add(exponent.power)
     }
+}
+
+// The value of the digits of a number under its exponent.
+pub fn value_of(whole: &[u8], fraction: &[u8], exponent: Exponent) -> Result<u64, ScoreFault>
+    requires whole { AllDigits 10 whole.now }
+    requires fraction { AllDigits 10 fraction.now }
+    requires room { length whole.now + length fraction.now + 17 < 2 ^ 64 }
+    ensures { IsValueRead whole.now fraction.now exponent.divides exponent.power result }
+{
+    value_at(whole, fraction, places_before(whole.len(), exponent))
 }
