@@ -6,3 +6,4 @@ pub mod Wholes
 pub mod Splits
 pub mod ValueRead
 pub mod Exponents
+pub mod Numbers

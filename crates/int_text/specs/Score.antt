@@ -1,6 +1,7 @@
 -- Score texts, and the whole numbers that they mean. (Redis command reference, ZADD: a score is the text of a floating point
 -- number. Here the whole ones of magnitude at most 2^53 are taken, which such numbers hold exactly.)
-use Rattle.std.specs.Prelude.{◌≡◌, ℕ, ◌+◌, ◌*◌, ◌^◌, ◌<◌, ◌≤◌, ◌⊎◌, Bool, true, false, List, [], ◌∷◌, ◌++◌, length, Result, Ok, Err, if◌then◌else◌}
+use Rattle.std.specs.Prelude.{◌≡◌, ℕ, ◌+◌, ◌*◌, ◌^◌, ◌<◌, ◌≤◌, ◌⊎◌, Bool, true, false, List, [], ◌∷◌, ◌++◌, length, Result, Ok, Err, if◌then◌else◌, ℤ, pos, neg_ℤ, codes}
+use Rattle.std.specs.Str.{str_to_ascii_lowercase}
 use Rattle.std.specs.Str.Parse.{AllDigits, IsNumeral, digits_value}
 use Rattle.int_text.specs.declared.score.ScoreFault.{ScoreFault}
 use Rattle.int_text.specs.declared.score.ScoreFault.TheVariants.{Malformed, NotWhole, TooLarge}
@@ -50,3 +51,35 @@ IsValue number (Ok n) = IsWhole number n × (n ≤ 2 ^ 53)
 IsValue number (Err Malformed) = ⊥
 IsValue number (Err NotWhole) = (n : ℕ) → ¬ (IsWhole number n)
 IsValue number (Err TooLarge) = (n : ℕ) × IsWhole number n × (2 ^ 53 < n)
+
+-- A score text is a sign that may stand and a number.
+pub record IsScoreText (text : List ℕ) (negative : Bool) (number : Number) : Type 0 where
+  pub sign : List ℕ
+  pub body : List ℕ
+  pub text_is : text ≡ sign ++ body
+  pub is_sign : IsSign sign negative
+  pub is_number : IsNumber body number
+
+-- `inf` or `infinity`, in any case
+abbrev pub IsInfinityWord : List ℕ → Type 0
+IsInfinityWord word = (str_to_ascii_lowercase word ≡ codes "inf") ⊎ (str_to_ascii_lowercase word ≡ codes "infinity")
+
+pub record IsInfinity (text : List ℕ) : Type 0 where
+  pub sign : List ℕ
+  pub word : List ℕ
+  pub negative : Bool
+  pub text_is : text ≡ sign ++ word
+  pub is_sign : IsSign sign negative
+  pub is_word : IsInfinityWord word
+
+-- The score of a text: the whole number that it means, of magnitude at most 2^53, or why there is none. A malformed text is
+-- neither a score text nor an infinity; a value that is not whole is so whatever its magnitude; too large is a whole value
+-- above 2^53 in magnitude, or an infinity.
+abbrev pub IsScoreOf : List ℕ → Result ℤ ScoreFault → Type 0
+IsScoreOf text (Ok z) =
+    (negative : Bool) × (number : Number) × (n : ℕ) × IsScoreText text negative number × IsWhole number n × (n ≤ 2 ^ 53)
+    × (z ≡ (if negative then neg_ℤ (pos n) else pos n))
+IsScoreOf text (Err Malformed) = ((negative : Bool) (number : Number) → ¬ (IsScoreText text negative number)) × ¬ (IsInfinity text)
+IsScoreOf text (Err NotWhole) = (negative : Bool) × (number : Number) × IsScoreText text negative number × ((n : ℕ) → ¬ (IsWhole number n))
+IsScoreOf text (Err TooLarge) =
+    IsInfinity text ⊎ ((negative : Bool) × (number : Number) × (n : ℕ) × IsScoreText text negative number × IsWhole number n × (2 ^ 53 < n))

@@ -10,4 +10,4 @@ mod value;
 
 pub use decimal::{Memory, print, read_i64, read_u64};
 pub use laws::printed_text_is_read_back;
-pub use score::ScoreFault;
+pub use score::{ScoreFault, read_score};
