@@ -7,3 +7,4 @@ pub mod Splits
 pub mod ValueRead
 pub mod Exponents
 pub mod Numbers
+pub mod Scores

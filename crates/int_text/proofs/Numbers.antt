@@ -21,7 +21,7 @@ prefix_one (c ∷ cs) r (b ∷ bs) s d e stops_r stops_s same =
 
 pub exponent_stops : (t : List ℕ) (divides : Bool) (power : ℕ) → IsExponent t divides power → StopsDigits t
 exponent_stops _ _ _ no_exponent = tt
-exponent_stops _ _ _ (exponent mark sign digits divides is_mark is_sign numeral) =
+exponent_stops _ _ _ (exponent mark sign digits divides is_mark _ numeral) =
     elim is_mark [ inl e ↦ subst (λ m. 10 ≤ digit_value m) (sym e) (lit≤ tt) | inr e ↦ subst (λ m. 10 ≤ digit_value m) (sym e) (lit≤ tt) ]
 
 pub fraction_stops : (p f ex : List ℕ) → IsFraction p f → StopsDigits ex → StopsDigits (p ++ ex)
