@@ -38,8 +38,8 @@ capped_after a b [] e = e
 capped_after a b (c ∷ cs) e = capped_after (a * 10 + digit_value c) (b * 10 + digit_value c) cs (omega arith)
 
 pub capped_step : (ds : List ℕ) (i value start : ℕ) → AllDigits 10 ds → i < length ds →
-  min (digits_value_after 10 value (drop i ds)) large ≡ min (digits_value_after 10 start ds) large →
-  min (digits_value_after 10 (min (value * 10 + (get_or ds i 0 - 48)) large) (drop (i + 1) ds)) large ≡ min (digits_value_after 10 start ds) large
+    min (digits_value_after 10 value (drop i ds)) large ≡ min (digits_value_after 10 start ds) large →
+    min (digits_value_after 10 (min (value * 10 + (get_or ds i 0 - 48)) large) (drop (i + 1) ds)) large ≡ min (digits_value_after 10 start ds) large
 capped_step ds i value start all h before =
     let d = digit_at_is ds i all h in
     let here = value_step value ds i h in

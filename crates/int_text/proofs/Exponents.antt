@@ -56,6 +56,7 @@ marked mark signed None is h = go
     inv : (divides : Bool) (power : ℕ) (t : List ℕ) → IsExponent t divides power → t ≡ mark ∷ signed → ⊥
     inv _ _ _ no_exponent e = omega (arith, ap length e)
     inv _ _ _ (exponent m sign digits divides of_mark of_sign numeral) e = h sign digits divides of_sign (sym (ap (drop 1) e)) numeral
+
     go : (divides : Bool) (power : ℕ) → ¬ (IsExponent (mark ∷ signed) divides power)
     go divides power x = inv divides power (mark ∷ signed) x refl
 marked mark signed (Some x) is h =

@@ -63,10 +63,14 @@ module _ (W F tail behind : List ℕ) (w : AllDigits 10 W) (f : AllDigits 10 F) 
       let dot : StopsDigits (46 ∷ behind) = lit≤ tt in
       let one = prefix_one W (46 ∷ behind) number.whole (n.point_text ++ e) w n.digits dot (fraction_stops n.point_text number.fraction e n.is_fraction e_stops) n.body_is in
       let two = with_point n.point_text number.fraction e behind number.divides number.power n.is_fraction n.is_exponent one.1 in
-      let three = prefix_one F tail number.fraction e f two.1 stops e_stops (sym parts ∙ two.0) in
-      (sym one.0, sym three.0,
-        (subst (λ l. 0 < length W + length l) (sym three.0) (subst (λ l. 0 < length l + length number.fraction) (sym one.0) n.some),
-         subst (λ l. IsExponent l number.divides number.power) (sym three.1) n.is_exponent))
+      let three = prefix_one F tail number.fraction e f two.1 stops e_stops (sym parts ∙ two.0) in (
+        sym one.0,
+        sym three.0,
+        (
+          subst (λ l. 0 < length W + length l) (sym three.0) (subst (λ l. 0 < length l + length number.fraction) (sym one.0) n.some),
+          subst (λ l. IsExponent l number.divides number.power) (sym three.1) n.is_exponent,
+        ),
+      )
 
   pub from_point : (r : Result ℕ ScoreFault) → IsTailRead W F tail r → IsNumberRead (W ++ 46 ∷ behind) r
   from_point (Err Malformed) h = λ number n. h number.divides number.power (point_number_is number n).2
@@ -92,10 +96,14 @@ module _ (W rest : List ℕ) (w : AllDigits 10 W) (stops : StopsDigits rest) (ot
       let e = n.exponent_text in
       let e_stops = exponent_stops e number.divides number.power n.is_exponent in
       let one = prefix_one W rest number.whole (n.point_text ++ e) w n.digits stops (fraction_stops n.point_text number.fraction e n.is_fraction e_stops) n.body_is in
-      let two = without_point n.point_text number.fraction e rest n.is_fraction other one.1 in
-      (sym one.0, two.0,
-        (subst (λ l. 0 < length W + length l) two.0 (subst (λ l. 0 < length l + length number.fraction) (sym one.0) n.some),
-         subst (λ l. IsExponent l number.divides number.power) (sym two.1) n.is_exponent))
+      let two = without_point n.point_text number.fraction e rest n.is_fraction other one.1 in (
+        sym one.0,
+        two.0,
+        (
+          subst (λ l. 0 < length W + length l) two.0 (subst (λ l. 0 < length l + length number.fraction) (sym one.0) n.some),
+          subst (λ l. IsExponent l number.divides number.power) (sym two.1) n.is_exponent,
+        ),
+      )
 
   pub from_plain : (r : Result ℕ ScoreFault) → IsTailRead W [] rest r → IsNumberRead (W ++ rest) r
   from_plain (Err Malformed) h = λ number n. h number.divides number.power (plain_number_is number n).2

@@ -61,9 +61,10 @@ module _ (text sign body : List ℕ) (negative : Bool) (parts : text ≡ sign ++
   as_text number n = record { sign = sign; body = body; text_is = parts; is_sign = is_sign; is_number = n }
 
   pub from_signed : (r : Result ℤ ScoreFault) → IsSignedRead negative body r → IsScoreOf text r
-  from_signed (Err Malformed) h =
-      (λ other number s. h.0 number (subst (λ l. IsNumber l number) (only s.sign s.body other s.is_sign s.text_is (number_unsigned s.body number s.is_number)) s.is_number),
-       λ i. h.1 (subst IsInfinityWord (only i.sign i.word i.negative i.is_sign i.text_is (word_unsigned i.word i.is_word)) i.is_word))
+  from_signed (Err Malformed) h = (
+    λ other number s. h.0 number (subst (λ l. IsNumber l number) (only s.sign s.body other s.is_sign s.text_is (number_unsigned s.body number s.is_number)) s.is_number),
+    λ i. h.1 (subst IsInfinityWord (only i.sign i.word i.negative i.is_sign i.text_is (word_unsigned i.word i.is_word)) i.is_word),
+  )
   from_signed (Err NotWhole) h = (negative, h.0, as_text h.0 h.1, h.2)
   from_signed (Err TooLarge) (inl word) = inl (record { sign = sign; word = body; negative = negative; text_is = parts; is_sign = is_sign; is_word = word })
   from_signed (Err TooLarge) (inr h) = inr (negative, h.0, h.2.0, as_text h.0 h.1, h.2.1, h.2.2)

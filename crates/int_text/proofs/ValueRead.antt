@@ -20,8 +20,8 @@ IsValueOf D up below (Err TooLarge) = (n : ℕ) × (D * 10 ^ up ≡ n * 10 ^ bel
 
 -- the point stands among the digits, or far before them
 point_within : (W F : List ℕ) (before up below : ℕ) (r : Result ℕ ScoreFault) (s : Split W F before) → before ≤ length W + length F →
-  up + (length W + length F - before) ≤ below → (below ≡ up + (length W + length F - before)) ⊎ (s.K ≡ 0) → IsValueAt W F before r →
-  IsValueOf (digits_value 10 (W ++ F)) up below r
+    up + (length W + length F - before) ≤ below → (below ≡ up + (length W + length F - before)) ⊎ (s.K ≡ 0) → IsValueAt W F before r →
+    IsValueOf (digits_value 10 (W ++ F)) up below r
 point_within W F before up below (Ok n) s within le how v =
     let x : before - (length W + length F) ≡ 0 = omega arith in
     let is : n ≡ s.K = v.1 ∙ s.kept_is ∙ ap (λ k. s.K * 10 ^ k) x ∙ omega arith in
@@ -48,8 +48,8 @@ more_zeros k x t (inl same) = omega (arith, ap (λ e. k * 10 ^ e) same)
 more_zeros k x t (inr cut) = mul-le-mul_left k (pow-le-pow_right {n = 10} (lit< tt) cut.1)
 
 point_behind : (W F : List ℕ) (before power : ℕ) (r : Result ℕ ScoreFault) (s : Split W F before) → length W + length F ≤ before → length F ≤ power →
-  (before - (length W + length F) ≡ power - length F) ⊎ ((17 ≤ before - (length W + length F)) × (before - (length W + length F) ≤ power - length F)) → IsValueAt W F before r →
-  IsValueOf (digits_value 10 (W ++ F)) power (length F) r
+    (before - (length W + length F) ≡ power - length F) ⊎ ((17 ≤ before - (length W + length F)) × (before - (length W + length F) ≤ power - length F)) → IsValueAt W F before r →
+    IsValueOf (digits_value 10 (W ++ F)) power (length F) r
 point_behind W F before power r s behind room how v = by r v
   where
     t : ℕ
@@ -81,26 +81,26 @@ point_behind W F before power r s behind room how v = by r v
         (s.K * 10 ^ (power - length F), whole, omega (arith, large, more))
 
 as_value : (W F : List ℕ) (divides : Bool) (power : ℕ) (r : Result ℕ ScoreFault) →
-  IsValueOf (digits_value 10 (W ++ F)) (if divides then 0 else power) (length F + (if divides then power else 0)) r → IsValue (record { whole = W; fraction = F; divides = divides; power = power }) r
+    IsValueOf (digits_value 10 (W ++ F)) (if divides then 0 else power) (length F + (if divides then power else 0)) r → IsValue (record { whole = W; fraction = F; divides = divides; power = power }) r
 as_value W F divides power (Ok n) v = v
 as_value W F divides power (Err Malformed) v = v
 as_value W F divides power (Err NotWhole) v = v
 as_value W F divides power (Err TooLarge) v = v
 
 pub value_read : (W F : List ℕ) (divides : Bool) (power capped before : ℕ) (r : Result ℕ ScoreFault) → AllDigits 10 W → AllDigits 10 F → length W + length F + 17 < 2 ^ 64 →
-  capped ≡ min power (2 ^ 64 - 1) → before ≡ (if divides then length W - capped else min (length W + capped) (2 ^ 64 - 1)) → IsValueAt W F before r →
-  IsValue (record { whole = W; fraction = F; divides = divides; power = power }) r
+    capped ≡ min power (2 ^ 64 - 1) → before ≡ (if divides then length W - capped else min (length W + capped) (2 ^ 64 - 1)) → IsValueAt W F before r →
+    IsValue (record { whole = W; fraction = F; divides = divides; power = power }) r
 value_read W F true power capped before r w f room cap is v =
     let s = split_at W F before w f in
     as_value W F true power r
     (point_within W F before 0 (length F + power) r s (omega arith) (omega arith)
-        (elim (cases_lt (length W) capped) [
-          | inl far ↦ inr (s.first (omega arith))
-          | inr near ↦ elim (cases_lt 0 (length W)) [
-              | inl some ↦ inl (omega arith)
-              | inr none ↦ inr (s.first (omega arith))
-            ]
-        ]) v)
+    (elim (cases_lt (length W) capped) [
+      | inl far ↦ inr (s.first (omega arith))
+      | inr near ↦ elim (cases_lt 0 (length W)) [
+        | inl some ↦ inl (omega arith)
+        | inr none ↦ inr (s.first (omega arith))
+      ]
+    ]) v)
 value_read W F false power capped before r w f room cap is v =
     let s = split_at W F before w f in
     let below : length F + 0 ≡ length F = omega arith in
@@ -110,5 +110,5 @@ value_read W F false power capped before r w f room cap is v =
       | inr behind ↦
           subst (λ k. IsValueOf (digits_value 10 (W ++ F)) power k r) (sym below)
           (point_behind W F before power r s behind (omega arith)
-            (elim (cases_lt (length W + capped) (2 ^ 64 - 1)) [ inl exact ↦ inl (omega arith) | inr cut ↦ inr (omega arith, omega arith) ]) v)
+          (elim (cases_lt (length W + capped) (2 ^ 64 - 1)) [ inl exact ↦ inl (omega arith) | inr cut ↦ inr (omega arith, omega arith) ]) v)
     ])

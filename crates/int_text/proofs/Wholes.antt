@@ -22,6 +22,7 @@ value_after_is n (c ∷ cs) =
   where
     shuffle : (x y z : ℕ) → x + y + z ≡ x + (y + z)
     shuffle x y z = omega arith
+
     pow_suc : (k : ℕ) → 10 ^ suc k ≡ 10 * 10 ^ k
     pow_suc k = ap (λ e. 10 ^ e) (let e : suc k ≡ 1 + k = omega arith in e) ∙ pow-add 10 1 k
 
@@ -67,7 +68,7 @@ module _ (D K R r up below : ℕ) (whole_is : D ≡ K * 10 ^ r + R) where
       let s = below - (up + r) in
       let b : below ≡ s + (r + up) = omega arith in
       let p : n * 10 ^ below ≡ n * (10 ^ s * (10 ^ r * 10 ^ up)) =
-          ap (λ k. n * 10 ^ k) b ∙ ap (λ k. n * k) (pow-add 10 s (r + up)) ∙ ap (λ k. n * (10 ^ s * k)) (pow-add 10 r up) in
+      ap (λ k. n * 10 ^ k) b ∙ ap (λ k. n * k) (pow-add 10 s (r + up)) ∙ ap (λ k. n * (10 ^ s * k)) (pow-add 10 r up) in
       let q : n * (10 ^ s * (10 ^ r * 10 ^ up)) ≡ n * 10 ^ s * 10 ^ r * 10 ^ up = omega arith in
       let d : D ≡ n * 10 ^ s * 10 ^ r = eq_of_mul-eq-mul_right (10 ^ up) (ten_pos up) D (n * 10 ^ s * 10 ^ r) (e ∙ p ∙ q) in
       some (no_rest K R (n * 10 ^ s) (10 ^ r) small (sym whole_is ∙ d))

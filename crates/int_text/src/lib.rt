@@ -1,4 +1,7 @@
 //! Whole numbers as text: decimal text and score text.
+//!
+//! Decimal text is the form in which numbers stand in requests, replies and packed forms. A score text is what the Redis
+//! command ZADD takes as a score, restricted to whole values.
 #![tactic(auto)]
 
 mod decimal;
@@ -6,6 +9,8 @@ mod digits;
 mod exponent;
 mod laws;
 mod score;
+#[cfg(test)]
+mod tests;
 mod value;
 
 pub use decimal::{Memory, print, read_i64, read_u64};

@@ -18,13 +18,13 @@ returns-in-46 c =
     let parts : behind ≡ take n behind ++ tail = sym (take-append-drop n behind) ∙ ap (λ l. take n behind ++ l) (sym same) in
     subst (λ l. IsNumberRead (c.args.whole.now ++ l) c.read_tail.result) (sym (first_split 46 rest c.in-46.len_at_least (omega arith)))
     (from_point c.args.whole.now (take n behind) tail behind c.requires.whole c.digit_count-count.ensures.digits (subst StopsDigits (sym same) c.digit_count-count.ensures.stops) parts
-        c.read_tail.result c.read_tail.ensures)
+    c.read_tail.result c.read_tail.ensures)
 
 pub returns-in_default : goal.returns-in_default
 returns-in_default c =
     let other : get_or c.args.rest.now 0 0 ≢ 46 =
-        elim c.in_default.branch [
-          | in_default-via-then-rest-lt1 w ↦ no_first 46 c.args.rest.now (lit< tt) (grind (arith, nat_tests))
-          | in_default-via-else-rest-lt1+in_default-1 w ↦ λ e. omega arith
-        ] in
+    elim c.in_default.branch [
+      | in_default-via-then-rest-lt1 w ↦ no_first 46 c.args.rest.now (lit< tt) (grind (arith, nat_tests))
+      | in_default-via-else-rest-lt1+in_default-1 w ↦ λ e. omega arith
+    ] in
     from_plain c.args.whole.now c.args.rest.now c.requires.whole c.requires.stops other c.read_tail-in_default.result c.read_tail-in_default.ensures

@@ -20,8 +20,8 @@ pub returns-in_default : goal.returns-in_default
 returns-in_default c =
     let text = c.args.text.now in
     let unsigned : IsUnsigned text =
-        elim c.in_default.branch [
-          | in_default-via-then-text-lt1 w ↦ record { no_plus = no_first 43 text (lit< tt) (grind (arith, nat_tests)); no_minus = no_first 45 text (lit< tt) (grind (arith, nat_tests)) }
-          | in_default-via-else-text-lt1+in_default-1 w ↦ record { no_plus = λ e. omega arith; no_minus = λ e. omega arith }
-        ] in
+    elim c.in_default.branch [
+      | in_default-via-then-text-lt1 w ↦ record { no_plus = no_first 43 text (lit< tt) (grind (arith, nat_tests)); no_minus = no_first 45 text (lit< tt) (grind (arith, nat_tests)) }
+      | in_default-via-else-text-lt1+in_default-1 w ↦ record { no_plus = λ e. omega arith; no_minus = λ e. omega arith }
+    ] in
     from_signed text [] text _ refl no_sign (behind_none text unsigned) c.read_signed-in_default.result c.read_signed-in_default.ensures

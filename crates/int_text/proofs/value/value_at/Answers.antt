@@ -28,9 +28,9 @@ returns-then-number-gt-MOST c =
     let digits = c.with_digits-digits in
     let number = c.with_zeros-number in
     let is : number.result ≡ min (kept W F c.args.before) large =
-        kept_number W F c.args.before wk.result fk.result start.result digits.result number.result wk.ensures fk.ensures start.ensures digits.ensures number.ensures in
+    kept_number W F c.args.before wk.result fk.result start.result digits.result number.result wk.ensures fk.ensures start.ensures digits.ensures number.ensures in
     let none : IsNothingBehind W F c.args.before =
-        nothing_behind W F c.args.before wk.result fk.result wk.ensures fk.ensures (c.if-not-are_zeros.ensures.0 refl) (c.if-not-are_zeros-2.ensures.0 refl) in
+    nothing_behind W F c.args.before wk.result fk.result wk.ensures fk.ensures (c.if-not-are_zeros.ensures.0 refl) (c.if-not-are_zeros-2.ensures.0 refl) in
     (none, omega (arith, is))
 
 pub returns : goal.returns
@@ -43,7 +43,7 @@ returns c =
     let digits = c.with_digits-digits in
     let number = c.with_zeros-number in
     let is : number.result ≡ min (kept W F c.args.before) large =
-        kept_number W F c.args.before wk.result fk.result start.result digits.result number.result wk.ensures fk.ensures start.ensures digits.ensures number.ensures in
+    kept_number W F c.args.before wk.result fk.result start.result digits.result number.result wk.ensures fk.ensures start.ensures digits.ensures number.ensures in
     let none : IsNothingBehind W F c.args.before =
-        nothing_behind W F c.args.before wk.result fk.result wk.ensures fk.ensures (c.if-not-are_zeros.ensures.0 refl) (c.if-not-are_zeros-2.ensures.0 refl) in
+    nothing_behind W F c.args.before wk.result fk.result wk.ensures fk.ensures (c.if-not-are_zeros.ensures.0 refl) (c.if-not-are_zeros-2.ensures.0 refl) in
     (none, omega (arith, is), c.if-number-gt-MOST.false)
