@@ -8,3 +8,4 @@ pub mod ValueRead
 pub mod Exponents
 pub mod Numbers
 pub mod Scores
+pub mod Ones

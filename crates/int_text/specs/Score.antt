@@ -83,3 +83,7 @@ IsScoreOf text (Err Malformed) = ((negative : Bool) (number : Number) → ¬ (Is
 IsScoreOf text (Err NotWhole) = (negative : Bool) × (number : Number) × IsScoreText text negative number × ((n : ℕ) → ¬ (IsWhole number n))
 IsScoreOf text (Err TooLarge) =
     IsInfinity text ⊎ ((negative : Bool) × (number : Number) × (n : ℕ) × IsScoreText text negative number × IsWhole number n × (2 ^ 53 < n))
+
+-- a text has one score, or one fault
+abbrev pub ScoresAreOne : Type 0
+ScoresAreOne = (text : List ℕ) (r s : Result ℤ ScoreFault) → IsScoreOf text r → IsScoreOf text s → r ≡ s

@@ -14,5 +14,5 @@ mod tests;
 mod value;
 
 pub use decimal::{Memory, print, read_i64, read_u64};
-pub use laws::printed_text_is_read_back;
+pub use laws::{printed_text_is_read_back, scores_are_one};
 pub use score::{ScoreFault, read_score};
