@@ -1,5 +1,5 @@
 -- A text has one score, or one fault.
-use Rattle.std.proofs.Common.{◌≡◌, ◌≢◌, ◌⊎◌, ℕ, zero, suc, ◌+◌, ◌-◌, ◌*◌, ◌<◌, ◌≤◌, ◌^◌, Bool, true, false, List, [], ◌∷◌, ◌++◌, length, drop, get_or, refl, sym, ap, subst, ◌∙◌, inl, inr, arith}
+use Rattle.std.proofs.Common.{◌≡◌, ◌≢◌, ℕ, ◌+◌, ◌<◌, ◌≤◌, ◌^◌, Bool, List, [], ◌∷◌, ◌++◌, length, drop, get_or, refl, sym, ap, subst, ◌∙◌, inl, inr, arith}
 use Rattle.std.specs.Prelude.{Result, Ok, Err, ℤ, pos, neg_ℤ, if◌then◌else◌}
 use Rattle.std.specs.Char.{to_ascii_lowercase}
 use Rattle.std.proofs.lemmas.Bool.Decides.{nat_tests}
@@ -59,7 +59,7 @@ number_one body m n a b =
     let stops_a = exponent_stops a.exponent_text m.divides m.power a.is_exponent in
     let stops_b = exponent_stops b.exponent_text n.divides n.power b.is_exponent in
     let whole = prefix_one m.whole (a.point_text ++ a.exponent_text) n.whole (b.point_text ++ b.exponent_text) a.digits b.digits
-        (fraction_stops a.point_text m.fraction a.exponent_text a.is_fraction stops_a) (fraction_stops b.point_text n.fraction b.exponent_text b.is_fraction stops_b) (sym a.body_is ∙ b.body_is) in
+    (fraction_stops a.point_text m.fraction a.exponent_text a.is_fraction stops_a) (fraction_stops b.point_text n.fraction b.exponent_text b.is_fraction stops_b) (sym a.body_is ∙ b.body_is) in
     let fraction = fraction_one a.point_text b.point_text m.fraction n.fraction a.exponent_text b.exponent_text m.divides n.divides m.power n.power a.is_fraction b.is_fraction a.is_exponent b.is_exponent whole.1 in
     let power = exponent_one a.exponent_text b.exponent_text m.divides n.divides m.power n.power a.is_exponent b.is_exponent fraction.1 in
     same_number m n whole.0 fraction.0 power.0 power.1

@@ -1,13 +1,13 @@
 -- From a number behind its sign to the score of the text.
-use Rattle.std.proofs.Common.{◌≡◌, ◌≢◌, ◌⊎◌, ℕ, zero, suc, ◌+◌, ◌-◌, ◌<◌, ◌≤◌, ◌^◌, Bool, true, false, List, [], ◌∷◌, ◌++◌, length, drop, get_or, refl, sym, ap, subst, ◌∙◌, inl, inr, arith}
-use Rattle.std.specs.Prelude.{Result, Ok, Err, ℤ, codes}
+use Rattle.std.proofs.Common.{◌≡◌, ◌≢◌, ℕ, ◌+◌, ◌<◌, Bool, List, [], ◌∷◌, ◌++◌, length, drop, get_or, sym, ap, subst, ◌∙◌, inl, inr, arith}
+use Rattle.std.specs.Prelude.{Result, Ok, Err, ℤ}
 use Rattle.std.specs.Str.{str_to_ascii_lowercase}
 use Rattle.std.specs.Str.Parse.{AllDigits}
 use Rattle.std.proofs.lemmas.Str.Parse.{digit_from_value}
 use Rattle.int_text.specs.declared.score.ScoreFault.{ScoreFault}
 use Rattle.int_text.specs.declared.score.ScoreFault.TheVariants.{Malformed, NotWhole, TooLarge}
-use Rattle.int_text.specs.Parts.{IsNumberRead, IsSignedRead}
-use Rattle.int_text.specs.Score.{IsSign, no_sign, plus, minus, Number, IsNumber, IsFraction, no_point, point, IsInfinityWord, IsInfinity, IsScoreText, IsScoreOf}
+use Rattle.int_text.specs.Parts.{IsSignedRead}
+use Rattle.int_text.specs.Score.{IsSign, no_sign, plus, minus, Number, IsNumber, IsFraction, no_point, point, IsInfinityWord, IsScoreText, IsScoreOf}
 
 -- a text begins with no sign
 pub record IsUnsigned (text : List ℕ) : Type 0 where

@@ -1,16 +1,16 @@
 -- From the digits before the point to the value of the number.
-use Rattle.std.proofs.Common.{◌≡◌, ◌≢◌, ◌⊎◌, ℕ, zero, suc, ◌+◌, ◌-◌, ◌*◌, ◌<◌, ◌≤◌, ◌^◌, Bool, true, false, List, [], ◌∷◌, ◌++◌, length, take, drop, min, refl, sym, ap, subst, ◌∙◌, inl, inr, arith, lit<, lit≤}
+use Rattle.std.proofs.Common.{◌≡◌, ◌⊎◌, ℕ, zero, suc, ◌+◌, ◌-◌, ◌*◌, ◌<◌, ◌≤◌, ◌^◌, Bool, true, false, List, ◌++◌, length, min, sym, ap, subst, ◌∙◌, inl, inr, arith, lit<}
 use Rattle.std.specs.Prelude.{Result, Ok, Err, if◌then◌else◌}
 use Rattle.std.specs.Str.Parse.{AllDigits, digits_value}
 use Rattle.std.proofs.lemmas.Bool.{cases_lt}
 use Rattle.std.proofs.lemmas.Nat.{pow-add}
-use Rattle.std.proofs.Math.Nat.{mul-le-mul_left, pow-le-pow_right, le-mul_of_pos_right}
+use Rattle.std.proofs.Math.Nat.{mul-le-mul_left, pow-le-pow_right}
 use Rattle.int_text.specs.declared.score.ScoreFault.{ScoreFault}
 use Rattle.int_text.specs.declared.score.ScoreFault.TheVariants.{Malformed, NotWhole, TooLarge}
 use Rattle.int_text.specs.Places.{kept, IsValueAt}
-use Rattle.int_text.specs.Score.{Number, IsWhole, IsValue}
+use Rattle.int_text.specs.Score.{IsValue}
 use Rattle.int_text.proofs.Splits.{Split, split_at}
-use Rattle.int_text.proofs.Wholes.{whole_ok, not_whole, ten_pos}
+use Rattle.int_text.proofs.Wholes.{whole_ok, not_whole}
 
 abbrev IsValueOf : ℕ → ℕ → ℕ → Result ℕ ScoreFault → Type 0
 IsValueOf D up below (Ok n) = (D * 10 ^ up ≡ n * 10 ^ below) × (n ≤ 2 ^ 53)

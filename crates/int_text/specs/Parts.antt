@@ -1,10 +1,10 @@
 -- What the parts of a score text are found to be.
-use Rattle.std.specs.Prelude.{◌≡◌, ℕ, ◌-◌, ◌^◌, min, Bool, List, ◌++◌, Option, Some, None, Result, Ok, Err, ◌<◌, ◌≤◌, ◌+◌, ◌⊎◌, length, ℤ, pos, neg_ℤ, if◌then◌else◌}
+use Rattle.std.specs.Prelude.{◌≡◌, ℕ, ◌-◌, ◌^◌, min, Bool, List, ◌++◌, Option, Some, None, Result, Ok, Err, ◌<◌, ◌+◌, ◌⊎◌, length, ℤ, pos, neg_ℤ, if◌then◌else◌}
 use Rattle.std.specs.Str.Parse.{IsNumeral, digits_value}
 use Rattle.int_text.specs.declared.score.ScoreFault.{ScoreFault}
 use Rattle.int_text.specs.declared.score.ScoreFault.TheVariants.{Malformed, NotWhole, TooLarge}
 use Rattle.int_text.specs.declared.value.Exponent.{Exponent}
-use Rattle.int_text.specs.Score.{Number, IsNumber, IsSign, IsExponent, IsValue, IsWhole, IsInfinityWord}
+use Rattle.int_text.specs.Score.{Number, IsNumber, IsSign, IsExponent, IsValue, IsInfinityWord}
 
 -- a power, cut at the greatest number that the code holds
 abbrev pub capped : ℕ → ℕ

@@ -12,5 +12,4 @@ pub fn printed_text_is_read_back()
 /// A text has one score, or one fault: the definition leaves no choice to the code.
 pub fn scores_are_one()
     ensures { ScoresAreOne }
-{
-}
+{}

@@ -1,4 +1,4 @@
-use Rattle.std.proofs.Common.{◌≡◌, ◌≢◌, ◌<◌, ◌≤◌, ◌-◌, ℕ, List, [], ◌∷◌, take, drop, length, get_or, arith, lit<, sym, subst}
+use Rattle.std.proofs.Common.{◌≡◌, ◌≢◌, ◌≤◌, ◌-◌, ℕ, List, ◌∷◌, take, drop, length, get_or, arith, lit<, sym, subst}
 use Rattle.std.proofs.lemmas.Bool.Decides.{nat_tests}
 use Rattle.int_text.specs.Decimal.{IsI64Text}
 use Rattle.int_text.proofs.Signed.{minus_none, minus_some, plain_large, first_split, no_first, no_difference, no_sum}

@@ -1,4 +1,4 @@
-use Rattle.std.proofs.Common.{◌≡◌, ◌≤◌, length, drop, min}
+use Rattle.std.proofs.Common.{◌≡◌, ◌≤◌, drop, min}
 use Rattle.std.specs.Str.Parse.{digits_value_after}
 use Rattle.int_text.proofs.digits.with_digits.Given as goal
 

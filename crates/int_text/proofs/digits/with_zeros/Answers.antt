@@ -1,4 +1,4 @@
-use Rattle.std.proofs.Common.{◌∙◌, arith}
+use Rattle.std.proofs.Common.{◌∙◌}
 use Rattle.int_text.proofs.Capped.{capped_place, capped_end}
 use Rattle.int_text.proofs.digits.with_zeros.Goals as goal
 

@@ -1,4 +1,4 @@
-use Rattle.std.proofs.Common.{◌≡◌, ◌≤◌, ◌*◌, ◌^◌, min}
+use Rattle.std.proofs.Common.{◌≡◌, ◌*◌, ◌^◌, min}
 use Rattle.int_text.proofs.digits.with_zeros.Given as goal
 
 abbrev pub invariant-loop-place : goal.invariant-loop-place

@@ -1,7 +1,7 @@
-use Rattle.std.proofs.Common.{◌≡◌, sym, subst, refl, inl, inr, arith}
+use Rattle.std.proofs.Common.{sym, subst, refl, inl, inr, arith}
 use Rattle.int_text.specs.Parts.{IsExponentRead}
 use Rattle.int_text.proofs.Signed.{first_split}
-use Rattle.int_text.proofs.Exponents.{marked, unmarked, no_exponent_read}
+use Rattle.int_text.proofs.Exponents.{marked, no_exponent_read}
 use Rattle.int_text.proofs.exponent.read_exponent.Goals as goal
 
 pub returns-in-empty : goal.returns-in-empty

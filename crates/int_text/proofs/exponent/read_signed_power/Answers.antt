@@ -1,4 +1,4 @@
-use Rattle.std.proofs.Common.{◌≡◌, ◌≢◌, length, get_or, sym, subst, lit<, arith}
+use Rattle.std.proofs.Common.{sym, subst, lit<, arith}
 use Rattle.std.proofs.lemmas.Bool.Decides.{nat_tests}
 use Rattle.int_text.specs.Parts.{IsSignedPowerRead}
 use Rattle.int_text.proofs.Signed.{first_split, no_first}

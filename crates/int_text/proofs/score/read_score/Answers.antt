@@ -1,4 +1,4 @@
-use Rattle.std.proofs.Common.{◌≡◌, ◌≢◌, List, ℕ, [], ◌∷◌, get_or, refl, sym, subst, lit<, arith}
+use Rattle.std.proofs.Common.{[], ◌∷◌, refl, sym, subst, lit<, arith}
 use Rattle.std.proofs.lemmas.Bool.Decides.{nat_tests}
 use Rattle.int_text.specs.Score.{no_sign, plus, minus, IsScoreOf}
 use Rattle.int_text.proofs.Signed.{first_split, no_first}

@@ -1,7 +1,5 @@
-use Rattle.std.proofs.Common.{◌≡◌, ◌≢◌, ◌<◌, ◌≤◌, ◌-◌, ◌+◌, ◌^◌, min, refl, length, take, drop, inl, inr, sym, ap, subst, ◌∙◌, arith}
-use Rattle.std.specs.Str.Parse.{AllDigits, digits_value}
-use Rattle.std.proofs.lemmas.List.{take_rest}
-use Rattle.int_text.specs.Places.{whole_kept, fraction_kept, kept, IsNothingBehind}
+use Rattle.std.proofs.Common.{◌≡◌, min, refl, arith}
+use Rattle.int_text.specs.Places.{kept, IsNothingBehind}
 use Rattle.int_text.proofs.Capped.{large}
 use Rattle.int_text.proofs.Parts.{digits_take, digits_rest, kept_number, nothing_behind}
 use Rattle.int_text.proofs.value.value_at.Goals as goal
