@@ -1,2 +1,11 @@
 pub mod Numerals
+pub mod Capped
 pub mod Signed
+pub mod Parts
+pub mod Wholes
+pub mod Splits
+pub mod ValueRead
+pub mod Exponents
+pub mod Numbers
+pub mod Scores
+pub mod Ones

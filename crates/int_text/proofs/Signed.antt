@@ -53,13 +53,17 @@ plain_large text m small plain is_m large (pos n, fits, is) =
     omega (arith, fits.sfits, decimal_injective m n small (omega (arith, fits.sfits)) (sym is_m ∙ is))
 plain_large text m small plain is_m large (negsuc n, fits, is) = plain (ap (λ l. get_or l 0 0) is)
 
--- a text that begins with a minus sign
-pub minus_split : (text : List ℕ) → 1 ≤ length text → get_or text 0 0 ≡ 45 → text ≡ 45 ∷ take (length text - 1) (drop 1 text)
-minus_split [] some first = absurd (omega arith)
-minus_split (c ∷ cs) some first =
+-- a text is its first byte and the others
+pub first_split : (b : ℕ) (text : List ℕ) → 1 ≤ length text → get_or text 0 0 ≡ b → text ≡ b ∷ take (length text - 1) (drop 1 text)
+first_split b [] some first = absurd (omega arith)
+first_split b (c ∷ cs) some first =
     let n : length (c ∷ cs) - 1 ≡ length cs = omega arith in
     let rest : cs ≡ take (length (c ∷ cs) - 1) cs = sym (take_all (length (c ∷ cs) - 1) cs (omega arith)) in
-    ap (λ x. x ∷ cs) first ∙ ap (λ l. 45 ∷ l) rest
+    ap (λ x. x ∷ cs) first ∙ ap (λ l. b ∷ l) rest
+
+pub no_first : (b : ℕ) (text : List ℕ) → 0 < b → length text < 1 → get_or text 0 0 ≢ b
+no_first b [] some short e = omega arith
+no_first b (c ∷ cs) some short e = omega arith
 
 -- what a subtraction from 0 that does not fit says of the number
 pub below_least : (m : ℕ) → m ≢ 0 → ¬ (FitsSigned w64 (pos 0 -ℤ pos m)) → (k : ℕ) → k < 2 ^ 63 → m ≢ suc k

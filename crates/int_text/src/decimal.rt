@@ -1,24 +1,14 @@
 // Decimal text.
 
 ghost use Rattle.std.specs.Prelude.{◌≡◌, ◌≢◌, ◌^◌, ◌<◌, ◌++◌, ℕ, SomeIff, IfSome, IfNone, OnOk, OnErr, decimal};
-ghost use Rattle.std.specs.Char.{digit_value};
 ghost use Rattle.std.specs.Str.Parse.{digits_value};
 ghost use Rattle.int_text.specs.Decimal.{canonical, IsI64Text, IsU64Text};
 
+use crate::digits::digit_of;
 use itoa::Buffer;
 
 /// Memory was refused.
 pub type Memory = std::alloc::AllocError;
-
-// The value of an ASCII digit.
-fn digit_of(byte: u8) -> Option<u64>
-    ensures { SomeIff result (digit_value byte < 10) (digit_value byte) }
-{
-    match byte {
-        b'0'..=b'9' => Some(u64::from(byte - b'0')),
-        _ => None,
-    }
-}
 
 /// Reads one or more decimal digits as a number below 2^64. Leading zeros are taken; a sign, a space or any other byte is
 /// not.

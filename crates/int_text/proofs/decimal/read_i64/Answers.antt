@@ -1,17 +1,13 @@
-use Rattle.std.proofs.Common.{◌≡◌, ◌≢◌, ◌<◌, ◌≤◌, ◌-◌, ℕ, List, [], ◌∷◌, take, drop, length, get_or, arith, sym, subst}
+use Rattle.std.proofs.Common.{◌≡◌, ◌≢◌, ◌≤◌, ◌-◌, ℕ, List, ◌∷◌, take, drop, length, get_or, arith, lit<, sym, subst}
 use Rattle.std.proofs.lemmas.Bool.Decides.{nat_tests}
 use Rattle.int_text.specs.Decimal.{IsI64Text}
-use Rattle.int_text.proofs.Signed.{minus_none, minus_some, plain_large, minus_split, no_difference, no_sum}
+use Rattle.int_text.proofs.Signed.{minus_none, minus_some, plain_large, first_split, no_first, no_difference, no_sum}
 use Rattle.int_text.proofs.decimal.read_i64.Goals as goal
 use Rattle.int_text.proofs.decimal.read_i64.Goals.{in_default-via-then-text-lt1, in_default-via-else-text-lt1+in_default-1}
 
 -- what holds of no text that is a minus sign before these digits
 with_minus : (text : List ℕ) → 1 ≤ length text → get_or text 0 0 ≡ 45 → ¬ (IsI64Text (45 ∷ take (length text - 1) (drop 1 text))) → ¬ (IsI64Text text)
-with_minus text some first h = subst (λ t. ¬ (IsI64Text t)) (sym (minus_split text some first)) h
-
-no_byte : (text : List ℕ) → length text < 1 → get_or text 0 0 ≢ 45
-no_byte [] short e = omega arith
-no_byte (c ∷ cs) short e = omega arith
+with_minus text some first h = subst (λ t. ¬ (IsI64Text t)) (sym (first_split 45 text some first)) h
 
 pub returns-in_err-magnitude-in-45-clause-none : goal.returns-in_err-magnitude-in-45-clause-none
 returns-in_err-magnitude-in-45-clause-none c =
@@ -32,7 +28,7 @@ pub returns-in_ok-read_unsigned-in_default-clause-none : goal.returns-in_ok-read
 returns-in_ok-read_unsigned-in_default-clause-none c =
     let plain : get_or c.args.text.now 0 0 ≢ 45 =
     elim c.in_default.branch [
-      | in_default-via-then-text-lt1 w ↦ λ e. absurd (no_byte c.args.text.now (grind (arith, nat_tests)) e)
+      | in_default-via-then-text-lt1 w ↦ λ e. absurd (no_first 45 c.args.text.now (lit< tt) (grind (arith, nat_tests)) e)
       | in_default-via-else-text-lt1+in_default-1 w ↦ λ e. absurd (omega arith)
     ] in
     no_sum c.checked_add_unsigned.result c.in_ok-read_unsigned-in_default.field-0 c.checked_add_unsigned.ensures

@@ -1,0 +1,10 @@
+//! Patterns of keys, members and fields, as the Redis commands KEYS and SCAN take them.
+#![tactic(auto)]
+
+mod class;
+mod piece;
+#[cfg(test)]
+mod tests;
+mod walk;
+
+pub use walk::matches;
