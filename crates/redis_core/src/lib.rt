@@ -12,13 +12,12 @@ ghost use Rattle.plain_model.specs.declared.command.StringCommand.TheVariants as
 ghost use Rattle.redis_core.specs.Held.{world_of};
 
 use crate::values::{put_value, value_at};
-use crate::words::read_words;
+use crate::words::{Asked, read_words};
 use plain_model::{Bytes, Line, Memory, Reply};
 use resp_frames::Request;
 use std::alloc::Global;
 use std::collections::BTreeMap;
 use std::marker::Model;
-pub use words::Asked;
 
 /// What a request led to.
 #[derive(Drop)]

@@ -10,9 +10,6 @@ mod spelling;
 #[cfg(test)]
 mod tests;
 
-pub use feeder::{Feeder, FrameFault, Next, Request};
-pub use header::Header;
+pub use feeder::{Feeder, FrameFault, Request};
 pub use laws::{faults_stay, frames_are_one, frames_are_there, requests_only_grow};
-pub use number::Count;
-pub use request::{Body, Due, Found, Progress, Span, Step};
 pub use spelling::{put_all, spell};
