@@ -51,7 +51,7 @@ fn broken(
     first: usize,
 ) -> Result<(u64, Option<FrameFault>), AllocError>
     requires first { first ≤ length stream.now }
-    requires few { length stream.now ≤ 1000 }
+    requires few { length stream.now ≤ 100000 }
 {
     let mut feeder = Feeder::new(alloc);
     feeder.feed(&stream[..first])?;
@@ -91,5 +91,25 @@ fn words_and_what_is_kept(rt: HostRuntime) -> Result<(), Fail> {
     assert_eq!(rt; request.word(1), b"".as_slice());
     assert_eq!(rt; feeder.next_request(), Ok(false));
     assert_eq!(rt; feeder.kept(), 10);
+    Ok(())
+}
+
+// A header of 65,536 bytes before its CR is read, and its number is bad; one byte more is too long, CR or not.
+#[test]
+fn headers_of_the_longest(rt: HostRuntime) -> Result<(), Fail> {
+    let mut header = vec![in rt.alloc(); b'1'; 65_536]?;
+    header[0] = b'*';
+    let mut taken = Vec::from_slice(rt.alloc(), header.as_slice())?;
+    taken.extend_from_slice(b"\r\n")?;
+    header.push(b'1')?;
+    let cases = [(taken.as_slice(), 1u8), (header.as_slice(), 4u8)];
+    for (stream, fault) in cases {
+        assert!(rt; stream.len() <= 100_000);
+        for first in [0, 1, 65_535, 65_536] {
+            assert!(rt; first <= stream.len());
+            let due = FrameFault::Protocol { fault, at: 0 };
+            assert_eq!(rt; broken(rt.alloc(), stream, first)?, (0, Some(due)));
+        }
+    }
     Ok(())
 }
