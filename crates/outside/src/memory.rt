@@ -56,7 +56,7 @@ impl Source for MemSource {
 }
 
 // Copies a front of the bytes, and says how long it is: as long as there are bytes, room and leave.
-fn copy_front(from: &[u8], into: &mut [u8], bound: usize) -> usize
+pub(crate) fn copy_front(from: &[u8], into: &mut [u8], bound: usize) -> usize
     requires { 0 < bound }
     ensures within { result ≤ length from.now }
     ensures room { result ≤ length into.new }
