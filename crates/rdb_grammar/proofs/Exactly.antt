@@ -185,11 +185,11 @@ refuses-exact is = record { exact = tt }
 
 branch_takes : {A : Type 0} (branch : Branch A) → BranchExact branch → (rest : List ℕ) (x : A) (left : List ℕ) → branch_read branch rest ≡ Ok (x, left) → (word : List ℕ) × (rest ≡ word ++ left) × BranchSpells branch x word
 branch_takes (Goes one) e rest x left h = e.exact.takes rest x left h
-branch_takes (Refuses kind) e rest x left h = absurd cc
+branch_takes (Refuses is) e rest x left h = absurd cc
 
 branch_again : {A : Type 0} (branch : Branch A) → BranchExact branch → (x : A) (word rest : List ℕ) → BranchSpells branch x word → branch_read branch (word ++ rest) ≡ Ok (x, rest)
 branch_again (Goes one) e x word rest h = e.exact.again x word rest h
-branch_again (Refuses kind) e x word rest h = absurd h
+branch_again (Refuses is) e x word rest h = absurd h
 
 branch_fails : {A : Type 0} (branch : Branch A) → BranchExact branch → (rest : List ℕ) (kind : LoadKind) (left : ℕ) → branch_read branch rest ≡ Err (kind, left) → BranchFaulty branch rest kind left
 branch_fails (Goes one) e rest kind left h = e.exact.fails rest kind left h
@@ -240,4 +240,4 @@ turned-exact of (Refuses is) e = refuses-exact is
 
 pub turned-read : {A B : Type 0} (of : A → B) (branch : Branch A) (rest : List ℕ) → branch_read (turned of branch) rest ≡ (branch_read branch rest >>= λ x. Ok (of x.0, x.1))
 turned-read of (Goes one) rest = refl
-turned-read of (Refuses kind) rest = refl
+turned-read of (Refuses is) rest = refl

@@ -48,7 +48,7 @@ value_behind-exact b = pick-exact _ _ _ (goes-exact _ string_value-exact) (refus
 
 keyed-exact : (branch : Branch Value) → BranchExact branch → BranchExact (keyed branch)
 keyed-exact (Goes value) e = goes-exact _ (followed-exact _ _ string-exact λ name. followed-exact _ _ e.exact λ x. give-exact _)
-keyed-exact (Refuses kind) e = refuses-exact _
+keyed-exact (Refuses is) e = refuses-exact _
 
 database-exact : Exact database
 database-exact = checked-exact _ _ _ _ a_length-exact

@@ -68,15 +68,15 @@ pick false one other = other
 -- a branch whose value is seen as another
 abbrev pub turned : {A B : Type 0} → (A → B) → Branch A → Branch B
 turned of (Goes one) = Goes (followed one λ x. give (of x))
-turned of (Refuses kind) = Refuses kind
+turned of (Refuses is) = Refuses is
 
 abbrev pub branch_read : {A : Type 0} → Branch A → List ℕ → Result (A × List ℕ) Fault
 branch_read (Goes one) rest = one.read rest
-branch_read (Refuses kind) rest = Err (kind, suc (length rest))
+branch_read (Refuses is) rest = Err (is, suc (length rest))
 
 abbrev pub BranchSpells : {A : Type 0} → Branch A → A → List ℕ → Type 0
 BranchSpells (Goes one) x word = one.Spells x word
-BranchSpells (Refuses kind) x word = ⊥
+BranchSpells (Refuses is) x word = ⊥
 
 abbrev pub BranchFaulty : {A : Type 0} → Branch A → List ℕ → LoadKind → ℕ → Type 0
 BranchFaulty (Goes one) rest kind left = one.Faulty rest kind left

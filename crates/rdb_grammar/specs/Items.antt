@@ -22,7 +22,7 @@ key_with value = followed string λ name. followed value λ x. give (Key name x)
 
 abbrev pub keyed : Branch Value → Branch Item
 keyed (Goes value) = Goes (key_with value)
-keyed (Refuses kind) = Refuses kind
+keyed (Refuses is) = Refuses is
 
 -- the number of a database
 abbrev pub database : Format ℕ
