@@ -1,2 +1,4 @@
 pub mod Rounds
 pub mod Words
+pub mod Linear
+pub mod Lookup

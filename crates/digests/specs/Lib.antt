@@ -1,1 +1,3 @@
 pub mod Siphash
+pub mod Crc
+pub mod Entries

@@ -1,0 +1,10 @@
+pub mod Format
+pub mod Lengths
+pub mod Strings
+pub mod Values
+pub mod Items
+pub mod Places
+pub mod Files
+pub mod Views
+pub mod Gives
+pub mod Numbers

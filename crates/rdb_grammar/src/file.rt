@@ -1,0 +1,87 @@
+//! A whole file: its header, its checksum, and what it means.
+
+ghost use Rattle.std.specs.Prelude.{◌≡◌, ◌≤◌, ℕ, List, length, take, IfOk, IfErr};
+ghost use Rattle.rdb_grammar.specs.Places.{Stands, Fails};
+ghost use Rattle.rdb_grammar.specs.Files.{magic, version, header, sum_field, ExactlyOne};
+ghost use Rattle.rdb_grammar.specs.Gives.{Gives};
+
+use crate::fault::{FileFault, LoadKind, Refused};
+use crate::lengths::u64_le_at;
+use digests::crc;
+
+fn magic_of(bytes: &[u8]) -> Result<(&[u8], &[u8]), Refused>
+    ensures { Gives (λ x. (x.0.now, x.1.now)) result (magic.read bytes.now) }
+{
+    match bytes {
+        [] | [b'R'] | [b'R', b'E'] | [b'R', b'E', b'D'] | [b'R', b'E', b'D', b'I'] => {
+            Err(Refused { kind: LoadKind::Ended, left: 0 })
+        }
+        [b'R', b'E', b'D', b'I', b'S', ..] => Ok(bytes.split_at(5)),
+        _ => Err(Refused { kind: LoadKind::NotRdb, left: bytes.len() }),
+    }
+}
+
+fn version_of(bytes: &[u8]) -> Result<(&[u8], &[u8]), Refused>
+    ensures { Gives (λ x. (x.0.now, x.1.now)) result (version.read bytes.now) }
+{
+    if bytes.len() < 4 {
+        return Err(Refused { kind: LoadKind::Ended, left: 0 });
+    }
+    let (front, rest) = bytes.split_at(4);
+    if front == [48, 48, 49, 49].as_slice() {
+        Ok((front, rest))
+    } else {
+        Err(Refused { kind: LoadKind::Version, left: bytes.len() })
+    }
+}
+
+fn header_of(bytes: &[u8]) -> Result<(&[u8], &[u8]), Refused>
+    ensures { Gives (λ x. (x.0.now, x.1.now)) result (header.read bytes.now) }
+{
+    let (_, rest) = magic_of(bytes)?;
+    version_of(rest)
+}
+
+/// The offset of the first item, behind `REDIS` and a version that is taken. Refused exactly by the header's fault.
+pub fn check_header(bytes: &[u8]) -> Result<usize, FileFault>
+    ensures begun { IfOk result (λ next. (text : List ℕ) × Stands header text bytes.now 0 next) }
+    ensures fault { IfErr result (λ e. Fails header bytes.now 0 e.kind e.at) }
+{
+    match header_of(bytes) {
+        Ok((_, rest)) => Ok(bytes.len() - rest.len()),
+        Err(e) => Err(FileFault { kind: e.kind, at: (bytes.len() - e.left) as u64 }),
+    }
+}
+
+fn sum_of<'a>(before: &[u8], bytes: &'a [u8]) -> Result<(u64, &'a [u8]), Refused>
+    ensures { Gives (λ x. (x.0, x.1.now)) result ((sum_field before.now).read bytes.now) }
+{
+    let (sum, rest) = u64_le_at(bytes)?;
+    if sum == 0 {
+        return Ok((sum, rest));
+    }
+    if sum == crc(0, before) {
+        return Ok((sum, rest));
+    }
+    Err(Refused { kind: LoadKind::Checksum, left: bytes.len() })
+}
+
+/// Checks the checksum field that begins at the offset `at`, behind the end of the items: zero, or the CRC-64 of all bytes
+/// before it. Refused exactly by the field's fault. The offset of the byte behind the field is answered.
+pub fn check_sum(bytes: &[u8], at: usize) -> Result<usize, FileFault>
+    requires { at ≤ length bytes.now }
+    ensures summed { IfOk result (λ next. (sum : ℕ) × Stands (sum_field (take at bytes.now)) sum bytes.now at next) }
+    ensures fault { IfErr result (λ e. Fails (sum_field (take at bytes.now)) bytes.now at e.kind e.at) }
+{
+    let (before, field) = bytes.split_at(at);
+    match sum_of(before, field) {
+        Ok((_, rest)) => Ok(bytes.len() - rest.len()),
+        Err(e) => Err(FileFault { kind: e.kind, at: (bytes.len() - e.left) as u64 }),
+    }
+}
+
+/// Loaded at any moment, all bytes are a file of exactly one world, or have exactly one first fault.
+pub fn each_file_has_one_world_or_one_fault()
+    ensures { (bytes : List ℕ) (moment : ℕ) → ExactlyOne bytes moment }
+{
+}

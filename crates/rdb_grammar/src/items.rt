@@ -1,0 +1,66 @@
+//! Items: what stands behind an opcode or the type of a value.
+
+ghost use Rattle.std.specs.Prelude.{◌≡◌, ℕ, List};
+ghost use Rattle.rdb_grammar.specs.Format.{branch_read};
+ghost use Rattle.rdb_grammar.specs.Items.{key_with, item_behind as item_behind_of, item};
+ghost use Rattle.rdb_grammar.specs.Values.{string_value};
+ghost use Rattle.rdb_grammar.specs.Views.{item_of as item_seen};
+ghost use Rattle.rdb_grammar.specs.Gives.{Gives};
+
+use crate::fault::{LoadKind, Refused};
+use crate::lengths::length_of;
+use crate::strings::{Chunk, string_of};
+use crate::values::{FileValue, text_value};
+
+/// What an item says.
+#[derive(Clone, Copy, Debug)]
+pub enum Meaning<'a> {
+    /// Nothing that is kept.
+    Passed,
+    /// The deadline of the next key, in milliseconds.
+    Deadline(u64),
+    /// The database of the keys that follow.
+    Database(usize),
+    /// The end of the items.
+    End,
+    /// A key with its value.
+    Key { name: Chunk<'a>, value: FileValue<'a> },
+}
+
+/// A key, and a value of type 0.
+fn text_item_of(bytes: &[u8]) -> Result<(Meaning<'_>, &[u8]), Refused>
+    ensures { Gives (λ x. (item_seen x.0, x.1.now)) result ((key_with string_value).read bytes.now) }
+{
+    let (name, rest) = string_of(bytes)?;
+    let (value, rest) = text_value(rest)?;
+    Ok((Meaning::Key { name, value }, rest))
+}
+
+fn item_behind(first: u8, rest: &[u8]) -> Result<(Meaning<'_>, &[u8]), Refused>
+    ensures { Gives (λ x. (item_seen x.0, x.1.now)) result (branch_read (item_behind_of first) rest.now) }
+{
+    if first == 254 {
+        let (number, after) = length_of(rest)?;
+        if number != 0 {
+            return Err(Refused { kind: LoadKind::Database, left: rest.len() });
+        }
+        return Ok((Meaning::Database(0), after));
+    }
+    if first == 255 {
+        return Ok((Meaning::End, rest));
+    }
+    if first == 0 {
+        return text_item_of(rest);
+    }
+    Err(Refused { kind: LoadKind::Kind, left: rest.len() + 1 })
+}
+
+/// The item that the bytes begin with.
+pub(crate) fn item_of(bytes: &[u8]) -> Result<(Meaning<'_>, &[u8]), Refused>
+    ensures { Gives (λ x. (item_seen x.0, x.1.now)) result (item.read bytes.now) }
+{
+    match bytes {
+        [] => Err(Refused { kind: LoadKind::Ended, left: 0 }),
+        [first, rest @ ..] => item_behind(*first, rest),
+    }
+}

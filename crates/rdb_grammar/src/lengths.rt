@@ -1,0 +1,89 @@
+//! Lengths and numbers.
+
+ghost use Rattle.std.specs.Prelude.{◌≡◌, ℕ, List};
+ghost use Rattle.std.specs.Int.{w8, w32, w64};
+ghost use Rattle.rdb_grammar.specs.Format.{branch_read};
+ghost use Rattle.rdb_grammar.specs.Lengths.{number, number_le, length_behind as length_behind_of, a_length};
+ghost use Rattle.rdb_grammar.specs.Gives.{Gives};
+
+use crate::fault::{LoadKind, Refused};
+
+fn u8_at(bytes: &[u8]) -> Result<(u8, &[u8]), Refused>
+    ensures { Gives (λ x. (x.0, x.1.now)) result ((number w8).read bytes.now) }
+{
+    match bytes {
+        [] => Err(Refused { kind: LoadKind::Ended, left: 0 }),
+        [first, rest @ ..] => Ok((*first, rest)),
+    }
+}
+
+fn u32_at(bytes: &[u8]) -> Result<(u32, &[u8]), Refused>
+    ensures { Gives (λ x. (x.0, x.1.now)) result ((number w32).read bytes.now) }
+{
+    if bytes.len() < 4 {
+        return Err(Refused { kind: LoadKind::Ended, left: 0 });
+    }
+    let (front, rest) = bytes.split_at(4);
+    Ok((u32::from_be_bytes([front[0], front[1], front[2], front[3]]), rest))
+}
+
+fn u64_at(bytes: &[u8]) -> Result<(u64, &[u8]), Refused>
+    ensures { Gives (λ x. (x.0, x.1.now)) result ((number w64).read bytes.now) }
+{
+    if bytes.len() < 8 {
+        return Err(Refused { kind: LoadKind::Ended, left: 0 });
+    }
+    let (front, rest) = bytes.split_at(8);
+    let number = u64::from_be_bytes([
+        front[0], front[1], front[2], front[3], front[4], front[5], front[6], front[7],
+    ]);
+    Ok((number, rest))
+}
+
+pub(crate) fn u64_le_at(bytes: &[u8]) -> Result<(u64, &[u8]), Refused>
+    ensures { Gives (λ x. (x.0, x.1.now)) result (number_le.read bytes.now) }
+{
+    if bytes.len() < 8 {
+        return Err(Refused { kind: LoadKind::Ended, left: 0 });
+    }
+    let (front, rest) = bytes.split_at(8);
+    let number = u64::from_le_bytes([
+        front[0], front[1], front[2], front[3], front[4], front[5], front[6], front[7],
+    ]);
+    Ok((number, rest))
+}
+
+/// A length whose first byte is `first`; a byte that begins none is a fault of the kind `refused`.
+pub(crate) fn length_behind(
+    refused: LoadKind,
+    first: u8,
+    rest: &[u8],
+) -> Result<(u64, &[u8]), Refused>
+    ensures { Gives (λ x. (x.0, x.1.now)) result (branch_read (length_behind_of refused first) rest.now) }
+{
+    if first < 64 {
+        return Ok((first as u64, rest));
+    }
+    if first < 128 {
+        let (low, rest) = u8_at(rest)?;
+        return Ok(((first as u64 - 64) * 256 + low as u64, rest));
+    }
+    if first == 128 {
+        let (number, rest) = u32_at(rest)?;
+        return Ok((number as u64, rest));
+    }
+    if first == 129 {
+        return u64_at(rest);
+    }
+    Err(Refused { kind: refused, left: rest.len() + 1 })
+}
+
+/// A length.
+pub(crate) fn length_of(bytes: &[u8]) -> Result<(u64, &[u8]), Refused>
+    ensures { Gives (λ x. (x.0, x.1.now)) result (a_length.read bytes.now) }
+{
+    match bytes {
+        [] => Err(Refused { kind: LoadKind::Ended, left: 0 }),
+        [first, rest @ ..] => length_behind(LoadKind::Length, *first, rest),
+    }
+}

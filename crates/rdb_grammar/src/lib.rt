@@ -1,0 +1,23 @@
+//! The parts of a file in the RDB format, version 11, and what a whole file means.
+#![tactic(auto)]
+
+mod fault;
+mod file;
+mod items;
+mod lengths;
+mod next;
+mod strings;
+mod values;
+
+pub use fault::{FileFault, ItemFault, LoadKind};
+pub use file::{check_header, check_sum, each_file_has_one_world_or_one_fault};
+pub use items::Meaning;
+pub use next::{Item, next_item};
+pub use strings::Chunk;
+pub use values::FileValue;
+
+#[cfg(test)]
+mod tests;
+
+/// Memory was refused.
+pub type Memory = std::alloc::AllocError;

@@ -1,0 +1,129 @@
+//! Strings.
+
+ghost use Rattle.std.specs.Prelude.{◌≡◌, ◌↔◌, ◌++◌, ℕ, List, OnOk, OnErr};
+ghost use Rattle.rdb_grammar.specs.Format.{branch_read};
+ghost use Rattle.rdb_grammar.specs.Strings.{head_behind as head_behind_of, head, short_head, body, string};
+ghost use Rattle.rdb_grammar.specs.Views.{text_of, head_of as head_seen};
+ghost use Rattle.rdb_grammar.specs.Gives.{Gives};
+
+use crate::Memory;
+use crate::fault::{LoadKind, Refused};
+use crate::lengths::length_behind;
+
+/// The longest string in bytes.
+const LONGEST: u64 = 536_870_912;
+
+/// A string of a file: a part of its bytes, or a number that means its decimal text.
+#[derive(Clone, Copy, Debug)]
+pub enum Chunk<'a> {
+    /// The text itself.
+    Part(&'a [u8]),
+    /// The number whose decimal text is meant.
+    Number(i64),
+}
+
+impl Chunk<'_> {
+    /// Puts the text at the end of `out`. Where memory is refused `out` stays as it was.
+    pub fn append_to(&self, out: &mut Vec<u8>) -> Result<(), Memory>
+        ensures appended { OnOk result (out.new.items ≡ out.old.items ++ text_of self.now) }
+        ensures unchanged { OnErr result (out.new.items ≡ out.old.items) }
+    {
+        match self {
+            Chunk::Part(bytes) => out.extend_from_slice(bytes),
+            Chunk::Number(number) => int_text::print(*number, out),
+        }
+    }
+}
+
+/// How a string begins.
+#[derive(Clone, Copy, Debug)]
+pub(crate) enum Head {
+    Len(u64),
+    Tiny,
+    Small,
+    Wide,
+}
+
+fn head_behind(first: u8, rest: &[u8]) -> Result<(Head, &[u8]), Refused>
+    ensures { Gives (λ x. (head_seen x.0, x.1.now)) result (branch_read (head_behind_of first) rest.now) }
+{
+    if first == 192 {
+        return Ok((Head::Tiny, rest));
+    }
+    if first == 193 {
+        return Ok((Head::Small, rest));
+    }
+    if first == 194 {
+        return Ok((Head::Wide, rest));
+    }
+    if first == 195 {
+        return Err(Refused { kind: LoadKind::Compressed, left: rest.len() + 1 });
+    }
+    let (n, rest) = length_behind(LoadKind::SpecialString, first, rest)?;
+    Ok((Head::Len(n), rest))
+}
+
+fn head_of(bytes: &[u8]) -> Result<(Head, &[u8]), Refused>
+    ensures { Gives (λ x. (head_seen x.0, x.1.now)) result (head.read bytes.now) }
+{
+    match bytes {
+        [] => Err(Refused { kind: LoadKind::Ended, left: 0 }),
+        [first, rest @ ..] => head_behind(*first, rest),
+    }
+}
+
+fn short_head_of(bytes: &[u8]) -> Result<(Head, &[u8]), Refused>
+    ensures { Gives (λ x. (head_seen x.0, x.1.now)) result (short_head.read bytes.now) }
+{
+    let (head, rest) = head_of(bytes)?;
+    if let Head::Len(n) = head {
+        if n > LONGEST {
+            return Err(Refused { kind: LoadKind::TooLong, left: bytes.len() });
+        }
+    }
+    Ok((head, rest))
+}
+
+fn body_of(head: Head, bytes: &[u8]) -> Result<(Chunk<'_>, &[u8]), Refused>
+    ensures { Gives (λ x. (text_of x.0, x.1.now)) result ((body (head_seen head)).read bytes.now) }
+{
+    match head {
+        Head::Len(n) => {
+            if (bytes.len() as u64) < n {
+                return Err(Refused { kind: LoadKind::Ended, left: 0 });
+            }
+            let (text, rest) = bytes.split_at(n as usize);
+            Ok((Chunk::Part(text), rest))
+        }
+        Head::Tiny => {
+            if bytes.len() < 1 {
+                return Err(Refused { kind: LoadKind::Ended, left: 0 });
+            }
+            let (front, rest) = bytes.split_at(1);
+            Ok((Chunk::Number(i8::from_le_bytes([front[0]]) as i64), rest))
+        }
+        Head::Small => {
+            if bytes.len() < 2 {
+                return Err(Refused { kind: LoadKind::Ended, left: 0 });
+            }
+            let (front, rest) = bytes.split_at(2);
+            Ok((Chunk::Number(i16::from_le_bytes([front[0], front[1]]) as i64), rest))
+        }
+        Head::Wide => {
+            if bytes.len() < 4 {
+                return Err(Refused { kind: LoadKind::Ended, left: 0 });
+            }
+            let (front, rest) = bytes.split_at(4);
+            let number = i32::from_le_bytes([front[0], front[1], front[2], front[3]]);
+            Ok((Chunk::Number(number as i64), rest))
+        }
+    }
+}
+
+/// A string, in any of its forms.
+pub(crate) fn string_of(bytes: &[u8]) -> Result<(Chunk<'_>, &[u8]), Refused>
+    ensures { Gives (λ x. (text_of x.0, x.1.now)) result (string.read bytes.now) }
+{
+    let (head, rest) = short_head_of(bytes)?;
+    body_of(head, rest)
+}
