@@ -13,7 +13,7 @@ use Rattle.plain_model.specs.declared.command.Command.{Command}
 use Rattle.plain_model.specs.declared.refusal.Refusal.{Refusal}
 use Rattle.plain_model.specs.declared.reply.Part.{Part}
 use Rattle.plain_model.specs.declared.reply.Part.TheVariants.{Refused}
-use Rattle.redis_core.specs.Held.{world_of}
+use Rattle.rdb_reader.specs.Held.{world_of}
 
 same_bytes : (x y : List ℕ) → slice_cmp nat_cmp x y ≡ Equal → x ≡ y
 same_bytes = slice_cmp-IsAntisymmetric nat_cmp-IsAntisymmetric
@@ -34,14 +34,6 @@ live_keys_at_first base =
 
 pub live_at_first : (world : World) → live world 0 ≡ world
 live_at_first world = λ i. record { bases = λ number. live_keys_at_first (world.bases number) i; selected = world.selected }
-
-shadowed : {X : Type 0} (b : Bool) (x y z : X) → cond b x (cond b y z) ≡ cond b x z
-shadowed true x y z = refl
-shadowed false x y z = refl
-
--- a key of the one database is set
-pub put_is : (base : Database) (key : List ℕ) (entry : Entry) → world_of (insert base key entry) ≡ put (world_of base) key entry
-put_is base key entry = λ i. record { bases = λ number. sym (shadowed (number == 0) (insert base key entry) base no_keys) i; selected = 0 }
 
 module _ (old new : World) (words : Words) where
   pub step_of : (c : Command) (reply : List Part) → meant words ≡ Ok c → may 0 old 0 c reply new → step 0 old 0 words reply new

@@ -3,7 +3,7 @@
 ghost use Rattle.std.specs.Prelude.{◌≡◌, OnOk, OnErr};
 ghost use Rattle.std.specs.Option.{option_copied, option_map};
 ghost use Rattle.std.specs.FinMap as map;
-ghost use Rattle.redis_core.specs.Held.{base_of, plain_entry};
+ghost use Rattle.rdb_reader.specs.Held.{base_of, plain_entry};
 
 use plain_model::Memory;
 use std::collections::BTreeMap;

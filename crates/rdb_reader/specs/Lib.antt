@@ -1,0 +1,3 @@
+pub mod Held
+pub mod Fetching
+pub mod Loads

@@ -1,0 +1,73 @@
+-- What loading does: the file's world or its first fault.
+use Rattle.std.specs.Prelude.{◌≡◌, ℕ, ◌+◌, ◌<◌, ◌≤◌, List, length, Option, Some, None, Result, Ok, Err, Bool, true, false}
+use Rattle.std.specs.FinMap.{get, insert, len}
+use Rattle.plain_model.specs.Worlds.{Database, no_keys}
+use Rattle.rdb_grammar.specs.declared.fault.LoadKind.{LoadKind}
+use Rattle.rdb_grammar.specs.Files.{State, Reached, IsFile, IsFault}
+use Rattle.rdb_reader.specs.Held.{plain_entry, world_of}
+use Rattle.rdb_reader.specs.Fetching.{IsFileOf, IsLongFile}
+use Rattle.rdb_reader.specs.declared.fault.LoadFault.{LoadFault}
+use Rattle.rdb_reader.specs.declared.fault.LoadFault.TheVariants as faults
+use Rattle.rdb_reader.specs.declared.items.Read.{Read}
+use Rattle.rdb_reader.specs.declared.items.Read.TheVariants as read
+use Rattle.rdb_reader.specs.declared.loading.Loaded.{Loaded}
+
+-- a key was put, which wasn't there; or it was there, and nothing is put
+abbrev pub Puts : Database → Database → List ℕ → List ℕ → Bool → Type 0
+Puts old new key value true = (get old key ≡ None) × (new ≡ insert old key (plain_entry value))
+Puts old new key value false = ((get old key ≡ None) → ⊥) × (new ≡ old)
+
+-- up to this place the bytes are a header and whole items, which lead to these keys
+pub record Holds (bytes : List ℕ) (at : ℕ) (base : Database) : Type 0 where
+  pub state : State
+  pub reached : Reached bytes 0 at state
+  pub world : state.world ≡ world_of base
+  pub deadline : state.deadline ≡ None
+
+-- an item is read, and the next one begins there
+pub record Goes (bytes : List ℕ) (at next : ℕ) (new : Database) : Type 0 where
+  pub holds : Holds bytes next new
+  pub further : at < next
+  pub within : next ≤ length bytes
+
+-- the next item is read
+abbrev pub Reads : List ℕ → ℕ → Database → Database → Result Read LoadFault → Type 0
+Reads bytes at old new (Ok (read.Key next)) = Goes bytes at next new × (len new ≡ len old + 1)
+Reads bytes at old new (Ok (read.Other next)) = Goes bytes at next new × (new ≡ old)
+Reads bytes at old new (Ok read.End) = IsFile bytes 0 (world_of new) × (new ≡ old)
+Reads bytes at old new (Err (faults.Refused kind place)) = IsFault bytes 0 kind place
+Reads bytes at old new (Err faults.Host) = ⊥
+Reads bytes at old new (Err faults.Limit) = ⊥
+Reads bytes at old new (Err faults.Memory) = Unit {0}
+
+-- all items are read, and so many keys
+abbrev pub ReadsAll : List ℕ → Database → Result ℕ LoadFault → Type 0
+ReadsAll bytes new (Ok keys) = IsFile bytes 0 (world_of new) × (keys ≡ len new)
+ReadsAll bytes new (Err (faults.Refused kind place)) = IsFault bytes 0 kind place
+ReadsAll bytes new (Err faults.Host) = ⊥
+ReadsAll bytes new (Err faults.Limit) = ⊥
+ReadsAll bytes new (Err faults.Memory) = Unit {0}
+
+-- the file's world is loaded: its keys are all kept, and none is passed over
+pub record LoadsFile (files : Option (List ℕ → Option (List ℕ))) (name : List ℕ) (limit : ℕ) (base : Database) (loaded : Loaded) : Type 0 where
+  pub bytes : List ℕ
+  pub is : IsFileOf files name bytes
+  pub few : length bytes ≤ limit
+  pub file : IsFile bytes 0 (world_of base)
+  pub keys : loaded.keys ≡ len base
+  pub passed : loaded.passed ≡ 0
+
+-- the file has this first fault
+pub record RefusesFile (files : Option (List ℕ → Option (List ℕ))) (name : List ℕ) (limit : ℕ) (kind : LoadKind) (at : ℕ) : Type 0 where
+  pub bytes : List ℕ
+  pub is : IsFileOf files name bytes
+  pub few : length bytes ≤ limit
+  pub fault : IsFault bytes 0 kind at
+
+-- what `load` answers
+abbrev pub Loads : Option (List ℕ → Option (List ℕ)) → List ℕ → ℕ → Type 0 → Database → Result Loaded LoadFault → Type 0
+Loads files name limit rose base (Ok loaded) = LoadsFile files name limit base loaded
+Loads files name limit rose base (Err (faults.Refused kind at)) = RefusesFile files name limit kind at × (base ≡ no_keys)
+Loads files name limit rose base (Err faults.Host) = rose × (base ≡ no_keys)
+Loads files name limit rose base (Err faults.Limit) = IsLongFile files name limit × (base ≡ no_keys)
+Loads files name limit rose base (Err faults.Memory) = base ≡ no_keys

@@ -1,0 +1,93 @@
+//! The bytes of a file.
+
+ghost use Rattle.std.specs.Prelude.{◌≡◌, ◌≤◌, ◌<◌, ◌+◌, ◌^◌, ℕ, List, length, vec_len};
+ghost use Rattle.outside.specs.Counts.{Rose};
+ghost use Rattle.rdb_reader.specs.Fetching.{Takes, Fetches, FetchesFile};
+
+use crate::fault::LoadFault;
+use outside::Host;
+use std::alloc::Global;
+
+/// At most so many bytes are taken at once.
+const PIECE: usize = 65_536;
+
+/// What became of a take.
+#[derive(Clone, Copy)]
+pub enum Taken {
+    /// Bytes were taken and kept.
+    Piece,
+    /// The file is at its end.
+    End,
+    Fault,
+    /// Want of memory.
+    Memory,
+}
+
+// Takes the next piece of the file that is begun, and keeps it behind the others.
+fn take_piece<H: Host>(host: &mut H, room: &mut [u8], bytes: &mut Vec<u8>) -> Taken
+    requires { 0 < length room.old }
+    ensures takes { Takes (H.left host.old) (H.left host.new) (length room.old) bytes.old.items bytes.new.items (Rose (H.faults host.old) (H.faults host.new)) result }
+    ensures same { H.files host.new ≡ H.files host.old }
+    ensures counted { H.faults host.old ≤ H.faults host.new }
+{
+    match host.take(room) {
+        Err(_) => Taken::Fault,
+        Ok(0) => Taken::End,
+        Ok(count) => match bytes.extend_from_slice(&room[..count]) {
+            Ok(()) => Taken::Piece,
+            Err(_) => Taken::Memory,
+        },
+    }
+}
+
+// Takes the file that is begun to its end, or past the limit.
+#[tactic(none)]
+fn take_all<H: Host>(
+    host: &mut H,
+    room: &mut [u8],
+    bytes: &mut Vec<u8>,
+    limit: usize,
+) -> Result<(), LoadFault>
+    requires room { length room.old ≡ 65536 }
+    requires none { vec_len bytes.old ≡ 0 }
+    requires limit { limit ≤ 2 ^ 62 }
+    ensures fetches { Fetches (H.left host.old) limit bytes.new.items (Rose (H.faults host.old) (H.faults host.new)) result }
+    ensures same { H.files host.new ≡ H.files host.old }
+    ensures counted { H.faults host.old ≤ H.faults host.new }
+{
+    'pieces: loop {
+        let most = (limit - bytes.len() + 1).min(PIECE);
+        match take_piece(host, &mut room[..most], bytes) {
+            Taken::Piece => {}
+            Taken::End => return Ok(()),
+            Taken::Fault => return Err(LoadFault::Host),
+            Taken::Memory => return Err(LoadFault::Memory),
+        }
+        if bytes.len() > limit {
+            return Err(LoadFault::Limit);
+        }
+    }
+}
+
+/// The bytes of the host's file of this name, at most as many as the limit.
+pub fn fetch<H: Host>(
+    alloc: Global,
+    host: &mut H,
+    name: &str,
+    limit: u64,
+) -> Result<Vec<u8>, LoadFault>
+    requires { limit ≤ 2 ^ 62 }
+    ensures { FetchesFile (H.files host.old) name.now limit (Rose (H.faults host.old) (H.faults host.new)) result }
+{
+    let Ok(()) = host.begin(name) else {
+        return Err(LoadFault::Host);
+    };
+    let Ok(mut room) = vec![in alloc; 0u8; 65_536] else {
+        return Err(LoadFault::Memory);
+    };
+    let mut bytes = Vec::new(alloc);
+    match take_all(host, &mut room, &mut bytes, limit as usize) {
+        Ok(()) => Ok(bytes),
+        Err(fault) => Err(fault),
+    }
+}
