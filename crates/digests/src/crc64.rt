@@ -37,5 +37,4 @@ pub fn crc(start: u64, bytes: &[u8]) -> u64
 /// The CRC-64 goes on from one piece to the next.
 pub fn crc_goes_on()
     ensures { (start : ℕ) (a b : List ℕ) → crc_of (crc_of start a) b ≡ crc_of start (a ++ b) }
-{
-}
+{}

@@ -1,10 +1,10 @@
 -- Each format reads what it spells, and nothing else, and answers the first fault.
-use Rattle.std.proofs.Common.{◌≡◌, ℕ, zero, suc, ◌+◌, ◌-◌, ◌<◌, ◌≤◌, Bool, true, false, cond, ltb, List, [], ◌∷◌, ◌++◌, length, take, drop, Result, Ok, Err, refl, sym, ap, subst, ◌∙◌, append_assoc, arith, inl, inr, ◌⊎◌}
+use Rattle.std.proofs.Common.{◌≡◌, ℕ, suc, ◌-◌, ◌≤◌, Bool, true, false, cond, ltb, List, [], ◌∷◌, ◌++◌, length, take, drop, Result, Ok, Err, refl, sym, ap, ◌∙◌, append_assoc, arith, inl, inr, ◌⊎◌}
 use Rattle.std.proofs.lemmas.Bool.{ltb-false, ltb-true, le-ltb, lt-ltb}
 use Rattle.std.proofs.lemmas.List.{take_at, drop_at, take-append-drop, length-append, length-take}
 use Rattle.rdb_grammar.specs.declared.fault.LoadKind.{LoadKind}
 use Rattle.rdb_grammar.specs.declared.fault.LoadKind.TheVariants.{Ended}
-use Rattle.rdb_grammar.specs.Format.{Fault, ◌>>=◌, Format, IsEnded, give, some_bytes, followed, checked, Branch, Goes, Refuses, branch_read, BranchSpells, BranchFaulty, first_read, pick, turned, by_first}
+use Rattle.rdb_grammar.specs.Format.{Fault, ◌>>=◌, Format, give, some_bytes, followed, checked, Branch, Goes, Refuses, branch_read, BranchSpells, BranchFaulty, first_read, pick, turned, by_first}
 
 pub record Exact {A : Type 0} (one : Format A) : Type 0 where
   pub takes : (bytes : List ℕ) (x : A) (rest : List ℕ) → one.read bytes ≡ Ok (x, rest) → (word : List ℕ) × (bytes ≡ word ++ rest) × one.Spells x word
@@ -84,89 +84,89 @@ give-exact {A = A} x = record {
 pub some_bytes-exact : (n : ℕ) → Exact (some_bytes n)
 some_bytes-exact n = record {
   takes = λ bytes y rest e.
-    let g = turned_ok (ltb (length bytes) n) (Ended, 0) (take n bytes, drop n bytes) (y, rest) e in
-    let p = ok_parts (take n bytes) y (drop n bytes) rest (ap (λ (q : List ℕ × List ℕ). done q) g.1) in
-    let le : n ≤ length bytes = ltb-false _ _ g.0 in
-    (y, sym (take-append-drop n bytes) ∙ ap (λ (z : List ℕ). z ++ drop n bytes) p.0 ∙ ap (λ (z : List ℕ). y ++ z) p.1, (refl, ap length (sym p.0) ∙ omega (arith, length-take n bytes)));
+      let g = turned_ok (ltb (length bytes) n) (Ended, 0) (take n bytes, drop n bytes) (y, rest) e in
+      let p = ok_parts (take n bytes) y (drop n bytes) rest (ap (λ (q : List ℕ × List ℕ). done q) g.1) in
+      let le : n ≤ length bytes = ltb-false _ _ g.0 in
+      (y, sym (take-append-drop n bytes) ∙ ap (λ (z : List ℕ). z ++ drop n bytes) p.0 ∙ ap (λ (z : List ℕ). y ++ z) p.1, (refl, ap length (sym p.0) ∙ omega (arith, length-take n bytes)));
   again = λ y word rest h.
-    let len : length word ≡ n = ap length h.0 ∙ h.1 in
-    let long : ltb (length (word ++ rest)) n ≡ false = le-ltb _ _ (omega (arith, length-append word rest)) in
-    rw (long, take_at word rest n len, drop_at word rest n len) (ap (λ (q : List ℕ). done (q, rest)) h.0);
+      let len : length word ≡ n = ap length h.0 ∙ h.1 in
+      let long : ltb (length (word ++ rest)) n ≡ false = le-ltb _ _ (omega (arith, length-append word rest)) in
+      rw (long, take_at word rest n len, drop_at word rest n len) (ap (λ (q : List ℕ). done (q, rest)) h.0);
   fails = λ bytes kind left e.
-    let g = turned_err (ltb (length bytes) n) (Ended, 0) (kind, left) (take n bytes, drop n bytes) e in
-    (ltb-true _ _ g.0, (ap (λ (q : Fault). q.0) (sym g.1), ap (λ (q : Fault). q.1) (sym g.1)));
-  first = λ bytes kind left h. 
-    let short : ltb (length bytes) n ≡ true = lt-ltb _ _ h.0 in
-    rw short (make_fault kind Ended left 0 h.1.0 h.1.1);
+      let g = turned_err (ltb (length bytes) n) (Ended, 0) (kind, left) (take n bytes, drop n bytes) e in
+      (ltb-true _ _ g.0, (ap (λ (q : Fault). q.0) (sym g.1), ap (λ (q : Fault). q.1) (sym g.1)));
+  first = λ bytes kind left h.
+      let short : ltb (length bytes) n ≡ true = lt-ltb _ _ h.0 in
+      rw short (make_fault kind Ended left 0 h.1.0 h.1.1);
   within = λ bytes kind left e.
-    let g = turned_err (ltb (length bytes) n) (Ended, 0) (kind, left) (take n bytes, drop n bytes) e in
-    let none : 0 ≡ left = ap (λ (q : Fault). q.1) g.1 in
-    omega (arith, none);
+      let g = turned_err (ltb (length bytes) n) (Ended, 0) (kind, left) (take n bytes, drop n bytes) e in
+      let none : 0 ≡ left = ap (λ (q : Fault). q.1) g.1 in
+      omega (arith, none);
 }
 
 pub followed-exact : {A B : Type 0} (one : Format A) (next : A → Format B) → Exact one → ((x : A) → Exact (next x)) → Exact (followed one next)
 followed-exact one next e f = record {
   takes = λ bytes y rest h.
-    let a = bind_ok (one.read bytes) (λ x. (next x.0).read x.1) (y, rest) h in
-    let t = e.takes bytes a.0.0 a.0.1 a.1 in
-    let u = (f a.0.0).takes a.0.1 y rest a.2 in
-    (t.0 ++ u.0, t.1 ∙ ap (λ (z : List ℕ). t.0 ++ z) u.1 ∙ sym (append_assoc t.0 u.0 rest), (a.0.0, t.0, u.0, refl, t.2, u.2));
+      let a = bind_ok (one.read bytes) (λ x. (next x.0).read x.1) (y, rest) h in
+      let t = e.takes bytes a.0.0 a.0.1 a.1 in
+      let u = (f a.0.0).takes a.0.1 y rest a.2 in
+      (t.0 ++ u.0, t.1 ∙ ap (λ (z : List ℕ). t.0 ++ z) u.1 ∙ sym (append_assoc t.0 u.0 rest), (a.0.0, t.0, u.0, refl, t.2, u.2));
   again = λ y word rest h.
-    ap (λ (z : List ℕ). one.read (z ++ rest) >>= λ x. (next x.0).read x.1) h.3
+      ap (λ (z : List ℕ). one.read (z ++ rest) >>= λ x. (next x.0).read x.1) h.3
       ∙ ap (λ (z : List ℕ). one.read z >>= λ x. (next x.0).read x.1) (append_assoc h.1 h.2 rest)
       ∙ bind_is (one.read (h.1 ++ (h.2 ++ rest))) (h.0, h.2 ++ rest) (λ x. (next x.0).read x.1) (e.again h.0 h.1 (h.2 ++ rest) h.4)
       ∙ (f h.0).again y h.2 rest h.5;
   fails = λ bytes kind left h.
-    elim (bind_err (one.read bytes) (λ x. (next x.0).read x.1) (kind, left) h) [
-      | inl a ↦ inl (e.fails bytes kind left a)
-      | inr a ↦ let t = e.takes bytes a.0.0 a.0.1 a.1 in inr (a.0.0, t.0, a.0.1, t.1, t.2, (f a.0.0).fails a.0.1 kind left a.2)
-    ];
+      elim (bind_err (one.read bytes) (λ x. (next x.0).read x.1) (kind, left) h) [
+        | inl a ↦ inl (e.fails bytes kind left a)
+        | inr a ↦ let t = e.takes bytes a.0.0 a.0.1 a.1 in inr (a.0.0, t.0, a.0.1, t.1, t.2, (f a.0.0).fails a.0.1 kind left a.2)
+      ];
   first = λ bytes kind left h.
-    elim h [
-      | inl a ↦ bind_fault (one.read bytes) (kind, left) (λ x. (next x.0).read x.1) (e.first bytes kind left a)
-      | inr a ↦ ap (λ (z : List ℕ). one.read z >>= λ x. (next x.0).read x.1) a.3 ∙ bind_is (one.read (a.1 ++ a.2)) (a.0, a.2) (λ x. (next x.0).read x.1) (e.again a.0 a.1 a.2 a.4) ∙ (f a.0).first a.2 kind left a.5
-    ];
+      elim h [
+        | inl a ↦ bind_fault (one.read bytes) (kind, left) (λ x. (next x.0).read x.1) (e.first bytes kind left a)
+        | inr a ↦ ap (λ (z : List ℕ). one.read z >>= λ x. (next x.0).read x.1) a.3 ∙ bind_is (one.read (a.1 ++ a.2)) (a.0, a.2) (λ x. (next x.0).read x.1) (e.again a.0 a.1 a.2 a.4) ∙ (f a.0).first a.2 kind left a.5
+      ];
   within = λ bytes kind left h.
-    elim (bind_err (one.read bytes) (λ x. (next x.0).read x.1) (kind, left) h) [
-      | inl a ↦ e.within bytes kind left a
-      | inr a ↦ let t = e.takes bytes a.0.0 a.0.1 a.1 in let below : left ≤ length a.0.1 = (f a.0.0).within a.0.1 kind left a.2 in behind left t.0 a.0.1 bytes t.1 below
-    ];
+      elim (bind_err (one.read bytes) (λ x. (next x.0).read x.1) (kind, left) h) [
+        | inl a ↦ e.within bytes kind left a
+        | inr a ↦ let t = e.takes bytes a.0.0 a.0.1 a.1 in let below : left ≤ length a.0.1 = (f a.0.0).within a.0.1 kind left a.2 in behind left t.0 a.0.1 bytes t.1 below
+      ];
 }
 
 pub checked-exact : {A : Type 0} (is : LoadKind) (skip : ℕ) (test : A → Bool) (one : Format A) → Exact one → Exact (checked is skip test one)
 checked-exact {A = A} is skip test one e = record {
   takes = λ bytes y rest h.
-    let a = bind_ok (one.read bytes) (λ (x : A × List ℕ). cond (test x.0) (done x) (lost (is, length bytes - skip))) (y, rest) h in
-    let g = test_ok (test a.0.0) (is, length bytes - skip) a.0 (y, rest) a.2 in
-    let same : one.read bytes ≡ done (y, rest) = a.1 ∙ ap (λ (q : A × List ℕ). done q) g.1 in
-    let t = e.takes bytes y rest same in
-    (t.0, t.1, (t.2, ap (λ (q : A × List ℕ). test q.0) (sym g.1) ∙ g.0));
+      let a = bind_ok (one.read bytes) (λ (x : A × List ℕ). cond (test x.0) (done x) (lost (is, length bytes - skip))) (y, rest) h in
+      let g = test_ok (test a.0.0) (is, length bytes - skip) a.0 (y, rest) a.2 in
+      let same : one.read bytes ≡ done (y, rest) = a.1 ∙ ap (λ (q : A × List ℕ). done q) g.1 in
+      let t = e.takes bytes y rest same in
+      (t.0, t.1, (t.2, ap (λ (q : A × List ℕ). test q.0) (sym g.1) ∙ g.0));
   again = λ y word rest h.
-    bind_is (one.read (word ++ rest)) (y, rest) (λ (x : A × List ℕ). cond (test x.0) (done x) (lost (is, length (word ++ rest) - skip))) (e.again y word rest h.0)
+      bind_is (one.read (word ++ rest)) (y, rest) (λ (x : A × List ℕ). cond (test x.0) (done x) (lost (is, length (word ++ rest) - skip))) (e.again y word rest h.0)
       ∙ rw h.1 refl;
   fails = λ bytes kind left h.
-    elim (bind_err (one.read bytes) (λ (x : A × List ℕ). cond (test x.0) (done x) (lost (is, length bytes - skip))) (kind, left) h) [
-      | inl a ↦ inl (e.fails bytes kind left a)
-      | inr a ↦
-        let t = e.takes bytes a.0.0 a.0.1 a.1 in
-        let g = test_err (test a.0.0) (is, length bytes - skip) (kind, left) a.0 a.2 in
-        inr (a.0.0, t.0, a.0.1, t.1, t.2, g.0, ap (λ (q : Fault). q.0) (sym g.1), ap (λ (q : Fault). q.1) (sym g.1))
-    ];
+      elim (bind_err (one.read bytes) (λ (x : A × List ℕ). cond (test x.0) (done x) (lost (is, length bytes - skip))) (kind, left) h) [
+        | inl a ↦ inl (e.fails bytes kind left a)
+        | inr a ↦
+            let t = e.takes bytes a.0.0 a.0.1 a.1 in
+            let g = test_err (test a.0.0) (is, length bytes - skip) (kind, left) a.0 a.2 in
+            inr (a.0.0, t.0, a.0.1, t.1, t.2, g.0, ap (λ (q : Fault). q.0) (sym g.1), ap (λ (q : Fault). q.1) (sym g.1))
+      ];
   first = λ bytes kind left h.
-    elim h [
-      | inl a ↦ bind_fault (one.read bytes) (kind, left) (λ (x : A × List ℕ). cond (test x.0) (done x) (lost (is, length bytes - skip))) (e.first bytes kind left a)
-      | inr a ↦
-        bind_is (one.read bytes) (a.0, a.2) (λ (x : A × List ℕ). cond (test x.0) (done x) (lost (is, length bytes - skip))) (ap one.read a.3 ∙ e.again a.0 a.1 a.2 a.4)
-          ∙ rw a.5 (make_fault kind is left (length bytes - skip) a.6 a.7)
-    ];
+      elim h [
+        | inl a ↦ bind_fault (one.read bytes) (kind, left) (λ (x : A × List ℕ). cond (test x.0) (done x) (lost (is, length bytes - skip))) (e.first bytes kind left a)
+        | inr a ↦
+            bind_is (one.read bytes) (a.0, a.2) (λ (x : A × List ℕ). cond (test x.0) (done x) (lost (is, length bytes - skip))) (ap one.read a.3 ∙ e.again a.0 a.1 a.2 a.4)
+            ∙ rw a.5 (make_fault kind is left (length bytes - skip) a.6 a.7)
+      ];
   within = λ bytes kind left h.
-    elim (bind_err (one.read bytes) (λ (x : A × List ℕ). cond (test x.0) (done x) (lost (is, length bytes - skip))) (kind, left) h) [
-      | inl a ↦ e.within bytes kind left a
-      | inr a ↦
-        let g = test_err (test a.0.0) (is, length bytes - skip) (kind, left) a.0 a.2 in
-        let same : length bytes - skip ≡ left = ap (λ (q : Fault). q.1) g.1 in
-        omega (arith, same)
-    ];
+      elim (bind_err (one.read bytes) (λ (x : A × List ℕ). cond (test x.0) (done x) (lost (is, length bytes - skip))) (kind, left) h) [
+        | inl a ↦ e.within bytes kind left a
+        | inr a ↦
+            let g = test_err (test a.0.0) (is, length bytes - skip) (kind, left) a.0 a.2 in
+            let same : length bytes - skip ≡ left = ap (λ (q : Fault). q.1) g.1 in
+            omega (arith, same)
+      ];
 }
 
 -- a branch that goes on is exact; one that refuses asks nothing
@@ -224,10 +224,10 @@ by_first-exact {A = A} by e = record {
   fails = first_fails by e;
   within = first_within by e;
   first = λ bytes kind left h.
-    elim h [
-      | inl a ↦ ap (first_read by) a.0 ∙ make_fault {A = A × List ℕ} kind Ended left 0 a.1.0 a.1.1
-      | inr a ↦ ap (first_read by) a.2 ∙ branch_first (by a.0) (e a.0) a.1 kind left a.3
-    ];
+      elim h [
+        | inl a ↦ ap (first_read by) a.0 ∙ make_fault {A = A × List ℕ} kind Ended left 0 a.1.0 a.1.1
+        | inr a ↦ ap (first_read by) a.2 ∙ branch_first (by a.0) (e a.0) a.1 kind left a.3
+      ];
 }
 
 pub pick-exact : {A : Type 0} (b : Bool) (x y : Branch A) → BranchExact x → BranchExact y → BranchExact (pick b x y)

@@ -1,16 +1,13 @@
 -- The header and the checksum field are exact, and so is an item behind others.
-use Rattle.std.proofs.Common.{◌≡◌, ◌⊎◌, inl, inr, ℕ, ◌-◌, ◌+◌, ◌<◌, ◌≤◌, Bool, true, false, cond, List, [], ◌∷◌, ◌++◌, length, take, drop, Result, Ok, Err, refl, sym, ap, subst, ◌∙◌, arith}
+use Rattle.std.proofs.Common.{◌≡◌, ◌⊎◌, inl, inr, ℕ, ◌+◌, Bool, true, false, cond, List, [], ◌∷◌, ◌++◌, length, take, Result, Ok, Err, refl, sym, ap, ◌∙◌, arith}
 use Rattle.std.proofs.lemmas.List.{length-append, take_at, take_all}
 use Rattle.std.proofs.Math.Seq.{take-nil}
 use Rattle.std.specs.Cmp.Lexicographic.{pointwise, same_text}
 use Rattle.std.specs.Prelude.{nat_eq}
-use Rattle.rdb_grammar.specs.declared.fault.LoadKind.{LoadKind}
 use Rattle.rdb_grammar.specs.declared.fault.LoadKind.TheVariants as kinds
-use Rattle.rdb_grammar.specs.Format.{Fault, Format, some_bytes, checked, followed}
-use Rattle.rdb_grammar.specs.Lengths.{number_le}
-use Rattle.rdb_grammar.specs.Items.{Item, item}
-use Rattle.rdb_grammar.specs.Files.{magic_text, is_begun, magic, version, header, State, next_in, sum_field}
-use Rattle.rdb_grammar.proofs.Exactly.{Exact, ok_parts, fault_parts, make_fault, some_bytes-exact, followed-exact, checked-exact}
+use Rattle.rdb_grammar.specs.Format.{Fault, some_bytes}
+use Rattle.rdb_grammar.specs.Files.{magic_text, is_begun, magic, header, State, next_in, sum_field}
+use Rattle.rdb_grammar.proofs.Exactly.{Exact, make_fault, some_bytes-exact, followed-exact, checked-exact}
 use Rattle.rdb_grammar.proofs.PartsExact.{number_le-exact, item-exact}
 
 abbrev Read : Type 0
@@ -31,37 +28,37 @@ begun rest = ap (λ (z : List ℕ). pointwise nat_eq [] z) (take-nil (length res
 -- five bytes that are begun are the text
 is_text : (bytes word rest : List ℕ) → bytes ≡ word ++ rest → length word ≡ 5 → is_begun bytes ≡ true → word ≡ magic_text
 is_text bytes word rest e len h =
-  let total : length bytes ≡ 5 + length rest = ap length e ∙ length-append word rest ∙ omega (arith, len) in
-  let front : take 5 bytes ≡ word = ap (take 5) e ∙ take_at word rest 5 len in
-  let whole : take (length bytes) magic_text ≡ magic_text = take_all (length bytes) magic_text (omega (arith, total)) in
-  same_text word magic_text (sym (ap (λ (z : List ℕ). pointwise nat_eq z magic_text) (sym front) ∙ ap (λ (z : List ℕ). pointwise nat_eq (take 5 bytes) z) (sym whole) ∙ h))
+    let total : length bytes ≡ 5 + length rest = ap length e ∙ length-append word rest ∙ omega (arith, len) in
+    let front : take 5 bytes ≡ word = ap (take 5) e ∙ take_at word rest 5 len in
+    let whole : take (length bytes) magic_text ≡ magic_text = take_all (length bytes) magic_text (omega (arith, total)) in
+    same_text word magic_text (sym (ap (λ (z : List ℕ). pointwise nat_eq z magic_text) (sym front) ∙ ap (λ (z : List ℕ). pointwise nat_eq (take 5 bytes) z) (sym whole) ∙ h))
 
 pub magic-exact : Exact magic
 magic-exact = record {
   takes = λ bytes x rest e.
-    let g = goes_ok (is_begun bytes) ((some_bytes 5).read bytes) (kinds.NotRdb, length bytes) (x, rest) e in
-    let t = (some_bytes-exact 5).takes bytes x rest g.1 in
-    let text : t.0 ≡ magic_text = is_text bytes (t.0) rest t.1 (ap length t.2.0 ∙ t.2.1) g.0 in
-    (t.0, t.1, (sym t.2.0 ∙ text, text));
+      let g = goes_ok (is_begun bytes) ((some_bytes 5).read bytes) (kinds.NotRdb, length bytes) (x, rest) e in
+      let t = (some_bytes-exact 5).takes bytes x rest g.1 in
+      let text : t.0 ≡ magic_text = is_text bytes (t.0) rest t.1 (ap length t.2.0 ∙ t.2.1) g.0 in
+      (t.0, t.1, (sym t.2.0 ∙ text, text));
   again = λ x word rest h.
-    let five : length word ≡ 5 = ap length h.1 in
-    let test : is_begun (word ++ rest) ≡ true = ap (λ (z : List ℕ). is_begun (z ++ rest)) h.1 ∙ begun rest in
-    rw test ((some_bytes-exact 5).again x word rest (h.1 ∙ sym h.0, ap length h.0));
+      let five : length word ≡ 5 = ap length h.1 in
+      let test : is_begun (word ++ rest) ≡ true = ap (λ (z : List ℕ). is_begun (z ++ rest)) h.1 ∙ begun rest in
+      rw test ((some_bytes-exact 5).again x word rest (h.1 ∙ sym h.0, ap length h.0));
   fails = λ bytes kind left e.
-    elim (goes_err (is_begun bytes) ((some_bytes 5).read bytes) (kinds.NotRdb, length bytes) (kind, left) e) [
-      | inl a ↦ inl (a.0, (some_bytes-exact 5).fails bytes kind left a.1)
-      | inr a ↦ inr (a.0, ap (λ (q : Fault). q.0) (sym a.1), ap (λ (q : Fault). q.1) (sym a.1))
-    ];
+      elim (goes_err (is_begun bytes) ((some_bytes 5).read bytes) (kinds.NotRdb, length bytes) (kind, left) e) [
+        | inl a ↦ inl (a.0, (some_bytes-exact 5).fails bytes kind left a.1)
+        | inr a ↦ inr (a.0, ap (λ (q : Fault). q.0) (sym a.1), ap (λ (q : Fault). q.1) (sym a.1))
+      ];
   first = λ bytes kind left h.
-    elim h [
-      | inl a ↦ rw a.0 ((some_bytes-exact 5).first bytes kind left a.1)
-      | inr a ↦ rw a.0 (make_fault {A = List ℕ × List ℕ} kind kinds.NotRdb left (length bytes) a.1 a.2)
-    ];
+      elim h [
+        | inl a ↦ rw a.0 ((some_bytes-exact 5).first bytes kind left a.1)
+        | inr a ↦ rw a.0 (make_fault {A = List ℕ × List ℕ} kind kinds.NotRdb left (length bytes) a.1 a.2)
+      ];
   within = λ bytes kind left e.
-    elim (goes_err (is_begun bytes) ((some_bytes 5).read bytes) (kinds.NotRdb, length bytes) (kind, left) e) [
-      | inl a ↦ (some_bytes-exact 5).within bytes kind left a.1
-      | inr a ↦ let same : length bytes ≡ left = ap (λ (q : Fault). q.1) a.1 in omega (arith, same)
-    ];
+      elim (goes_err (is_begun bytes) ((some_bytes 5).read bytes) (kinds.NotRdb, length bytes) (kind, left) e) [
+        | inl a ↦ (some_bytes-exact 5).within bytes kind left a.1
+        | inr a ↦ let same : length bytes ≡ left = ap (λ (q : Fault). q.1) a.1 in omega (arith, same)
+      ];
 }
 
 pub header-exact : Exact header

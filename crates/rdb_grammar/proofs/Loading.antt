@@ -1,10 +1,8 @@
 -- One turn of a loop over the items of a file, for any item.
-use Rattle.std.proofs.Common.{◌≡◌, ◌⊎◌, inl, inr, ℕ, zero, suc, ◌+◌, ◌-◌, ◌<◌, ◌≤◌, Bool, true, false, List, [], ◌∷◌, ◌++◌, length, take, drop, refl, sym, ap, subst, ◌∙◌, arith}
+use Rattle.std.proofs.Common.{◌≡◌, inl, inr, ℕ, suc, ◌+◌, ◌-◌, ◌<◌, ◌≤◌, true, false, List, [], ◌∷◌, ◌++◌, length, take, drop, refl, sym, ap, subst, arith}
 use Rattle.std.proofs.lemmas.List.{take-append-drop, length-take, length-drop}
-use Rattle.plain_model.specs.Worlds.{World}
 use Rattle.rdb_grammar.specs.declared.fault.LoadKind.{LoadKind}
 use Rattle.rdb_grammar.specs.declared.fault.LoadKind.TheVariants as kinds
-use Rattle.rdb_grammar.specs.Format.{Format}
 use Rattle.rdb_grammar.specs.Items.{Item, End, item}
 use Rattle.rdb_grammar.specs.Places.{Stands, Fails}
 use Rattle.rdb_grammar.specs.Files.{header, State, new_state, is_fresh, is_end, after, file_world, next_in, Items, Reached, sum_field, IsFile, IsFault, InHeader, InItem, InSum}
@@ -12,8 +10,8 @@ use Rattle.rdb_grammar.specs.Files.{header, State, new_state, is_fresh, is_end, 
 -- an item has a byte at least
 pub longer : (x : Item) (bytes : List ℕ) (at next : ℕ) → Stands item x bytes at next → at < next
 longer x bytes at next s =
-  let word : length (take (next - at) (drop at bytes)) ≡ suc (length (s.spelled.1)) = ap length s.spelled.2 in
-  omega (arith, word, length-take (next - at) (drop at bytes))
+    let word : length (take (next - at) (drop at bytes)) ≡ suc (length (s.spelled.1)) = ap length s.spelled.2 in
+    omega (arith, word, length-take (next - at) (drop at bytes))
 
 -- a fresh item may stand behind those before it
 pub taken : (state : State) (x : Item) (bytes : List ℕ) (at next : ℕ) → Stands item x bytes at next → is_fresh state x ≡ true → Stands (next_in state) x bytes at next
@@ -21,12 +19,12 @@ taken state x bytes at next s fresh = record { onward = s.onward; inside = s.ins
 
 -- one item more
 more : (bytes : List ℕ) (moment : ℕ) (xs : List Item) (from : ℕ) (old : State) (at : ℕ) (state : State) (x : Item) (next : ℕ)
-  → Items bytes moment xs from old at state → Stands (next_in state) x bytes at next → is_end x ≡ false → Items bytes moment (xs ++ x ∷ []) from old next (after moment state x)
+    → Items bytes moment xs from old at state → Stands (next_in state) x bytes at next → is_end x ≡ false → Items bytes moment (xs ++ x ∷ []) from old next (after moment state x)
 unfolding Items
 more bytes moment [] from old at state x next h s e =
-  (next, subst (λ (a : ℕ). Stands (next_in old) x bytes a next) h.0 (subst (λ (q : State). Stands (next_in q) x bytes at next) h.1 s), e, (refl, ap (λ (q : State). after moment q x) h.1))
+    (next, subst (λ (a : ℕ). Stands (next_in old) x bytes a next) h.0 (subst (λ (q : State). Stands (next_in q) x bytes at next) h.1 s), e, (refl, ap (λ (q : State). after moment q x) h.1))
 more bytes moment (y ∷ xs) from old at state x next h s e =
-  (h.0, h.1, h.2, more bytes moment xs (h.0) (after moment old y) at state x next h.3 s e)
+    (h.0, h.1, h.2, more bytes moment xs (h.0) (after moment old y) at state x next h.3 s e)
 
 within : (bytes : List ℕ) (moment : ℕ) (xs : List Item) (from : ℕ) (old : State) (at : ℕ) (state : State) → Items bytes moment xs from old at state → from ≤ length bytes → at ≤ length bytes
 unfolding Items
@@ -53,22 +51,22 @@ goes_on bytes moment at state x next r s e fresh = record {
 pub is_file : (bytes : List ℕ) (moment at : ℕ) (state : State) (ended sum next : ℕ) → Reached bytes moment at state → Stands item End bytes at ended → Stands (sum_field (take ended bytes)) sum bytes ended next → IsFile bytes moment (file_world state)
 is_file bytes moment at state ended sum next r e s = record { at = at; state = state; ended = ended; sum = sum; next = next; reached = r; ends = e; summed = s; means = refl }
 
-pub header_fault : (bytes : List ℕ) (moment : ℕ) (kind : LoadKind) (place : ℕ) → Fails header bytes 0 kind place → IsFault bytes moment kind place
-header_fault bytes moment kind place f = InHeader f
+pub header_fault : (bytes : List ℕ) (moment : ℕ) (which : LoadKind) (place : ℕ) → Fails header bytes 0 which place → IsFault bytes moment which place
+header_fault bytes moment which place f = InHeader f
 
-pub item_fault : (bytes : List ℕ) (moment at : ℕ) (state : State) (kind : LoadKind) (place : ℕ) → Reached bytes moment at state → Fails item bytes at kind place → IsFault bytes moment kind place
-item_fault bytes moment at state kind place r f = InItem at state r (record { onward = f.onward; inside = f.inside; faulty = inl f.faulty })
+pub item_fault : (bytes : List ℕ) (moment at : ℕ) (state : State) (which : LoadKind) (place : ℕ) → Reached bytes moment at state → Fails item bytes at which place → IsFault bytes moment which place
+item_fault bytes moment at state which place r f = InItem at state r (record { onward = f.onward; inside = f.inside; faulty = inl f.faulty })
 
 pub twice : (bytes : List ℕ) (moment at : ℕ) (state : State) (x : Item) (next : ℕ) → Reached bytes moment at state → Stands item x bytes at next → is_fresh state x ≡ false → IsFault bytes moment kinds.DuplicateKey (at + 1)
 twice bytes moment at state x next r s stale =
-  let lt : at < next = longer x bytes at next s in
-  let le : next ≤ length bytes = s.inside in
-  let left : length bytes - (at + 1) ≡ length (drop at bytes) - 1 = omega (arith, length-drop at bytes) in
-  InItem at state r (record {
-    onward = omega arith;
-    inside = omega arith;
-    faulty = inr (x, take (next - at) (drop at bytes), drop (next - at) (drop at bytes), sym (take-append-drop (next - at) (drop at bytes)), s.spelled, stale, refl, left);
-  })
+    let lt : at < next = longer x bytes at next s in
+    let le : next ≤ length bytes = s.inside in
+    let left : length bytes - (at + 1) ≡ length (drop at bytes) - 1 = omega (arith, length-drop at bytes) in
+    InItem at state r (record {
+      onward = omega arith;
+      inside = omega arith;
+      faulty = inr (x, take (next - at) (drop at bytes), drop (next - at) (drop at bytes), sym (take-append-drop (next - at) (drop at bytes)), s.spelled, stale, refl, left);
+    })
 
-pub sum_fault : (bytes : List ℕ) (moment at : ℕ) (state : State) (ended : ℕ) (kind : LoadKind) (place : ℕ) → Reached bytes moment at state → Stands item End bytes at ended → Fails (sum_field (take ended bytes)) bytes ended kind place → IsFault bytes moment kind place
-sum_fault bytes moment at state ended kind place r e f = InSum at ended state r e f
+pub sum_fault : (bytes : List ℕ) (moment at : ℕ) (state : State) (ended : ℕ) (which : LoadKind) (place : ℕ) → Reached bytes moment at state → Stands item End bytes at ended → Fails (sum_field (take ended bytes)) bytes ended which place → IsFault bytes moment which place
+sum_fault bytes moment at state ended which place r e f = InSum at ended state r e f

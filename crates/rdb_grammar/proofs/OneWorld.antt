@@ -1,13 +1,13 @@
 -- All bytes are a file of exactly one world, or have exactly one first fault.
-use Rattle.std.proofs.Common.{◌≡◌, ◌⊎◌, inl, inr, ℕ, zero, suc, ◌+◌, ◌-◌, ◌<◌, ◌≤◌, Bool, true, false, cond, List, [], ◌∷◌, ◌++◌, length, take, drop, Result, Ok, Err, refl, sym, ap, subst, ◌∙◌, arith}
+use Rattle.std.proofs.Common.{◌≡◌, ◌⊎◌, inl, inr, ℕ, zero, suc, ◌+◌, ◌-◌, ◌<◌, ◌≤◌, Bool, true, false, cond, List, [], ◌∷◌, length, take, drop, Result, Ok, Err, refl, sym, ap, subst, ◌∙◌, arith}
 use Rattle.std.proofs.lemmas.List.{length-drop}
 use Rattle.plain_model.specs.Worlds.{World}
 use Rattle.rdb_grammar.specs.declared.fault.LoadKind.{LoadKind}
 use Rattle.rdb_grammar.specs.declared.fault.LoadKind.TheVariants as kinds
-use Rattle.rdb_grammar.specs.Format.{Fault, ◌>>=◌, Format}
+use Rattle.rdb_grammar.specs.Format.{Fault, ◌>>=◌}
 use Rattle.rdb_grammar.specs.Items.{Item, Passed, Deadline, Database, End, Key, item}
-use Rattle.rdb_grammar.specs.Places.{Stands, Fails}
-use Rattle.rdb_grammar.specs.Files.{header, State, new_state, is_fresh, is_end, after, file_world, next_in, Items, Reached, sum_field, IsFile, IsFault, InHeader, InItem, InSum, ExactlyOne}
+use Rattle.rdb_grammar.specs.Places.{Stands}
+use Rattle.rdb_grammar.specs.Files.{header, State, new_state, is_end, after, file_world, next_in, Items, Reached, sum_field, IsFile, IsFault, InHeader, InItem, InSum, ExactlyOne}
 use Rattle.rdb_grammar.proofs.HeaderExact.{header-exact, sum_field-exact, next_in-exact}
 use Rattle.rdb_grammar.proofs.Standing.{reads, reads_fault, found, broken}
 use Rattle.rdb_grammar.proofs.Loading.{longer, taken, inside, begins, goes_on, is_file}
@@ -38,65 +38,77 @@ more_is [] n = omega arith
 more_is (x ∷ xs) n = omega (arith, more_is xs n)
 
 run_items : (bytes : List ℕ) (moment : ℕ) (xs : List Item) (at : ℕ) (old : State) (to : ℕ) (new : State) (n : ℕ)
-  → Items bytes moment xs at old to new → run bytes moment (more xs n) old (drop at bytes) ≡ run bytes moment n new (drop to bytes)
+    → Items bytes moment xs at old to new → run bytes moment (more xs n) old (drop at bytes) ≡ run bytes moment n new (drop to bytes)
 unfolding run Items
 run_items bytes moment [] at old to new n h =
-  ap (λ (q : State). run bytes moment n q (drop at bytes)) (sym h.1) ∙ ap (λ (a : ℕ). run bytes moment n new (drop a bytes)) (sym h.0)
+    ap (λ (q : State). run bytes moment n q (drop at bytes)) (sym h.1) ∙ ap (λ (a : ℕ). run bytes moment n new (drop a bytes)) (sym h.0)
 run_items bytes moment (x ∷ xs) at old to new n h =
-  let r : (next_in old).read (drop at bytes) ≡ Ok (x, drop h.0 bytes) = reads (next_in old) (next_in-exact old) x bytes at (h.0) h.1 in
-  let e : is_end x ≡ false = h.2 in
-  let step : run bytes moment (suc (more xs n)) old (drop at bytes) ≡ run bytes moment (more xs n) (after moment old x) (drop h.0 bytes) = rw (r, e) refl in
-  step ∙ run_items bytes moment xs (h.0) (after moment old x) to new n h.3
+    let r : (next_in old).read (drop at bytes) ≡ Ok (x, drop h.0 bytes) = reads (next_in old) (next_in-exact old) x bytes at (h.0) h.1 in
+    let e : is_end x ≡ false = h.2 in
+    let step : run bytes moment (suc (more xs n)) old (drop at bytes) ≡ run bytes moment (more xs n) (after moment old x) (drop h.0 bytes) = rw (r, e) refl in
+    step ∙ run_items bytes moment xs (h.0) (after moment old x) to new n h.3
 
 run_reached : (bytes : List ℕ) (moment at : ℕ) (state : State) (n : ℕ) (r : Reached bytes moment at state) → verdict bytes moment (more r.items n) ≡ run bytes moment n state (drop at bytes)
 run_reached bytes moment at state n r =
-  let h : header.read bytes ≡ Ok (r.version, drop r.first bytes) = reads header header-exact r.version bytes 0 r.first r.begun in
-  let step : verdict bytes moment (more r.items n) ≡ run bytes moment (more r.items n) new_state (drop r.first bytes) = rw h refl in
-  step ∙ run_items bytes moment r.items r.first new_state at state n r.itemised
+    let h : header.read bytes ≡ Ok (r.version, drop r.first bytes) = reads header header-exact r.version bytes 0 r.first r.begun in
+    let step : verdict bytes moment (more r.items n) ≡ run bytes moment (more r.items n) new_state (drop r.first bytes) = rw h refl in
+    step ∙ run_items bytes moment r.items r.first new_state at state n r.itemised
 
 -- where the end stands, the checksum decides
 run_end : (bytes : List ℕ) (moment at : ℕ) (state : State) (ended n : ℕ) → Stands item End bytes at ended → run bytes moment (suc n) state (drop at bytes) ≡ ((sum_field (take ended bytes)).read (drop ended bytes) >>= λ x. Ok (file_world state))
 unfolding run
 run_end bytes moment at state ended n s =
-  let r : (next_in state).read (drop at bytes) ≡ Ok (End, drop ended bytes) = reads (next_in state) (next_in-exact state) End bytes at ended (taken state End bytes at ended s refl) in
-  let le : ended ≤ length bytes = s.inside in
-  let before : length bytes - length (drop ended bytes) ≡ ended = omega (arith, length-drop ended bytes) in
-  let step : run bytes moment (suc n) state (drop at bytes) ≡ closing bytes state (drop ended bytes) = rw r refl in
-  step ∙ ap (λ (k : ℕ). (sum_field (take k bytes)).read (drop ended bytes) >>= λ x. Ok (file_world state)) before
+    let r : (next_in state).read (drop at bytes) ≡ Ok (End, drop ended bytes) = reads (next_in state) (next_in-exact state) End bytes at ended (taken state End bytes at ended s refl) in
+    let le : ended ≤ length bytes = s.inside in
+    let before : length bytes - length (drop ended bytes) ≡ ended = omega (arith, length-drop ended bytes) in
+    let step : run bytes moment (suc n) state (drop at bytes) ≡ closing bytes state (drop ended bytes) = rw r refl in
+    step ∙ ap (λ (k : ℕ). (sum_field (take k bytes)).read (drop ended bytes) >>= λ x. Ok (file_world state)) before
 
 -- the file is read as this, with any count from that of some items on
 abbrev Settles : List ℕ → ℕ → Verdict → Type 0
 Settles bytes moment r = (xs : List Item) × ((k : ℕ) → verdict bytes moment (more xs (suc k)) ≡ r)
 
 file_settles : (bytes : List ℕ) (moment : ℕ) (world : World) → IsFile bytes moment world → Settles bytes moment (Ok world)
-file_settles bytes moment world f = (f.reached.items, λ k.
-  let s : (sum_field (take f.ended bytes)).read (drop f.ended bytes) ≡ Ok (f.sum, drop f.next bytes) = reads (sum_field (take f.ended bytes)) (sum_field-exact _) f.sum bytes f.ended f.next f.summed in
-  let last : ((sum_field (take f.ended bytes)).read (drop f.ended bytes) >>= λ x. Ok (file_world f.state)) ≡ Ok (file_world f.state) = ap (λ (q : Result (ℕ × List ℕ) Fault). q >>= λ x. Ok (file_world f.state)) s in
-  run_reached bytes moment f.at f.state (suc k) f.reached ∙ run_end bytes moment f.at f.state f.ended k f.ends ∙ last ∙ ap (λ (w : World). Ok w) (sym f.means))
+file_settles bytes moment world f = (
+  f.reached.items,
+  λ k.
+      let s : (sum_field (take f.ended bytes)).read (drop f.ended bytes) ≡ Ok (f.sum, drop f.next bytes) = reads (sum_field (take f.ended bytes)) (sum_field-exact _) f.sum bytes f.ended f.next f.summed in
+      let last : ((sum_field (take f.ended bytes)).read (drop f.ended bytes) >>= λ x. Ok (file_world f.state)) ≡ Ok (file_world f.state) = ap (λ (q : Result (ℕ × List ℕ) Fault). q >>= λ x. Ok (file_world f.state)) s in
+      run_reached bytes moment f.at f.state (suc k) f.reached ∙ run_end bytes moment f.at f.state f.ended k f.ends ∙ last ∙ ap (λ (w : World). Ok w) (sym f.means),
+)
 
-fault_settles : (bytes : List ℕ) (moment : ℕ) (kind : LoadKind) (place : ℕ) → IsFault bytes moment kind place → Settles bytes moment (Err (kind, length bytes - place))
+fault_settles : (bytes : List ℕ) (moment : ℕ) (which : LoadKind) (place : ℕ) → IsFault bytes moment which place → Settles bytes moment (Err (which, length bytes - place))
 unfolding run
-fault_settles bytes moment kind place (InHeader f) = ([], λ k.
-  let h : header.read bytes ≡ Err (kind, length bytes - place) = reads_fault header header-exact bytes 0 kind place f in
-  rw h refl)
-fault_settles bytes moment kind place (InItem at state r f) = (r.items, λ k.
-  let h : (next_in state).read (drop at bytes) ≡ Err (kind, length bytes - place) = reads_fault (next_in state) (next_in-exact state) bytes at kind place f in
-  let last : run bytes moment (suc k) state (drop at bytes) ≡ Err (kind, length bytes - place) = rw h refl in
-  run_reached bytes moment at state (suc k) r ∙ last)
-fault_settles bytes moment kind place (InSum at ended state r e f) = (r.items, λ k.
-  let s : (sum_field (take ended bytes)).read (drop ended bytes) ≡ Err (kind, length bytes - place) = reads_fault (sum_field (take ended bytes)) (sum_field-exact _) bytes ended kind place f in
-  let last : ((sum_field (take ended bytes)).read (drop ended bytes) >>= λ x. Ok (file_world state)) ≡ Err (kind, length bytes - place) = ap (λ (q : Result (ℕ × List ℕ) Fault). q >>= λ x. Ok (file_world state)) s in
-  run_reached bytes moment at state (suc k) r ∙ run_end bytes moment at state ended k e ∙ last)
+fault_settles bytes moment which place (InHeader f) = (
+  [],
+  λ k.
+      let h : header.read bytes ≡ Err (which, length bytes - place) = reads_fault header header-exact bytes 0 which place f in
+      rw h refl,
+)
+fault_settles bytes moment which place (InItem at state r f) = (
+  r.items,
+  λ k.
+      let h : (next_in state).read (drop at bytes) ≡ Err (which, length bytes - place) = reads_fault (next_in state) (next_in-exact state) bytes at which place f in
+      let last : run bytes moment (suc k) state (drop at bytes) ≡ Err (which, length bytes - place) = rw h refl in
+      run_reached bytes moment at state (suc k) r ∙ last,
+)
+fault_settles bytes moment which place (InSum at ended state r e f) = (
+  r.items,
+  λ k.
+      let s : (sum_field (take ended bytes)).read (drop ended bytes) ≡ Err (which, length bytes - place) = reads_fault (sum_field (take ended bytes)) (sum_field-exact _) bytes ended which place f in
+      let last : ((sum_field (take ended bytes)).read (drop ended bytes) >>= λ x. Ok (file_world state)) ≡ Err (which, length bytes - place) = ap (λ (q : Result (ℕ × List ℕ) Fault). q >>= λ x. Ok (file_world state)) s in
+      run_reached bytes moment at state (suc k) r ∙ run_end bytes moment at state ended k e ∙ last,
+)
 
 agree : (bytes : List ℕ) (moment : ℕ) (r s : Verdict) → Settles bytes moment r → Settles bytes moment s → r ≡ s
 agree bytes moment r s p q =
-  let same : more (p.0) (suc (more (q.0) 0)) ≡ more (q.0) (suc (more (p.0) 0)) = omega (arith, more_is (p.0) (suc (more (q.0) 0)), more_is (q.0) (suc (more (p.0) 0)), more_is (p.0) 0, more_is (q.0) 0) in
-  sym (p.1 (more (q.0) 0)) ∙ ap (verdict bytes moment) same ∙ q.1 (more (p.0) 0)
+    let same : more (p.0) (suc (more (q.0) 0)) ≡ more (q.0) (suc (more (p.0) 0)) = omega (arith, more_is (p.0) (suc (more (q.0) 0)), more_is (q.0) (suc (more (p.0) 0)), more_is (p.0) 0, more_is (q.0) 0) in
+    sym (p.1 (more (q.0) 0)) ∙ ap (verdict bytes moment) same ∙ q.1 (more (p.0) 0)
 
 -- ---- one of both there is
 
 abbrev Outcome : List ℕ → ℕ → Type 0
-Outcome bytes moment = ((world : World) × IsFile bytes moment world) ⊎ ((kind : LoadKind) × (place : ℕ) × IsFault bytes moment kind place)
+Outcome bytes moment = ((world : World) × IsFile bytes moment world) ⊎ ((which : LoadKind) × (place : ℕ) × IsFault bytes moment which place)
 
 end_is : (x : Item) → is_end x ≡ true → x ≡ End
 end_is Passed e = absurd cc
@@ -106,54 +118,54 @@ end_is End e = refl
 end_is (Key name value) e = absurd cc
 
 by_sum : (bytes : List ℕ) (moment at : ℕ) (state : State) (ended : ℕ) (r : Result (ℕ × List ℕ) Fault) → Reached bytes moment at state → Stands item End bytes at ended
-  → (sum_field (take ended bytes)).read (drop ended bytes) ≡ r → Outcome bytes moment
+    → (sum_field (take ended bytes)).read (drop ended bytes) ≡ r → Outcome bytes moment
 by_sum bytes moment at state ended (Ok x) reached s e =
-  let f = found (sum_field (take ended bytes)) (sum_field-exact _) bytes ended (x.0) (x.1) s.inside e in
-  inl (file_world state, is_file bytes moment at state ended (x.0) (length bytes - length x.1) reached s f.stands)
+    let f = found (sum_field (take ended bytes)) (sum_field-exact _) bytes ended (x.0) (x.1) s.inside e in
+    inl (file_world state, is_file bytes moment at state ended (x.0) (length bytes - length x.1) reached s f.stands)
 by_sum bytes moment at state ended (Err d) reached s e =
-  let f = broken (sum_field (take ended bytes)) (sum_field-exact _) bytes ended (d.0) (d.1) s.inside e in
-  inr (d.0, length bytes - d.1, InSum at ended state reached s f.fails)
+    let f = broken (sum_field (take ended bytes)) (sum_field-exact _) bytes ended (d.0) (d.1) s.inside e in
+    inr (d.0, length bytes - d.1, InSum at ended state reached s f.fails)
 
 plain : (state : State) (x : Item) (bytes : List ℕ) (at next : ℕ) → Stands (next_in state) x bytes at next → Stands item x bytes at next
 plain state x bytes at next s = record { onward = s.onward; inside = s.inside; spelled = s.spelled.0 }
 
 by_end : (bytes : List ℕ) (moment at : ℕ) (state : State) (x : Item) (next : ℕ) (b : Bool) → is_end x ≡ b → Reached bytes moment at state → Stands (next_in state) x bytes at next
-  → ((state : State) → Reached bytes moment next state → Outcome bytes moment) → Outcome bytes moment
+    → ((state : State) → Reached bytes moment next state → Outcome bytes moment) → Outcome bytes moment
 by_end bytes moment at state x next true e reached s go =
-  by_sum bytes moment at state next _ reached (subst (λ (y : Item). Stands item y bytes at next) (end_is x e) (plain state x bytes at next s)) refl
+    by_sum bytes moment at state next _ reached (subst (λ (y : Item). Stands item y bytes at next) (end_is x e) (plain state x bytes at next s)) refl
 by_end bytes moment at state x next false e reached s go =
-  go (after moment state x) (goes_on bytes moment at state x next reached (plain state x bytes at next s) e s.spelled.1)
+    go (after moment state x) (goes_on bytes moment at state x next reached (plain state x bytes at next s) e s.spelled.1)
 
 by_item : (bytes : List ℕ) (moment at : ℕ) (state : State) (r : Result (Item × List ℕ) Fault) → Reached bytes moment at state → (next_in state).read (drop at bytes) ≡ r
-  → ((next : ℕ) (state : State) → at < next → Reached bytes moment next state → Outcome bytes moment) → Outcome bytes moment
+    → ((next : ℕ) (state : State) → at < next → Reached bytes moment next state → Outcome bytes moment) → Outcome bytes moment
 by_item bytes moment at state (Ok x) reached e go =
-  let f = found (next_in state) (next_in-exact state) bytes at (x.0) (x.1) (inside bytes moment at state reached) e in
-  by_end bytes moment at state (x.0) (length bytes - length x.1) _ refl reached f.stands (λ new r. go (length bytes - length x.1) new (longer (x.0) bytes at _ (plain state (x.0) bytes at _ f.stands)) r)
+    let f = found (next_in state) (next_in-exact state) bytes at (x.0) (x.1) (inside bytes moment at state reached) e in
+    by_end bytes moment at state (x.0) (length bytes - length x.1) _ refl reached f.stands (λ new r. go (length bytes - length x.1) new (longer (x.0) bytes at _ (plain state (x.0) bytes at _ f.stands)) r)
 by_item bytes moment at state (Err d) reached e go =
-  let f = broken (next_in state) (next_in-exact state) bytes at (d.0) (d.1) (inside bytes moment at state reached) e in
-  inr (d.0, length bytes - d.1, InItem at state reached f.fails)
+    let f = broken (next_in state) (next_in-exact state) bytes at (d.0) (d.1) (inside bytes moment at state reached) e in
+    inr (d.0, length bytes - d.1, InItem at state reached f.fails)
 
 onward : (bytes : List ℕ) (moment n at : ℕ) (state : State) → length bytes - at < n → Reached bytes moment at state → Outcome bytes moment
 onward bytes moment zero at state lt reached = absurd (omega arith)
 onward bytes moment (suc n) at state lt reached =
-  by_item bytes moment at state _ reached refl (λ next new more_than r.
+    by_item bytes moment at state _ reached refl (λ next new more_than r.
     let le : next ≤ length bytes = inside bytes moment next new r in
     onward bytes moment n next new (omega arith) r)
 
 by_header : (bytes : List ℕ) (moment : ℕ) (r : Result (List ℕ × List ℕ) Fault) → header.read bytes ≡ r → Outcome bytes moment
 by_header bytes moment (Ok x) e =
-  let f = found header header-exact bytes 0 (x.0) (x.1) (omega arith) e in
-  onward bytes moment (suc (length bytes)) _ new_state (omega arith) (begins bytes (x.0) moment _ f.stands)
+    let f = found header header-exact bytes 0 (x.0) (x.1) (omega arith) e in
+    onward bytes moment (suc (length bytes)) _ new_state (omega arith) (begins bytes (x.0) moment _ f.stands)
 by_header bytes moment (Err d) e =
-  let f = broken header header-exact bytes 0 (d.0) (d.1) (omega arith) e in
-  inr (d.0, length bytes - d.1, InHeader f.fails)
+    let f = broken header header-exact bytes 0 (d.0) (d.1) (omega arith) e in
+    inr (d.0, length bytes - d.1, InHeader f.fails)
 
 -- ---- and only one
 
-place_inside : (bytes : List ℕ) (moment : ℕ) (kind : LoadKind) (place : ℕ) → IsFault bytes moment kind place → place ≤ length bytes
-place_inside bytes moment kind place (InHeader f) = f.inside
-place_inside bytes moment kind place (InItem at state r f) = f.inside
-place_inside bytes moment kind place (InSum at ended state r e f) = f.inside
+place_inside : (bytes : List ℕ) (moment : ℕ) (which : LoadKind) (place : ℕ) → IsFault bytes moment which place → place ≤ length bytes
+place_inside bytes moment which place (InHeader f) = f.inside
+place_inside bytes moment which place (InItem at state r f) = f.inside
+place_inside bytes moment which place (InSum at ended state r e f) = f.inside
 
 abbrev world_ok : World → Verdict
 world_ok w = Ok w
@@ -173,12 +185,12 @@ apart a d e = absurd cc
 pub exactly_one : (bytes : List ℕ) (moment : ℕ) → ExactlyOne bytes moment
 exactly_one bytes moment = record {
   either = by_header bytes moment _ refl;
-  not_both = λ world kind place f g. apart world (kind, length bytes - place) (agree bytes moment _ _ (file_settles bytes moment world f) (fault_settles bytes moment kind place g));
+  not_both = λ world which place f g. apart world (which, length bytes - place) (agree bytes moment _ _ (file_settles bytes moment world f) (fault_settles bytes moment which place g));
   one_world = λ a b f g. ok_world a b (agree bytes moment _ _ (file_settles bytes moment a f) (file_settles bytes moment b g));
   one_fault = λ k l m n f g.
-    let e = err_fault (k, length bytes - m) (l, length bytes - n) (agree bytes moment _ _ (fault_settles bytes moment k m f) (fault_settles bytes moment l n g)) in
-    let left : length bytes - m ≡ length bytes - n = ap (λ (q : Fault). q.1) e in
-    let first : m ≤ length bytes = place_inside bytes moment k m f in
-    let second : n ≤ length bytes = place_inside bytes moment l n g in
-    (ap (λ (q : Fault). q.0) e, omega arith);
+      let e = err_fault (k, length bytes - m) (l, length bytes - n) (agree bytes moment _ _ (fault_settles bytes moment k m f) (fault_settles bytes moment l n g)) in
+      let left : length bytes - m ≡ length bytes - n = ap (λ (q : Fault). q.1) e in
+      let first : m ≤ length bytes = place_inside bytes moment k m f in
+      let second : n ≤ length bytes = place_inside bytes moment l n g in
+      (ap (λ (q : Fault). q.0) e, omega arith);
 }

@@ -1,14 +1,14 @@
 -- Each part is exact, by its build.
-use Rattle.std.proofs.Common.{◌≡◌, ℕ, ◌+◌, ◌-◌, ◌*◌, Bool, List, eqb, ltb}
-use Rattle.std.specs.Int.{Width, w8, w16, w32, w64, byte_len, from_be_bytes, cast_signed, from_le_bytes}
-use Rattle.plain_model.specs.Worlds.{Value, Str}
+use Rattle.std.proofs.Common.{ℕ}
+use Rattle.std.specs.Int.{Width, w8, w32, w64, byte_len}
+use Rattle.plain_model.specs.Worlds.{Value}
 use Rattle.rdb_grammar.specs.declared.fault.LoadKind.{LoadKind}
 use Rattle.rdb_grammar.specs.declared.fault.LoadKind.TheVariants as kinds
-use Rattle.rdb_grammar.specs.Format.{Format, give, some_bytes, followed, checked, Branch, Goes, Refuses, pick, turned, by_first}
+use Rattle.rdb_grammar.specs.Format.{Branch, Goes, Refuses}
 use Rattle.rdb_grammar.specs.Lengths.{number, number_le, length_behind, a_length}
-use Rattle.rdb_grammar.specs.Strings.{Head, Len, Num, head_behind, head, is_short, short_head, body, string}
+use Rattle.rdb_grammar.specs.Strings.{Head, Len, Num, head_behind, head, is_short, body, string}
 use Rattle.rdb_grammar.specs.Values.{string_value, value_behind}
-use Rattle.rdb_grammar.specs.Items.{Item, Database, End, Key, key_with, keyed, database, item_behind, item}
+use Rattle.rdb_grammar.specs.Items.{keyed, database, item_behind, item}
 use Rattle.rdb_grammar.proofs.Exactly.{Exact, BranchExact, goes-exact, refuses-exact, give-exact, some_bytes-exact, followed-exact, checked-exact, pick-exact, turned-exact, by_first-exact}
 
 pub number-exact : (w : Width) → Exact (number w)
@@ -19,16 +19,16 @@ number_le-exact = followed-exact _ _ (some_bytes-exact _) λ bytes. give-exact _
 
 pub length_behind-exact : (refused : LoadKind) (b : ℕ) → BranchExact (length_behind refused b)
 length_behind-exact refused b =
-  pick-exact _ _ _ (goes-exact _ (give-exact _))
+    pick-exact _ _ _ (goes-exact _ (give-exact _))
     (pick-exact _ _ _ (goes-exact _ (followed-exact _ _ (number-exact w8) λ low. give-exact _))
-      (pick-exact _ _ _ (goes-exact _ (number-exact w32)) (pick-exact _ _ _ (goes-exact _ (number-exact w64)) (refuses-exact _))))
+    (pick-exact _ _ _ (goes-exact _ (number-exact w32)) (pick-exact _ _ _ (goes-exact _ (number-exact w64)) (refuses-exact _))))
 
 pub a_length-exact : Exact a_length
 a_length-exact = by_first-exact _ (length_behind-exact kinds.Length)
 
 head_behind-exact : (b : ℕ) → BranchExact (head_behind b)
 head_behind-exact b =
-  search (pick-exact, goes-exact, refuses-exact, give-exact, turned-exact, length_behind-exact) depth 16 fits 2000
+    search (pick-exact, goes-exact, refuses-exact, give-exact, turned-exact, length_behind-exact) depth 16 fits 2000
 
 pub head-exact : Exact head
 head-exact = by_first-exact head_behind head_behind-exact
@@ -55,7 +55,7 @@ database-exact = checked-exact _ _ _ _ a_length-exact
 
 item_behind-exact : (b : ℕ) → BranchExact (item_behind b)
 item_behind-exact b =
-  pick-exact _ _ _ (goes-exact _ (followed-exact _ _ database-exact λ n. give-exact _))
+    pick-exact _ _ _ (goes-exact _ (followed-exact _ _ database-exact λ n. give-exact _))
     (pick-exact _ _ _ (goes-exact _ (give-exact _)) (keyed-exact _ (value_behind-exact b)))
 
 pub item-exact : Exact item

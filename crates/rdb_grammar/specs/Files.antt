@@ -1,5 +1,5 @@
 -- A whole file, and what it means (RDB file format, "High level algorithm to parse RDB").
-use Rattle.std.specs.Prelude.{◌≡◌, ◌⊎◌, ℕ, ◌≤◌, Bool, true, false, Option, Some, None, is_none, List, [], ◌∷◌, length, take, Err, nat_eq, ◌==◌, if◌then◌else◌}
+use Rattle.std.specs.Prelude.{◌≡◌, ◌⊎◌, ℕ, Bool, true, false, Option, Some, None, is_none, List, [], ◌∷◌, length, take, Err, nat_eq, ◌==◌, if◌then◌else◌}
 use Rattle.std.specs.Cmp.Lexicographic.{pointwise}
 use Rattle.digests.specs.Crc.{crc_of}
 use Rattle.plain_model.specs.Worlds.{World, Value, new_world, in_time, look, put}
@@ -26,7 +26,7 @@ magic = record {
   read = λ bytes. if is_begun bytes then (some_bytes 5).read bytes else Err (kinds.NotRdb, length bytes);
   Spells = λ text word. (text ≡ magic_text) × (word ≡ magic_text);
   Faulty = λ bytes kind left.
-    ((is_begun bytes ≡ true) × (some_bytes 5).Faulty bytes kind left)
+      ((is_begun bytes ≡ true) × (some_bytes 5).Faulty bytes kind left)
       ⊎ ((is_begun bytes ≡ false) × (kind ≡ kinds.NotRdb) × (left ≡ length bytes));
 }
 

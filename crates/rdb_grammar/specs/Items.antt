@@ -31,7 +31,7 @@ database = checked kinds.Database 0 (λ n. n == 0) a_length
 -- 254 a database, 255 the end, else a value's type
 abbrev pub item_behind : ℕ → Branch Item
 item_behind b =
-  pick (b == 254) (Goes (followed database λ n. give (Database n)))
+    pick (b == 254) (Goes (followed database λ n. give (Database n)))
     (pick (b == 255) (Goes (give End)) (keyed (value_behind b)))
 
 abbrev pub item : Format Item

@@ -17,9 +17,9 @@ number_le = followed (some_bytes (byte_len w64)) λ bytes. give (from_le_bytes w
 -- follow, highest byte first. No other byte begins a length.
 abbrev pub length_behind : LoadKind → ℕ → Branch ℕ
 length_behind refused b =
-  pick (nat_lt b 64) (Goes (give b))
+    pick (nat_lt b 64) (Goes (give b))
     (pick (nat_lt b 128) (Goes (followed (number w8) λ low. give ((b - 64) * 256 + low)))
-      (pick (b == 128) (Goes (number w32)) (pick (b == 129) (Goes (number w64)) (Refuses refused))))
+    (pick (b == 128) (Goes (number w32)) (pick (b == 129) (Goes (number w64)) (Refuses refused))))
 
 abbrev pub a_length : Format ℕ
 a_length = by_first (length_behind kinds.Length)

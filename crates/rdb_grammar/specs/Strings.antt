@@ -14,10 +14,10 @@ pub data Head : Type 0 where
 -- C0, C1, C2: a number of 8, 16 and 32 bits; C3 compressed; else a length
 abbrev pub head_behind : ℕ → Branch Head
 head_behind b =
-  pick (b == 192) (Goes (give (Num w8)))
+    pick (b == 192) (Goes (give (Num w8)))
     (pick (b == 193) (Goes (give (Num w16)))
-      (pick (b == 194) (Goes (give (Num w32)))
-        (pick (b == 195) (Refuses kinds.Compressed) (turned Len (length_behind kinds.SpecialString b)))))
+    (pick (b == 194) (Goes (give (Num w32)))
+    (pick (b == 195) (Refuses kinds.Compressed) (turned Len (length_behind kinds.SpecialString b)))))
 
 -- a string has 512 MB at most
 abbrev pub is_short : Head → Bool

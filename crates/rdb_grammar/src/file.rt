@@ -6,7 +6,7 @@ ghost use Rattle.rdb_grammar.specs.Files.{magic, version, header, sum_field, Exa
 ghost use Rattle.rdb_grammar.specs.Gives.{Gives};
 
 use crate::fault::{FileFault, LoadKind, Refused};
-use crate::lengths::u64_le_at;
+use crate::lengths::{part_of, u64_le_at};
 use digests::crc;
 
 fn magic_of(bytes: &[u8]) -> Result<(&[u8], &[u8]), Refused>
@@ -14,24 +14,30 @@ fn magic_of(bytes: &[u8]) -> Result<(&[u8], &[u8]), Refused>
 {
     match bytes {
         [] | [b'R'] | [b'R', b'E'] | [b'R', b'E', b'D'] | [b'R', b'E', b'D', b'I'] => {
-            Err(Refused { kind: LoadKind::Ended, left: 0 })
+            Err(Refused {
+                kind: LoadKind::Ended,
+                left: 0,
+            })
         }
         [b'R', b'E', b'D', b'I', b'S', ..] => Ok(bytes.split_at(5)),
-        _ => Err(Refused { kind: LoadKind::NotRdb, left: bytes.len() }),
+        _ => Err(Refused {
+            kind: LoadKind::NotRdb,
+            left: bytes.len(),
+        }),
     }
 }
 
 fn version_of(bytes: &[u8]) -> Result<(&[u8], &[u8]), Refused>
     ensures { Gives (λ x. (x.0.now, x.1.now)) result (version.read bytes.now) }
 {
-    if bytes.len() < 4 {
-        return Err(Refused { kind: LoadKind::Ended, left: 0 });
-    }
-    let (front, rest) = bytes.split_at(4);
-    if front == [48, 48, 49, 49].as_slice() {
+    let (front, rest) = part_of(bytes, 4)?;
+    if front == b"0011".as_slice() {
         Ok((front, rest))
     } else {
-        Err(Refused { kind: LoadKind::Version, left: bytes.len() })
+        Err(Refused {
+            kind: LoadKind::Version,
+            left: bytes.len(),
+        })
     }
 }
 
@@ -49,7 +55,10 @@ pub fn check_header(bytes: &[u8]) -> Result<usize, FileFault>
 {
     match header_of(bytes) {
         Ok((_, rest)) => Ok(bytes.len() - rest.len()),
-        Err(e) => Err(FileFault { kind: e.kind, at: (bytes.len() - e.left) as u64 }),
+        Err(e) => Err(FileFault {
+            kind: e.kind,
+            at: (bytes.len() - e.left) as u64,
+        }),
     }
 }
 
@@ -63,7 +72,10 @@ fn sum_of<'a>(before: &[u8], bytes: &'a [u8]) -> Result<(u64, &'a [u8]), Refused
     if sum == crc(0, before) {
         return Ok((sum, rest));
     }
-    Err(Refused { kind: LoadKind::Checksum, left: bytes.len() })
+    Err(Refused {
+        kind: LoadKind::Checksum,
+        left: bytes.len(),
+    })
 }
 
 /// Checks the checksum field that begins at the offset `at`, behind the end of the items: zero, or the CRC-64 of all bytes
@@ -76,12 +88,14 @@ pub fn check_sum(bytes: &[u8], at: usize) -> Result<usize, FileFault>
     let (before, field) = bytes.split_at(at);
     match sum_of(before, field) {
         Ok((_, rest)) => Ok(bytes.len() - rest.len()),
-        Err(e) => Err(FileFault { kind: e.kind, at: (bytes.len() - e.left) as u64 }),
+        Err(e) => Err(FileFault {
+            kind: e.kind,
+            at: (bytes.len() - e.left) as u64,
+        }),
     }
 }
 
 /// Loaded at any moment, all bytes are a file of exactly one world, or have exactly one first fault.
 pub fn each_file_has_one_world_or_one_fault()
     ensures { (bytes : List ℕ) (moment : ℕ) → ExactlyOne bytes moment }
-{
-}
+{}

@@ -24,7 +24,10 @@ pub enum Meaning<'a> {
     /// The end of the items.
     End,
     /// A key with its value.
-    Key { name: Chunk<'a>, value: FileValue<'a> },
+    Key {
+        name: Chunk<'a>,
+        value: FileValue<'a>,
+    },
 }
 
 /// A key, and a value of type 0.
@@ -42,7 +45,10 @@ fn item_behind(first: u8, rest: &[u8]) -> Result<(Meaning<'_>, &[u8]), Refused>
     if first == 254 {
         let (number, after) = length_of(rest)?;
         if number != 0 {
-            return Err(Refused { kind: LoadKind::Database, left: rest.len() });
+            return Err(Refused {
+                kind: LoadKind::Database,
+                left: rest.len(),
+            });
         }
         return Ok((Meaning::Database(0), after));
     }
@@ -52,7 +58,10 @@ fn item_behind(first: u8, rest: &[u8]) -> Result<(Meaning<'_>, &[u8]), Refused>
     if first == 0 {
         return text_item_of(rest);
     }
-    Err(Refused { kind: LoadKind::Kind, left: rest.len() + 1 })
+    Err(Refused {
+        kind: LoadKind::Kind,
+        left: rest.len() + 1,
+    })
 }
 
 /// The item that the bytes begin with.
@@ -60,7 +69,10 @@ pub(crate) fn item_of(bytes: &[u8]) -> Result<(Meaning<'_>, &[u8]), Refused>
     ensures { Gives (λ x. (item_seen x.0, x.1.now)) result (item.read bytes.now) }
 {
     match bytes {
-        [] => Err(Refused { kind: LoadKind::Ended, left: 0 }),
+        [] => Err(Refused {
+            kind: LoadKind::Ended,
+            left: 0,
+        }),
         [first, rest @ ..] => item_behind(*first, rest),
     }
 }

@@ -20,17 +20,16 @@ pub struct Item<'a> {
 }
 
 /// The item that begins at the offset `at` of a file's bytes. Refused exactly by the item's first fault.
-pub fn next_item<'a>(
-    _alloc: Global,
-    bytes: &'a [u8],
-    at: usize,
-) -> Result<Item<'a>, ItemFault>
+pub fn next_item<'a>(_alloc: Global, bytes: &'a [u8], at: usize) -> Result<Item<'a>, ItemFault>
     requires { at ≤ length bytes.now }
     ensures item { IfOk result (λ x. Stands item (item_seen x.meaning) bytes.now at x.next) }
     ensures fault { IfErr result (IsItemFault bytes.now at) }
 {
     match item_of(&bytes[at..]) {
-        Ok((meaning, rest)) => Ok(Item { meaning, next: bytes.len() - rest.len() }),
+        Ok((meaning, rest)) => Ok(Item {
+            meaning,
+            next: bytes.len() - rest.len(),
+        }),
         Err(e) => Err(ItemFault::Refused {
             kind: e.kind,
             at: (bytes.len() - e.left) as u64,

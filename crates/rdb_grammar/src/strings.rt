@@ -8,7 +8,7 @@ ghost use Rattle.rdb_grammar.specs.Gives.{Gives};
 
 use crate::Memory;
 use crate::fault::{LoadKind, Refused};
-use crate::lengths::length_behind;
+use crate::lengths::{length_behind, part_of};
 
 /// The longest string in bytes.
 const LONGEST: u64 = 536_870_912;
@@ -57,7 +57,10 @@ fn head_behind(first: u8, rest: &[u8]) -> Result<(Head, &[u8]), Refused>
         return Ok((Head::Wide, rest));
     }
     if first == 195 {
-        return Err(Refused { kind: LoadKind::Compressed, left: rest.len() + 1 });
+        return Err(Refused {
+            kind: LoadKind::Compressed,
+            left: rest.len() + 1,
+        });
     }
     let (n, rest) = length_behind(LoadKind::SpecialString, first, rest)?;
     Ok((Head::Len(n), rest))
@@ -67,7 +70,10 @@ fn head_of(bytes: &[u8]) -> Result<(Head, &[u8]), Refused>
     ensures { Gives (λ x. (head_seen x.0, x.1.now)) result (head.read bytes.now) }
 {
     match bytes {
-        [] => Err(Refused { kind: LoadKind::Ended, left: 0 }),
+        [] => Err(Refused {
+            kind: LoadKind::Ended,
+            left: 0,
+        }),
         [first, rest @ ..] => head_behind(*first, rest),
     }
 }
@@ -78,7 +84,10 @@ fn short_head_of(bytes: &[u8]) -> Result<(Head, &[u8]), Refused>
     let (head, rest) = head_of(bytes)?;
     if let Head::Len(n) = head {
         if n > LONGEST {
-            return Err(Refused { kind: LoadKind::TooLong, left: bytes.len() });
+            return Err(Refused {
+                kind: LoadKind::TooLong,
+                left: bytes.len(),
+            });
         }
     }
     Ok((head, rest))
@@ -90,30 +99,27 @@ fn body_of(head: Head, bytes: &[u8]) -> Result<(Chunk<'_>, &[u8]), Refused>
     match head {
         Head::Len(n) => {
             if (bytes.len() as u64) < n {
-                return Err(Refused { kind: LoadKind::Ended, left: 0 });
+                return Err(Refused {
+                    kind: LoadKind::Ended,
+                    left: 0,
+                });
             }
             let (text, rest) = bytes.split_at(n as usize);
             Ok((Chunk::Part(text), rest))
         }
         Head::Tiny => {
-            if bytes.len() < 1 {
-                return Err(Refused { kind: LoadKind::Ended, left: 0 });
-            }
-            let (front, rest) = bytes.split_at(1);
+            let (front, rest) = part_of(bytes, 1)?;
             Ok((Chunk::Number(i8::from_le_bytes([front[0]]) as i64), rest))
         }
         Head::Small => {
-            if bytes.len() < 2 {
-                return Err(Refused { kind: LoadKind::Ended, left: 0 });
-            }
-            let (front, rest) = bytes.split_at(2);
-            Ok((Chunk::Number(i16::from_le_bytes([front[0], front[1]]) as i64), rest))
+            let (front, rest) = part_of(bytes, 2)?;
+            Ok((
+                Chunk::Number(i16::from_le_bytes([front[0], front[1]]) as i64),
+                rest,
+            ))
         }
         Head::Wide => {
-            if bytes.len() < 4 {
-                return Err(Refused { kind: LoadKind::Ended, left: 0 });
-            }
-            let (front, rest) = bytes.split_at(4);
+            let (front, rest) = part_of(bytes, 4)?;
             let number = i32::from_le_bytes([front[0], front[1], front[2], front[3]]);
             Ok((Chunk::Number(number as i64), rest))
         }

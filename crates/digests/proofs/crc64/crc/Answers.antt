@@ -1,4 +1,4 @@
-use Rattle.std.proofs.Common.{◌≡◌, ◌++◌, ◌+◌, ℕ, List, [], ◌∷◌, take, take-suc, add-one, get_or, refl, sym, ap, ◌∙◌, arith}
+use Rattle.std.proofs.Common.{◌≡◌, ◌++◌, ◌+◌, ℕ, [], ◌∷◌, take, get_or, refl, sym, ap, ◌∙◌, arith}
 use Rattle.digests.specs.Crc.{crc_of, bit_steps, bit_step}
 use Rattle.digests.specs.Entries.{are_entries}
 use Rattle.digests.proofs.Linear.{crc-append}

@@ -1,4 +1,4 @@
-use Rattle.std.proofs.Common.{length, arith}
+use Rattle.std.proofs.Common.{arith}
 use Rattle.rdb_grammar.specs.Files.{header}
 use Rattle.rdb_grammar.proofs.HeaderExact.{header-exact}
 use Rattle.rdb_grammar.proofs.Standing.{broken}

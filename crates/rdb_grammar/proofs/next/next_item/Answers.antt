@@ -1,4 +1,4 @@
-use Rattle.std.proofs.Common.{ℕ, List, ◌∙◌, sym, ap, length, drop}
+use Rattle.std.proofs.Common.{◌∙◌, sym, ap}
 use Rattle.std.proofs.lemmas.List.{take_rest}
 use Rattle.rdb_grammar.specs.Items.{item}
 use Rattle.rdb_grammar.specs.Views.{item_of}
