@@ -1,10 +1,12 @@
 -- What loading does: the file's world or its first fault.
 use Rattle.std.specs.Prelude.{◌≡◌, ℕ, ◌+◌, ◌<◌, ◌≤◌, List, length, Option, Some, None, Result, Ok, Err, Bool, true, false}
 use Rattle.std.specs.FinMap.{get, insert, len}
-use Rattle.plain_model.specs.Worlds.{Database, no_keys}
+use Rattle.plain_model.specs.Worlds.{Database, Value, no_keys}
 use Rattle.rdb_grammar.specs.declared.fault.LoadKind.{LoadKind}
+use Rattle.rdb_grammar.specs.declared.fault.ItemFault.{ItemFault}
+use Rattle.rdb_grammar.specs.declared.fault.ItemFault.TheVariants as items
 use Rattle.rdb_grammar.specs.Files.{State, Reached, IsFile, IsFault}
-use Rattle.rdb_reader.specs.Held.{plain_entry, world_of}
+use Rattle.rdb_reader.specs.Held.{world_of}
 use Rattle.rdb_reader.specs.Fetching.{IsFileOf, IsLongFile}
 use Rattle.rdb_reader.specs.declared.fault.LoadFault.{LoadFault}
 use Rattle.rdb_reader.specs.declared.fault.LoadFault.TheVariants as faults
@@ -13,8 +15,8 @@ use Rattle.rdb_reader.specs.declared.items.Read.TheVariants as read
 use Rattle.rdb_reader.specs.declared.loading.Loaded.{Loaded}
 
 -- a key was put, which wasn't there; or it was there, and nothing is put
-abbrev pub Puts : Database → Database → List ℕ → List ℕ → Bool → Type 0
-Puts old new key value true = (get old key ≡ None) × (new ≡ insert old key (plain_entry value))
+abbrev pub Puts : Database → Database → List ℕ → Value → Bool → Type 0
+Puts old new key value true = (get old key ≡ None) × (new ≡ insert old key (record { value = value; deadline = None }))
 Puts old new key value false = ((get old key ≡ None) → ⊥) × (new ≡ old)
 
 -- up to this place the bytes are a header and whole items, which lead to these keys
@@ -24,16 +26,21 @@ pub record Holds (bytes : List ℕ) (at : ℕ) (base : Database) : Type 0 where
   pub world : state.world ≡ world_of base
   pub deadline : state.deadline ≡ None
 
+-- the fault of an item, as one of loading
+abbrev pub load_fault : ItemFault → LoadFault
+load_fault items.Memory = faults.Memory
+load_fault (items.Refused kind place) = faults.Refused kind place
+
 -- an item is read, and the next one begins there
-pub record Goes (bytes : List ℕ) (at next : ℕ) (new : Database) : Type 0 where
+pub record Advances (bytes : List ℕ) (at next : ℕ) (new : Database) : Type 0 where
   pub holds : Holds bytes next new
   pub further : at < next
   pub within : next ≤ length bytes
 
 -- the next item is read
 abbrev pub Reads : List ℕ → ℕ → Database → Database → Result Read LoadFault → Type 0
-Reads bytes at old new (Ok (read.Key next)) = Goes bytes at next new × (len new ≡ len old + 1)
-Reads bytes at old new (Ok (read.Other next)) = Goes bytes at next new × (new ≡ old)
+Reads bytes at old new (Ok (read.Key next)) = Advances bytes at next new × (len new ≡ len old + 1)
+Reads bytes at old new (Ok (read.Other next)) = Advances bytes at next new × (new ≡ old)
 Reads bytes at old new (Ok read.End) = IsFile bytes 0 (world_of new) × (new ≡ old)
 Reads bytes at old new (Err (faults.Refused kind place)) = IsFault bytes 0 kind place
 Reads bytes at old new (Err faults.Host) = ⊥

@@ -41,7 +41,6 @@ fn take_piece<H: Host>(host: &mut H, room: &mut [u8], bytes: &mut Vec<u8>) -> Ta
 }
 
 // Takes the file that is begun to its end, or past the limit.
-#[tactic(none)]
 fn take_all<H: Host>(
     host: &mut H,
     room: &mut [u8],
@@ -70,6 +69,7 @@ fn take_all<H: Host>(
 }
 
 /// The bytes of the host's file of this name, at most as many as the limit.
+#[tactic(none)]
 pub fn fetch<H: Host>(
     alloc: Global,
     host: &mut H,
@@ -79,11 +79,13 @@ pub fn fetch<H: Host>(
     requires { limit ≤ 2 ^ 62 }
     ensures { FetchesFile (H.files host.old) name.now limit (Rose (H.faults host.old) (H.faults host.new)) result }
 {
-    let Ok(()) = host.begin(name) else {
-        return Err(LoadFault::Host);
-    };
-    let Ok(mut room) = vec![in alloc; 0u8; 65_536] else {
-        return Err(LoadFault::Memory);
+    match host.begin(name) {
+        Ok(()) => {}
+        Err(_) => return Err(LoadFault::Host),
+    }
+    let mut room = match vec![in alloc; 0u8; 65_536] {
+        Ok(room) => room,
+        Err(_) => return Err(LoadFault::Memory),
     };
     let mut bytes = Vec::new(alloc);
     match take_all(host, &mut room, &mut bytes, limit as usize) {

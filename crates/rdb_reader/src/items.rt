@@ -5,7 +5,7 @@ ghost use Rattle.std.specs.FinMap as map;
 ghost use Rattle.plain_model.specs.Worlds.{no_keys};
 ghost use Rattle.rdb_grammar.specs.Views.{text_of, value_of};
 ghost use Rattle.rdb_reader.specs.Held.{base_of};
-ghost use Rattle.rdb_reader.specs.Loads.{Puts, Holds, Reads, ReadsAll};
+ghost use Rattle.rdb_reader.specs.Loads.{Puts, Holds, Reads, ReadsAll, load_fault};
 
 use crate::Memory;
 use crate::fault::LoadFault;
@@ -29,16 +29,18 @@ fn own_text(alloc: Global, chunk: &Chunk<'_>) -> Result<Vec<u8>, Memory>
 fn put_key(
     alloc: Global,
     name: &Chunk<'_>,
-    value: &Chunk<'_>,
+    value: &FileValue<'_>,
     map: &mut BTreeMap<Vec<u8>, Vec<u8>>,
 ) -> Result<bool, Memory>
-    ensures { IfOk result (λ fresh. Puts (base_of map.old.entries) (base_of map.new.entries) (text_of name.now) (text_of value.now) fresh) }
+    ensures { IfOk result (λ fresh. Puts (base_of map.old.entries) (base_of map.new.entries) (text_of name.now) (value_of value.now) fresh) }
 {
     let name = own_text(alloc, name)?;
     if value_at(map, name.as_slice()).is_some() {
         return Ok(false);
     }
-    let value = own_text(alloc, value)?;
+    let value = match value {
+        FileValue::Text(text) => own_text(alloc, text)?,
+    };
     put_value(map, name, value)?;
     Ok(true)
 }
@@ -64,6 +66,16 @@ fn refused(fault: FileFault) -> LoadFault
     }
 }
 
+// The fault of an item.
+fn not_read(fault: ItemFault) -> LoadFault
+    ensures { result ≡ load_fault fault }
+{
+    match fault {
+        ItemFault::Memory => LoadFault::Memory,
+        ItemFault::Refused { kind, at } => LoadFault::Refused { kind, at },
+    }
+}
+
 // Reads the item at an offset.
 fn read_item(
     alloc: Global,
@@ -76,18 +88,14 @@ fn read_item(
 {
     let item = match next_item(alloc, bytes, at) {
         Ok(item) => item,
-        Err(ItemFault::Memory) => return Err(LoadFault::Memory),
-        Err(ItemFault::Refused { kind, at }) => return Err(LoadFault::Refused { kind, at }),
+        Err(fault) => return Err(not_read(fault)),
     };
     match item.meaning {
         Meaning::End => match check_sum(bytes, item.next) {
             Ok(_) => Ok(Read::End),
             Err(fault) => Err(refused(fault)),
         },
-        Meaning::Key {
-            name,
-            value: FileValue::Text(value),
-        } => match put_key(alloc, &name, &value, map) {
+        Meaning::Key { name, value } => match put_key(alloc, &name, &value, map) {
             Ok(true) => Ok(Read::Key(item.next)),
             Ok(false) => Err(LoadFault::Refused {
                 kind: LoadKind::DuplicateKey,
@@ -95,7 +103,9 @@ fn read_item(
             }),
             Err(_) => Err(LoadFault::Memory),
         },
-        Meaning::Passed | Meaning::Deadline(_) | Meaning::Database(_) => Ok(Read::Other(item.next)),
+        Meaning::Passed => Ok(Read::Other(item.next)),
+        Meaning::Deadline(_) => Ok(Read::Other(item.next)),
+        Meaning::Database(_) => Ok(Read::Other(item.next)),
     }
 }
 

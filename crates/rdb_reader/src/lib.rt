@@ -5,6 +5,8 @@ mod fault;
 mod fetch;
 mod items;
 mod loading;
+#[cfg(test)]
+mod tests;
 mod values;
 
 pub use fault::LoadFault;

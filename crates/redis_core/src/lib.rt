@@ -1,19 +1,21 @@
 //! The engine: requests in, replies out, over one ordered map.
 #![tactic(auto)]
 
-mod values;
 mod words;
 
-ghost use Rattle.std.specs.Prelude.{◌≡◌, [], IfOk, OnErr, false};
+ghost use Rattle.std.specs.Prelude.{◌≡◌, ◌≤◌, ◌^◌, [], IfOk, OnErr, false};
+ghost use Rattle.outside.specs.Counts.{Rose};
+ghost use Rattle.rdb_reader.specs.Loads.{Loads};
 ghost use Rattle.plain_model.specs.Worlds.{no_keys};
 ghost use Rattle.plain_model.specs.Steps.{may, step};
 ghost use Rattle.plain_model.specs.declared.command.Command.TheVariants as commands;
 ghost use Rattle.plain_model.specs.declared.command.StringCommand.TheVariants as strings;
-ghost use Rattle.redis_core.specs.Held.{world_of};
+ghost use Rattle.rdb_reader.specs.Held.{world_of};
 
-use crate::values::{put_value, value_at};
 use crate::words::{Asked, read_words};
+use outside::Host;
 use plain_model::{Bytes, Line, Memory, Reply};
+use rdb_reader::{LoadFault, Loaded, load, put_value, value_at};
 use resp_frames::Request;
 use std::alloc::Global;
 use std::collections::BTreeMap;
@@ -38,7 +40,7 @@ impl Model for Engine {
     ghost use Rattle.std.specs.FinMap as map;
     ghost use Rattle.std.specs.Coded.{coded_ℕ, coded_list};
     ghost use Rattle.plain_model.specs.Worlds.{Database, entry_code};
-    ghost use Rattle.redis_core.specs.Held.{base_of};
+    ghost use Rattle.rdb_reader.specs.Held.{base_of};
 
     ghost Value = { Database };
 
@@ -56,6 +58,21 @@ impl Engine {
             alloc,
             values: BTreeMap::new(alloc),
         }
+    }
+
+    /// Loads the host's file of this name, of at most so many bytes, into an engine without a key. After each fault the
+    /// engine has no key.
+    pub fn load<H: Host>(
+        &mut self,
+        host: &mut H,
+        name: &str,
+        limit: u64,
+    ) -> Result<Loaded, LoadFault>
+        requires empty { self.old ≡ no_keys }
+        requires limit { limit ≤ 2 ^ 62 }
+        ensures { Loads (H.files host.old) name.now limit (Rose (H.faults host.old) (H.faults host.new)) self.new result }
+    {
+        load(self.alloc, host, name, limit, &mut self.values)
     }
 
     /// Runs one request. `Memory` leaves the engine as it was.

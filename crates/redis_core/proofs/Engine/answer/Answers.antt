@@ -2,7 +2,7 @@ use Rattle.std.proofs.Common.{Ok, ap, sym, refl, ◌∙◌}
 use Rattle.plain_model.specs.declared.command.Command.TheVariants.{Strings}
 use Rattle.plain_model.specs.declared.command.StringCommand.TheVariants as strings
 use Rattle.redis_core.specs.Asking.{word}
-use Rattle.redis_core.specs.Held.{world_of}
+use Rattle.rdb_reader.specs.Held.{world_of}
 use Rattle.redis_core.proofs.Steps.{answers, refuses}
 use Rattle.redis_core.proofs.Engine.answer.Goals as goal
 
