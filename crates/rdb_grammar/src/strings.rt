@@ -1,6 +1,6 @@
 //! Strings.
 
-ghost use Rattle.std.specs.Prelude.{◌≡◌, ◌↔◌, ◌++◌, ℕ, List, OnOk, OnErr};
+ghost use Rattle.std.specs.Prelude.{◌≡◌, ◌↔◌, ◌++◌, ℕ, List, OnOk, OnErr, IsTrue};
 ghost use Rattle.rdb_grammar.specs.Format.{branch_read};
 ghost use Rattle.rdb_grammar.specs.Strings.{head_behind as head_behind_of, head, short_head, body, string};
 ghost use Rattle.rdb_grammar.specs.Views.{text_of, head_of as head_seen};
@@ -9,6 +9,7 @@ ghost use Rattle.rdb_grammar.specs.Gives.{Gives};
 use crate::Memory;
 use crate::fault::{LoadKind, Refused};
 use crate::lengths::{length_behind, part_of};
+use itoa::Buffer;
 
 /// The longest string in bytes.
 const LONGEST: u64 = 536_870_912;
@@ -23,6 +24,16 @@ pub enum Chunk<'a> {
 }
 
 impl Chunk<'_> {
+    /// Whether the text is this one.
+    pub fn is_text(&self, text: &[u8]) -> bool
+        ensures { IsTrue result ↔ (text_of self.now ≡ text.now) }
+    {
+        match self {
+            Chunk::Part(bytes) => *bytes == text,
+            Chunk::Number(number) => Buffer::new().format(*number).as_bytes() == text,
+        }
+    }
+
     /// Puts the text at the end of `out`. Where memory is refused `out` stays as it was.
     pub fn append_to(&self, out: &mut Vec<u8>) -> Result<(), Memory>
         ensures appended { OnOk result (out.new.items ≡ out.old.items ++ text_of self.now) }
