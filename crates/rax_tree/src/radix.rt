@@ -1,0 +1,160 @@
+//! The radix tree from keys to the places of their values.
+
+ghost use Rattle.std.specs.Prelude.{◌≡◌, ◌≢◌, ℕ, ◌+◌, ◌-◌, ◌<◌, ◌≤◌, IfOk, IfErr, OnOk, OnErr, Option, Some, None, if◌then◌else◌, IsTrue, IsSome, ◌↔◌, slice_index};
+ghost use Rattle.rax_tree.specs.Radix.{same_bytes, Agrees};
+ghost use Rattle.std.specs.Option.{option_copied, option_map};
+
+use slab::Slab;
+use std::alloc::{AllocError, Global};
+use std::collections::BTreeMap;
+
+/// How many bytes a key has.
+pub(crate) const KEY_LEN: usize = 16;
+
+/// A key.
+pub(crate) type Key = [u8; 16];
+
+/// What a branch leads to: a key with the place of its value, or a further branch of the slab.
+#[derive(Clone, Copy)]
+pub(crate) enum Child {
+    Leaf(Key, usize),
+    Fork(usize),
+}
+
+/// A place at which keys part: all keys below begin with the first `depth` bytes of `prefix`, and
+/// their next byte says which child they are below.
+#[derive(Drop)]
+pub(crate) struct Branch {
+    pub(crate) prefix: Key,
+    pub(crate) depth: usize,
+    pub(crate) parent: Option<usize>,
+    pub(crate) children: BTreeMap<u8, Child>,
+}
+
+/// The branches, of which the root stands apart from the others.
+#[derive(Drop)]
+pub(crate) struct Radix {
+    pub(crate) root: Branch,
+    pub(crate) branches: Slab<Branch>,
+}
+
+impl Branch {
+    ghost use Rattle.std.specs.Prelude.{◌≡◌, OnOk, OnErr, Some};
+    ghost use Rattle.rax_tree.specs.Radix.{shape_of, relinked};
+
+    // Lets a byte lead to a child.
+    fn link(&mut self, byte: u8, child: Child) -> Result<(), AllocError>
+        ensures ok { OnOk result (shape_of self.new ≡ relinked (shape_of self.old) byte (Some child)) }
+        ensures err { OnErr result (shape_of self.new ≡ shape_of self.old) }
+    {
+        self.children.insert(byte, child)?;
+        Ok(())
+    }
+}
+
+impl Radix {
+    ghost use Rattle.rax_tree.specs.Radix.{places_of, walked, followed, shape_of, IsSound, child_for, IsReached, IsParting, IsBegunAt, IsRelinked, IsSamePlaces};
+
+    // The branch at a place.
+    fn branch(&self, place: Option<usize>) -> Option<&Branch>
+        ensures { option_map shape_of (option_copied result) ≡ places_of self.now place }
+    {
+        match place {
+            None => Some(&self.root),
+            Some(at) => self.branches.get(at),
+        }
+    }
+
+    // Where a key's next byte leads from a place.
+    fn child(&self, place: Option<usize>, key: &Key) -> Option<Child>
+        requires { IsSound (places_of self.now) }
+        ensures { result ≡ child_for (places_of self.now place) key.now }
+    {
+        match self.branch(place) {
+            None => None,
+            Some(branch) => branch.children.get(&key[branch.depth]).copied(),
+        }
+    }
+
+    // What stands at a key below a place.
+    pub(crate) fn walk(&self, place: Option<usize>, key: &Key, levels: usize) -> Option<usize>
+        requires { IsSound (places_of self.now) }
+        ensures { result ≡ walked levels (places_of self.now) place key.now }
+    {
+        if levels == 0 {
+            return None;
+        }
+        match self.child(place, key) {
+            None => None,
+            Some(Child::Leaf(at, value)) => if_same(&at, key, value),
+            Some(Child::Fork(at)) => self.walk(Some(at), key, levels - 1),
+        }
+    }
+
+    // The branch at which the way of a key ends.
+    fn parting(&self, place: Option<usize>, key: &Key, levels: usize) -> Option<usize>
+        requires sound { IsSound (places_of self.now) }
+        requires reached { IsReached (places_of self.now) key.now levels place }
+        ensures { IsParting (places_of self.now) key.now levels place result }
+    {
+        match self.child(place, key) {
+            None => place,
+            Some(Child::Leaf(_, _)) => place,
+            Some(Child::Fork(at)) => {
+                if self.agrees(at, key) {
+                    self.parting(Some(at), key, levels - 1)
+                } else {
+                    place
+                }
+            }
+        }
+    }
+
+    // Lets a byte of a place lead to a child.
+    fn link(&mut self, place: Option<usize>, byte: u8, child: Child) -> Result<(), AllocError>
+        requires { IsSome (places_of self.old place) }
+        ensures ok { OnOk result (IsRelinked (places_of self.old) (places_of self.new) place byte (Some child)) }
+        ensures err { OnErr result (IsSamePlaces (places_of self.old) (places_of self.new)) }
+    {
+        match place {
+            None => self.root.link(byte, child),
+            Some(at) => match self.branches.get_mut(at) {
+                None => Ok(()),
+                Some(branch) => branch.link(byte, child),
+            },
+        }
+    }
+
+    // Whether a key begins as all keys below a branch of the slab do.
+    fn agrees(&self, at: usize, key: &Key) -> bool
+        requires sound { IsSound (places_of self.now) }
+        ensures { IsTrue result ↔ IsBegunAt (places_of self.now (Some at)) key.now }
+    {
+        match self.branches.get(at) {
+            None => false,
+            Some(branch) => common(key, &branch.prefix, branch.depth) == branch.depth,
+        }
+    }
+}
+
+// How many bytes two keys begin with alike, counted up to a limit.
+fn common(a: &Key, b: &Key, limit: usize) -> usize
+    requires { limit ≤ 16 }
+    ensures within { result ≤ limit }
+    ensures alike { Agrees result a.now b.now }
+    ensures parted { result < limit → slice_index a.now result ≢ slice_index b.now result }
+{
+    for at in 0..limit {
+        if a[at] != b[at] {
+            return at;
+        }
+    }
+    limit
+}
+
+// The value, where the two keys are the same.
+fn if_same(at: &Key, key: &Key, value: usize) -> Option<usize>
+    ensures { result ≡ (if same_bytes at.now key.now then Some value else None) }
+{
+    if *at == *key { Some(value) } else { None }
+}
