@@ -1,3 +1,4 @@
 pub mod Walks
 pub mod Partings
 pub mod Placed
+pub mod Links

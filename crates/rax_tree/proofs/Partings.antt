@@ -6,7 +6,7 @@ use Rattle.rax_tree.specs.declared.radix.Child.TheVariants.{Leaf, Fork}
 use Rattle.rax_tree.specs.Radix.{Shape, Places, child_for, Agrees, IsBelow, Leads, IsSoundBut, IsSound, Passes, arrived, onward, IsReached, IsParting, IsBegunAt}
 use Rattle.rax_tree.proofs.Walks.{some_case}
 
-some_same : {X : Type 0} {x y : X} → Some x ≡ Some y → x ≡ y
+pub some_same : {X : Type 0} {x y : X} → Some x ≡ Some y → x ≡ y
 some_same e = cc
 
 -- the branch below, and how it hangs

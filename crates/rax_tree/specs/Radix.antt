@@ -133,3 +133,12 @@ pub record IsRelinked (old new : Places) (place : Option ℕ) (byte : ℕ) (link
 -- every place shows what it showed
 abbrev pub IsSamePlaces : Places → Places → Type 0
 IsSamePlaces old new = (x : Option ℕ) → new x ≡ old x
+
+-- what stands at a key in the whole tree
+abbrev pub value_at : Places → List ℕ → Option ℕ
+value_at places key = walked 16 places None key
+
+-- the key has the value now, and every other key has what it had
+abbrev pub Gains : Places → Places → List ℕ → ℕ → Type 0
+Gains old new key value =
+    (other : List ℕ) → value_at new other ≡ (if same_bytes key other then Some value else value_at old other)

@@ -53,7 +53,7 @@ impl Branch {
 }
 
 impl Radix {
-    ghost use Rattle.rax_tree.specs.Radix.{places_of, walked, followed, shape_of, IsSound, child_for, IsReached, IsParting, IsBegunAt, IsRelinked, IsSamePlaces};
+    ghost use Rattle.rax_tree.specs.Radix.{places_of, walked, followed, shape_of, IsSound, child_for, IsReached, IsParting, IsBegunAt, IsRelinked, IsSamePlaces, Shape, Gains, value_at};
 
     // The branch at a place.
     fn branch(&self, place: Option<usize>) -> Option<&Branch>
@@ -107,6 +107,91 @@ impl Radix {
                     place
                 }
             }
+        }
+    }
+
+    // Puts in a key that is missing.
+    pub(crate) fn insert(&mut self, alloc: Global, key: &Key, value: usize) -> Result<(), AllocError>
+        requires sound { IsSound (places_of self.old) }
+        requires missing { value_at (places_of self.old) key.now ≡ None }
+        ensures sound { OnOk result (IsSound (places_of self.new)) }
+        ensures ok { OnOk result (Gains (places_of self.old) (places_of self.new) key.now value) }
+        ensures err { OnErr result (IsSamePlaces (places_of self.old) (places_of self.new)) }
+    {
+        let place = self.parting(None, key, 16);
+        match self.child(place, key) {
+            None => {
+                let byte = self.turn(place, key);
+                self.link(place, byte, Child::Leaf(*key, value))
+            }
+            Some(child) => self.split(alloc, place, child, key, value),
+        }
+    }
+
+    // The byte by which a key goes on from a place.
+    fn turn(&self, place: Option<usize>, key: &Key) -> u8
+        requires { IsSound (places_of self.now) }
+        ensures { (shape : Shape) → places_of self.now place ≡ Some shape
+            → result ≡ slice_index key.now shape.depth }
+    {
+        match self.branch(place) {
+            None => 0,
+            Some(branch) => key[branch.depth],
+        }
+    }
+
+    // Puts a new branch between a place and its child for a missing key.
+    fn split(
+        &mut self,
+        alloc: Global,
+        place: Option<usize>,
+        child: Child,
+        key: &Key,
+        value: usize,
+    ) -> Result<(), AllocError>
+        requires sound { IsSound (places_of self.old) }
+        requires missing { value_at (places_of self.old) key.now ≡ None }
+        requires parting { IsParting (places_of self.old) key.now 16 None place }
+        requires child { child_for (places_of self.old place) key.now ≡ Some child }
+        ensures sound { OnOk result (IsSound (places_of self.new)) }
+        ensures ok { OnOk result (Gains (places_of self.old) (places_of self.new) key.now value) }
+        ensures err { OnErr result (IsSamePlaces (places_of self.old) (places_of self.new)) }
+    {
+        let (prefix, limit) = self.span(child);
+        let depth = common(&prefix, key, limit);
+        let mut children = BTreeMap::new(alloc);
+        children.insert(prefix[depth], child)?;
+        children.insert(key[depth], Child::Leaf(*key, value))?;
+        let at = self.branches.insert(Branch {
+            prefix: *key,
+            depth,
+            parent: place,
+            children,
+        })?;
+        let byte = self.turn(place, key);
+        self.link(place, byte, Child::Fork(at))?;
+        if let Child::Fork(below) = child {
+            self.hang(below, at);
+        }
+        Ok(())
+    }
+
+    // The bytes that all keys below a child begin with, and how many those are.
+    fn span(&self, child: Child) -> (Key, usize)
+    {
+        match child {
+            Child::Leaf(at, _) => (at, KEY_LEN),
+            Child::Fork(at) => match self.branches.get(at) {
+                None => ([0; KEY_LEN], 0),
+                Some(branch) => (branch.prefix, branch.depth),
+            },
+        }
+    }
+
+    // Hangs a branch below another of the slab.
+    fn hang(&mut self, below: usize, at: usize) {
+        if let Some(branch) = self.branches.get_mut(below) {
+            branch.parent = Some(at);
         }
     }
 
