@@ -142,3 +142,47 @@ value_at places key = walked 16 places None key
 abbrev pub Gains : Places → Places → List ℕ → ℕ → Type 0
 Gains old new key value =
     (other : List ℕ) → value_at new other ≡ (if same_bytes key other then Some value else value_at old other)
+
+-- the bytes that all keys below a child begin with
+abbrev pub IsSpan : Places → Child → List ℕ → ℕ → Type 0
+IsSpan places (Leaf at value) prefix depth = (prefix ≡ at) × (depth ≡ 16)
+IsSpan places (Fork at) prefix depth =
+    (shape : Shape) → places (Some at) ≡ Some shape → (prefix ≡ shape.prefix) × (depth ≡ shape.depth)
+
+-- a branch of two children: the one that was there, and a new key
+pub record IsFork (shape : Shape) (span : List ℕ) (depth : ℕ) (parent : Option ℕ) (child : Child) (key : List ℕ) (value : ℕ) : Type 0 where
+  pub prefix_is : shape.prefix ≡ key
+  pub depth_is : shape.depth ≡ depth
+  pub parent_is : shape.parent ≡ parent
+  pub old_child : shape.child (slice_index span depth) ≡ Some child
+  pub new_child : shape.child (slice_index key depth) ≡ Some (Leaf key value)
+  pub no_other : (byte : ℕ) → (byte ≡ slice_index span depth → ⊥) → (byte ≡ slice_index key depth → ⊥) → shape.child byte ≡ None
+
+-- the branch, hung below another
+abbrev pub hung_at : Shape → ℕ → Shape
+hung_at shape at = record {
+  prefix = shape.prefix;
+  depth = shape.depth;
+  parent = Some at;
+  child = shape.child;
+}
+
+-- a child hangs below a branch of the slab now, and nothing else has changed
+pub record IsHung (old new : Places) (child : Child) (at : ℕ) : Type 0 where
+  pub hung : (x : ℕ) (shape : Shape) → child ≡ Fork x → old (Some x) ≡ Some shape → new (Some x) ≡ Some (hung_at shape at)
+  pub others : (x : Option ℕ) → ((k : ℕ) → x ≡ Some k → child ≡ Fork k → ⊥) → new x ≡ old x
+
+-- a branch has come between a place and its child
+pub record IsSplit (old new : Places) (place : Option ℕ) (byte at : ℕ) (fork : Shape) (child : Child) : Type 0 where
+  pub fresh : old (Some at) ≡ None
+  pub forked : new (Some at) ≡ Some fork
+  pub shape : Shape
+  pub was : old place ≡ Some shape
+  pub now : new place ≡ Some (relinked shape byte (Some (Fork at)))
+  pub hung : (x : ℕ) (under : Shape) → child ≡ Fork x → old (Some x) ≡ Some under → new (Some x) ≡ Some (hung_at under at)
+  pub others : (x : Option ℕ) → (x ≡ place → ⊥) → (x ≡ Some at → ⊥) → ((k : ℕ) → x ≡ Some k → child ≡ Fork k → ⊥) → new x ≡ old x
+
+-- the byte of the place leads to a child
+abbrev pub LeadsOn : Option Shape → ℕ → Type 0
+LeadsOn None byte = ⊥
+LeadsOn (Some shape) byte = IsSome (shape.child byte)

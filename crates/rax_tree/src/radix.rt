@@ -1,7 +1,7 @@
 //! The radix tree from keys to the places of their values.
 
 ghost use Rattle.std.specs.Prelude.{◌≡◌, ◌≢◌, ℕ, ◌+◌, ◌-◌, ◌<◌, ◌≤◌, IfOk, IfErr, OnOk, OnErr, Option, Some, None, if◌then◌else◌, IsTrue, IsSome, ◌↔◌, slice_index};
-ghost use Rattle.rax_tree.specs.Radix.{same_bytes, Agrees};
+ghost use Rattle.rax_tree.specs.Radix.{same_bytes, Agrees, IsFork, shape_of};
 ghost use Rattle.std.specs.Option.{option_copied, option_map};
 
 use slab::Slab;
@@ -39,8 +39,18 @@ pub(crate) struct Radix {
 }
 
 impl Branch {
-    ghost use Rattle.std.specs.Prelude.{◌≡◌, OnOk, OnErr, Some};
+    ghost use Rattle.std.specs.Prelude.{◌≡◌, OnOk, OnErr, Some, IsSome};
     ghost use Rattle.rax_tree.specs.Radix.{shape_of, relinked};
+
+    // Lets a byte, which leads to a child, lead to another.
+    fn redirect(&mut self, byte: u8, child: Child)
+        requires { IsSome ((shape_of self.old).child byte) }
+        ensures { shape_of self.new ≡ relinked (shape_of self.old) byte (Some child) }
+    {
+        if let Some(slot) = self.children.get_mut(&byte) {
+            *slot = child;
+        }
+    }
 
     // Lets a byte lead to a child.
     fn link(&mut self, byte: u8, child: Child) -> Result<(), AllocError>
@@ -53,7 +63,7 @@ impl Branch {
 }
 
 impl Radix {
-    ghost use Rattle.rax_tree.specs.Radix.{places_of, walked, followed, shape_of, IsSound, child_for, IsReached, IsParting, IsBegunAt, IsRelinked, IsSamePlaces, Shape, Gains, value_at};
+    ghost use Rattle.rax_tree.specs.Radix.{places_of, walked, followed, shape_of, IsSound, child_for, IsReached, IsParting, IsBegunAt, IsRelinked, IsSamePlaces, Shape, Gains, value_at, IsSpan, IsHung, LeadsOn};
 
     // The branch at a place.
     fn branch(&self, place: Option<usize>) -> Option<&Branch>
@@ -159,25 +169,19 @@ impl Radix {
     {
         let (prefix, limit) = self.span(child);
         let depth = common(&prefix, key, limit);
-        let mut children = BTreeMap::new(alloc);
-        children.insert(prefix[depth], child)?;
-        children.insert(key[depth], Child::Leaf(*key, value))?;
-        let at = self.branches.insert(Branch {
-            prefix: *key,
-            depth,
-            parent: place,
-            children,
-        })?;
         let byte = self.turn(place, key);
-        self.link(place, byte, Child::Fork(at))?;
-        if let Child::Fork(below) = child {
-            self.hang(below, at);
-        }
+        let branch = forked(alloc, &prefix, depth, place, child, key, value)?;
+        let at = self.branches.insert(branch)?;
+        self.redirect(place, byte, Child::Fork(at));
+        self.hang(child, at);
         Ok(())
     }
 
     // The bytes that all keys below a child begin with, and how many those are.
     fn span(&self, child: Child) -> (Key, usize)
+        requires { IsSound (places_of self.now) }
+        ensures span { IsSpan (places_of self.now) child result.0 result.1 }
+        ensures within { result.1 ≤ 16 }
     {
         match child {
             Child::Leaf(at, _) => (at, KEY_LEN),
@@ -188,10 +192,29 @@ impl Radix {
         }
     }
 
-    // Hangs a branch below another of the slab.
-    fn hang(&mut self, below: usize, at: usize) {
-        if let Some(branch) = self.branches.get_mut(below) {
-            branch.parent = Some(at);
+    // Lets a byte of a place, which leads to a child, lead to another.
+    fn redirect(&mut self, place: Option<usize>, byte: u8, child: Child)
+        requires { LeadsOn (places_of self.old place) byte }
+        ensures { IsRelinked (places_of self.old) (places_of self.new) place byte (Some child) }
+    {
+        match place {
+            None => self.root.redirect(byte, child),
+            Some(at) => {
+                if let Some(branch) = self.branches.get_mut(at) {
+                    branch.redirect(byte, child);
+                }
+            }
+        }
+    }
+
+    // Hangs a child below a branch of the slab.
+    fn hang(&mut self, child: Child, at: usize)
+        ensures { IsHung (places_of self.old) (places_of self.new) child at }
+    {
+        if let Child::Fork(below) = child {
+            if let Some(branch) = self.branches.get_mut(below) {
+                branch.parent = Some(at);
+            }
         }
     }
 
@@ -220,6 +243,32 @@ impl Radix {
             Some(branch) => common(key, &branch.prefix, branch.depth) == branch.depth,
         }
     }
+}
+
+// A branch of two children: one that was there, and a new key.
+fn forked(
+    alloc: Global,
+    span: &Key,
+    depth: usize,
+    parent: Option<usize>,
+    child: Child,
+    key: &Key,
+    value: usize,
+) -> Result<Branch, AllocError>
+    requires within { depth < 16 }
+    requires parted { slice_index span.now depth ≢ slice_index key.now depth }
+    ensures { IfOk result
+        (λ branch. IsFork (shape_of branch) span.now depth parent child key.now value) }
+{
+    let mut children = BTreeMap::new(alloc);
+    children.insert(span[depth], child)?;
+    children.insert(key[depth], Child::Leaf(*key, value))?;
+    Ok(Branch {
+        prefix: *key,
+        depth,
+        parent,
+        children,
+    })
 }
 
 // How many bytes two keys begin with alike, counted up to a limit.
