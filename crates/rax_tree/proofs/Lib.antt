@@ -2,3 +2,4 @@ pub mod Walks
 pub mod Partings
 pub mod Placed
 pub mod Links
+pub mod Splits

@@ -28,13 +28,13 @@ agrees_kept : (depth : ℕ) (xs ys zs : List ℕ) → ys ≡ zs → Agrees depth
 agrees_kept depth xs ys zs e h = rw e at h
 
 -- a child fits as before, where what it leads to hangs as before
-pub leads_kept : (old new : Places) (place : Option ℕ) (shape shape' : Shape) (byte : ℕ) (child : Child) → IsKept shape shape'
+pub leads_moved : (old new : Places) (place : Option ℕ) (shape shape' : Shape) (byte : ℕ) (child : Child) → shape'.prefix ≡ shape.prefix → shape'.depth ≡ shape.depth
     → ((at : ℕ) (below : Shape) → child ≡ Fork at → old (Some at) ≡ Some below → (below' : Shape) × (new (Some at) ≡ Some below') × IsKept below below')
     → Leads old place shape byte child → Leads new place shape' byte child
-leads_kept old new place shape shape' byte (Leaf at value) kept under fits =
-    let e = kept.depth_is in
-    (fits.0, rw (e, kept.prefix_is) fits.1, rw e fits.2)
-leads_kept old new place shape shape' byte (Fork at) kept under fits =
+leads_moved old new place shape shape' byte (Leaf at value) prefix_is depth_is under fits =
+    let e = depth_is in
+    (fits.0, rw (e, prefix_is) fits.1, rw e fits.2)
+leads_moved old new place shape shape' byte (Fork at) prefix_is depth_is under fits =
     some_case (old (Some at)) fits.0 (λ below here.
       let is = fits.1 below here in
       let there = under at below refl here in
@@ -43,12 +43,18 @@ leads_kept old new place shape shape' byte (Fork at) kept under fits =
         let k : IsKept below found = rw (← same) there.2 in
         record {
           parent_is = k.parent_is ∙ is.parent_is;
-          deeper = rw (kept.depth_is, k.depth_is) is.deeper;
-          agrees = rw (kept.depth_is, kept.prefix_is, k.prefix_is) is.agrees;
-          turns = rw (kept.depth_is, k.prefix_is) is.turns;
+          deeper = rw (depth_is, k.depth_is) is.deeper;
+          agrees = rw (depth_is, prefix_is, k.prefix_is) is.agrees;
+          turns = rw (depth_is, k.prefix_is) is.turns;
         }))
 
-relinked_kept : (shape : Shape) (byte : ℕ) (link : Option Child) → IsKept shape (relinked shape byte link)
+pub leads_kept : (old new : Places) (place : Option ℕ) (shape shape' : Shape) (byte : ℕ) (child : Child) → IsKept shape shape'
+    → ((at : ℕ) (below : Shape) → child ≡ Fork at → old (Some at) ≡ Some below → (below' : Shape) × (new (Some at) ≡ Some below') × IsKept below below')
+    → Leads old place shape byte child → Leads new place shape' byte child
+leads_kept old new place shape shape' byte child kept under fits =
+    leads_moved old new place shape shape' byte child kept.prefix_is kept.depth_is under fits
+
+pub relinked_kept : (shape : Shape) (byte : ℕ) (link : Option Child) → IsKept shape (relinked shape byte link)
 relinked_kept shape byte link = record { prefix_is = refl; depth_is = refl; parent_is = refl }
 
 -- every branch hangs as before where a place is relinked
@@ -104,7 +110,7 @@ sound_relinked old new place byte child sound change fits = record {
   ];
 }
 
-byte_same : (x : ℕ) → (x == x) ≡ true
+pub byte_same : (x : ℕ) → (x == x) ≡ true
 byte_same x = grind arith
 
 -- where the child of a place for a key leads, after a relinking of the key's byte
