@@ -3,3 +3,4 @@ pub mod Partings
 pub mod Placed
 pub mod Links
 pub mod Splits
+pub mod Gained

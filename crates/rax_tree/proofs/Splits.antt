@@ -29,7 +29,7 @@ child_cases (Fork k) x below other = elim (place_cases x (Some k)) [
   | inr d ↦ other (λ m e c. d (let s : k ≡ m = cc in rw s e))
 ]
 
-split_cases : {P : Type 0} (child : Child) (x place : Option ℕ) (at : ℕ) → (x ≡ place → P) → (x ≡ Some at → P) → ((k : ℕ) → x ≡ Some k → child ≡ Fork k → P)
+pub split_cases : {P : Type 0} (child : Child) (x place : Option ℕ) (at : ℕ) → (x ≡ place → P) → (x ≡ Some at → P) → ((k : ℕ) → x ≡ Some k → child ≡ Fork k → P)
     → ((x ≡ place → ⊥) → (x ≡ Some at → ⊥) → ((k : ℕ) → x ≡ Some k → child ≡ Fork k → ⊥) → P) → P
 split_cases child x place at here new below other = elim (place_cases x place) [
   | inl e ↦ here e
