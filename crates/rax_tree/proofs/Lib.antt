@@ -4,3 +4,4 @@ pub mod Placed
 pub mod Links
 pub mod Splits
 pub mod Gained
+pub mod Steps
