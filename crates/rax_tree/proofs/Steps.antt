@@ -27,11 +27,15 @@ agree_all (suc n) (x ∷ xs) (y ∷ ys) a b h =
 
 -- the key and the bytes of the child part before those end
 pub parts_early : (old : Places) → IsSound old → (key : List ℕ) (place : Option ℕ) (child : Child) (span : List ℕ) (limit depth : ℕ) → value_at old key ≡ None → IsParting old key 16 None place
-    → child_for (old place) key ≡ Some child → IsSpan old child span limit → length span ≡ 16 → length key ≡ 16 → depth ≤ limit → Agrees depth span key → depth < limit
-parts_early old sound key place (Leaf leaf stands) span limit depth missing parting link is_span long_span long_key within alike = elim (cases_lt depth limit) [
+    → child_for (old place) key ≡ Some child → IsSpan old child span limit → length key ≡ 16 → depth ≤ limit → Agrees depth span key → depth < limit
+parts_early old sound key place (Leaf leaf stands) span limit depth missing parting link is_span long_key within alike = elim (cases_lt depth limit) [
   | inl less ↦ less
   | inr more ↦
       let full : depth ≡ 16 = let l = is_span.1 in omega arith in
+      let shape = parting.reached.shape in
+      let step : shape.child (slice_index key shape.depth) ≡ Some (Leaf leaf stands) = ap (λ o. child_for o key) (sym parting.reached.live) ∙ link in
+      let fits = sound.leads place shape (slice_index key shape.depth) (Leaf leaf stands) parting.reached.live step in
+      let long_span : length span ≡ 16 = ap length is_span.0 ∙ fits.0 in
       let same : span ≡ key = agree_all 16 span key long_span long_key (rw full at alike) in
       let leaf_is : leaf ≡ key = sym is_span.0 ∙ same in
       let some = reached_some old sound key parting.left place parting.reached in
@@ -41,7 +45,7 @@ parts_early old sound key place (Leaf leaf stands) span limit depth missing part
       ∙ (let r : same_bytes leaf key ≡ true = rw leaf_is (same_refl key) in rw r refl) in
       absurd (let u = sym missing ∙ found in cc)
 ]
-parts_early old sound key place (Fork k) span limit depth missing parting link is_span long_span long_key within alike = elim (cases_lt depth limit) [
+parts_early old sound key place (Fork k) span limit depth missing parting link is_span long_key within alike = elim (cases_lt depth limit) [
   | inl less ↦ less
   | inr more ↦
       let shape = parting.reached.shape in
@@ -76,11 +80,11 @@ span_begun old sound place shape key (Fork k) span limit live begun step is_span
 
 -- what a split starts from
 pub apart_of : (old : Places) → IsSound old → (key : List ℕ) (place : Option ℕ) (shape : Shape) (byte : ℕ) (child : Child) (span : List ℕ) (limit depth : ℕ) → value_at old key ≡ None → IsParting old key 16 None place
-    → child_for (old place) key ≡ Some child → IsSpan old child span limit → limit ≤ 16 → length span ≡ 16 → length key ≡ 16 → depth ≤ limit → Agrees depth span key
+    → child_for (old place) key ≡ Some child → IsSpan old child span limit → limit ≤ 16 → length key ≡ 16 → depth ≤ limit → Agrees depth span key
     → (depth < limit → slice_index span depth ≡ slice_index key depth → ⊥) → old place ≡ Some shape → byte ≡ slice_index key shape.depth
     → IsApart old place shape byte child span key depth
-apart_of old sound key place shape byte child span limit depth missing parting link is_span short long_span long_key within alike parted live turns =
-    let less = parts_early old sound key place child span limit depth missing parting link is_span long_span long_key within alike in
+apart_of old sound key place shape byte child span limit depth missing parting link is_span short long_key within alike parted live turns =
+    let less = parts_early old sound key place child span limit depth missing parting link is_span long_key within alike in
     let e : parting.reached.shape ≡ shape = some_same (sym parting.reached.live ∙ live) in
     let begun : Agrees shape.depth key shape.prefix = rw e at parting.reached.begun in
     let step : shape.child (slice_index key shape.depth) ≡ Some child = ap (λ o. child_for o key) (sym live) ∙ link in
