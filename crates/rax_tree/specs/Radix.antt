@@ -186,3 +186,38 @@ pub record IsSplit (old new : Places) (place : Option ℕ) (byte at : ℕ) (fork
 abbrev pub LeadsOn : Option Shape → ℕ → Type 0
 LeadsOn None byte = ⊥
 LeadsOn (Some shape) byte = IsSome (shape.child byte)
+
+-- the key has no value now, and every other key has what it had
+abbrev pub Loses : Places → Places → List ℕ → Type 0
+Loses old new key =
+    (other : List ℕ) → value_at new other ≡ (if same_bytes key other then None else value_at old other)
+
+-- no branch is deeper than a key
+abbrev pub IsShallow : Places → Type 0
+IsShallow places = (place : Option ℕ) (shape : Shape) → places place ≡ Some shape → shape.depth < 16
+
+-- a branch that leads nowhere
+abbrev pub IsBare : Option Shape → Type 0
+IsBare None = ⊥
+IsBare (Some shape) = (byte : ℕ) → shape.child byte ≡ None
+
+-- the way of a key leads from the place to one that may be empty
+pub record IsPruning (places : Places) (key : List ℕ) (levels : ℕ) (place : Option ℕ) : Type 0 where
+  pub to : Option ℕ
+  pub left : ℕ
+  pub passes : Passes places key to levels left place
+  pub sound : IsSoundBut to places
+  pub ended : child_for (places to) key ≡ None
+  pub live : IsSome (places place)
+
+-- below the place no branch is empty, every walk finds what it found, and what is no deeper has stayed
+pub record IsPruned (old new : Places) (place : Option ℕ) : Type 0 where
+  pub sound : IsSoundBut place new
+  pub walks : (levels : ℕ) (x : Option ℕ) (key : List ℕ) → walked levels new x key ≡ walked levels old x key
+  pub higher : (x : Option ℕ) (shape at_place : Shape) → old place ≡ Some at_place → old x ≡ Some shape → shape.depth < at_place.depth → new x ≡ old x
+  pub stays : (shape : Shape) → old place ≡ Some shape → (after : Shape) × (new place ≡ Some after) × (after.prefix ≡ shape.prefix) × (after.depth ≡ shape.depth) × (after.parent ≡ shape.parent)
+
+-- a branch is gone, and nothing else has changed
+pub record IsGone (old new : Places) (at : ℕ) : Type 0 where
+  pub gone : new (Some at) ≡ None
+  pub others : (x : Option ℕ) → (x ≡ Some at → ⊥) → new x ≡ old x

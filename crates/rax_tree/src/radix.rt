@@ -39,7 +39,7 @@ pub(crate) struct Radix {
 }
 
 impl Branch {
-    ghost use Rattle.std.specs.Prelude.{◌≡◌, OnOk, OnErr, Some, IsSome};
+    ghost use Rattle.std.specs.Prelude.{◌≡◌, ℕ, OnOk, OnErr, Some, None, IsSome, IsTrue, ◌↔◌};
     ghost use Rattle.rax_tree.specs.Radix.{shape_of, relinked};
 
     // Lets a byte, which leads to a child, lead to another.
@@ -50,6 +50,20 @@ impl Branch {
         if let Some(slot) = self.children.get_mut(&byte) {
             *slot = child;
         }
+    }
+
+    // Lets a byte lead nowhere.
+    fn cut(&mut self, byte: u8)
+        ensures { shape_of self.new ≡ relinked (shape_of self.old) byte None }
+    {
+        let _ = self.children.remove(&byte);
+    }
+
+    // Whether no byte leads anywhere.
+    fn is_bare(&self) -> bool
+        ensures { IsTrue result ↔ ((byte : ℕ) → (shape_of self.now).child byte ≡ None) }
+    {
+        self.children.is_empty()
     }
 
     // Lets a byte lead to a child.
@@ -63,7 +77,7 @@ impl Branch {
 }
 
 impl Radix {
-    ghost use Rattle.rax_tree.specs.Radix.{places_of, walked, followed, shape_of, IsSound, child_for, IsReached, IsParting, IsBegunAt, IsRelinked, IsSamePlaces, Shape, Gains, value_at, IsSpan, IsHung, LeadsOn};
+    ghost use Rattle.rax_tree.specs.Radix.{places_of, walked, followed, shape_of, IsSound, child_for, IsReached, IsParting, IsBegunAt, IsRelinked, IsSamePlaces, Shape, Gains, value_at, IsSpan, IsHung, LeadsOn, Loses, IsShallow, IsBare, IsPruning, IsPruned, IsGone};
 
     // The branch at a place.
     fn branch(&self, place: Option<usize>) -> Option<&Branch>
@@ -77,7 +91,7 @@ impl Radix {
 
     // Where a key's next byte leads from a place.
     fn child(&self, place: Option<usize>, key: &Key) -> Option<Child>
-        requires { IsSound (places_of self.now) }
+        requires { IsShallow (places_of self.now) }
         ensures { result ≡ child_for (places_of self.now place) key.now }
     {
         match self.branch(place) {
@@ -138,9 +152,75 @@ impl Radix {
         }
     }
 
+    // Takes a key out, and answers what stood there.
+    pub(crate) fn remove(&mut self, key: &Key) -> Option<usize>
+        requires { IsSound (places_of self.old) }
+        ensures sound { IsSound (places_of self.new) }
+        ensures value { result ≡ value_at (places_of self.old) key.now }
+        ensures lost { Loses (places_of self.old) (places_of self.new) key.now }
+    {
+        let Some(value) = self.walk(None, key, 16) else {
+            return None;
+        };
+        let place = self.parting(None, key, 16);
+        let byte = self.turn(place, key);
+        self.cut(place, byte);
+        self.prune(None, key, 16);
+        Some(value)
+    }
+
+    // Drops the branches that are empty on the way of a key below a place.
+    fn prune(&mut self, place: Option<usize>, key: &Key, levels: usize)
+        requires { IsPruning (places_of self.old) key.now levels place }
+        ensures { IsPruned (places_of self.old) (places_of self.new) place }
+    {
+        let Some(Child::Fork(at)) = self.child(place, key) else {
+            return;
+        };
+        self.prune(Some(at), key, levels - 1);
+        if !self.is_bare(at) {
+            return;
+        }
+        let byte = self.turn(place, key);
+        self.cut(place, byte);
+        self.drop_branch(at);
+    }
+
+    // Whether a branch of the slab leads nowhere.
+    fn is_bare(&self, at: usize) -> bool
+        ensures { IsTrue result ↔ IsBare (places_of self.now (Some at)) }
+    {
+        match self.branches.get(at) {
+            None => false,
+            Some(branch) => branch.is_bare(),
+        }
+    }
+
+    // Gives a branch back.
+    fn drop_branch(&mut self, at: usize)
+        ensures { IsGone (places_of self.old) (places_of self.new) at }
+    {
+        let _ = self.branches.try_remove(at);
+    }
+
+    // Lets a byte of a place lead nowhere.
+    fn cut(&mut self, place: Option<usize>, byte: u8)
+        requires { IsSome (places_of self.old place) }
+        ensures { IsRelinked (places_of self.old) (places_of self.new) place byte None }
+    {
+        match place {
+            None => self.root.cut(byte),
+            Some(at) => {
+                if let Some(branch) = self.branches.get_mut(at) {
+                    branch.cut(byte);
+                }
+            }
+        }
+    }
+
     // The byte by which a key goes on from a place.
     fn turn(&self, place: Option<usize>, key: &Key) -> u8
-        requires { IsSound (places_of self.now) }
+        requires { IsShallow (places_of self.now) }
         ensures { (shape : Shape) → places_of self.now place ≡ Some shape
             → result ≡ slice_index key.now shape.depth }
     {
