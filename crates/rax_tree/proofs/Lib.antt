@@ -5,3 +5,4 @@ pub mod Links
 pub mod Splits
 pub mod Gained
 pub mod Steps
+pub mod Pruned

@@ -114,7 +114,7 @@ pub byte_same : (x : ℕ) → (x == x) ≡ true
 byte_same x = grind arith
 
 -- where the child of a place for a key leads, after a relinking of the key's byte
-child_after : (old new : Places) (place : Option ℕ) (byte : ℕ) (link : Option Child) → (change : IsRelinked old new place byte link) → (x : Option ℕ) (key : List ℕ)
+pub child_after : (old new : Places) (place : Option ℕ) (byte : ℕ) (link : Option Child) → (change : IsRelinked old new place byte link) → (x : Option ℕ) (key : List ℕ)
     → (x ≡ place → slice_index key change.shape.depth ≡ byte → ⊥) → child_for (new x) key ≡ child_for (old x) key
 child_after old new place byte link change x key apart = elim (place_cases x place) [
   | inl same ↦

@@ -63,7 +63,10 @@ impl Branch {
     fn is_bare(&self) -> bool
         ensures { IsTrue result ↔ ((byte : ℕ) → (shape_of self.now).child byte ≡ None) }
     {
-        self.children.is_empty()
+        match self.children.first_key_value() {
+            None => true,
+            Some(_) => false,
+        }
     }
 
     // Lets a byte lead to a child.
