@@ -97,7 +97,7 @@ pruning_below places key levels place at pruning is = below_passes places key pr
       (pruning.sound.leads place s (slice_index key s.depth) (Fork at) here step).0);
   }))
 
-pruned_higher : {spared : Option ℕ} (old new : Places) (key : List ℕ) (place : Option ℕ) (at : ℕ) → IsSoundBut spared old → child_for (old place) key ≡ Some (Fork at) → IsPruned old new (Some at)
+pub pruned_higher : {spared : Option ℕ} (old new : Places) (key : List ℕ) (place : Option ℕ) (at : ℕ) → IsSoundBut spared old → child_for (old place) key ≡ Some (Fork at) → IsPruned old new (Some at)
     → (x : Option ℕ) (shape top : Shape) → old place ≡ Some top → old x ≡ Some shape → shape.depth ≤ top.depth → new x ≡ old x
 pruned_higher old new key place at sound is pruned x shape top live here less =
     let step : top.child (slice_index key top.depth) ≡ Some (Fork at) = ap (λ o. child_for o key) (sym live) ∙ is in

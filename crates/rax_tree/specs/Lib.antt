@@ -1,1 +1,4 @@
 pub mod Radix
+pub mod Backed
+pub mod BackedProps
+pub mod Tree

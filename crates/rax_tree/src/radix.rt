@@ -1,6 +1,6 @@
 //! The radix tree from keys to the places of their values.
 
-ghost use Rattle.std.specs.Prelude.{◌≡◌, ◌≢◌, ℕ, ◌+◌, ◌-◌, ◌<◌, ◌≤◌, IfOk, IfErr, OnOk, OnErr, Option, Some, None, if◌then◌else◌, IsTrue, IsSome, ◌↔◌, slice_index};
+ghost use Rattle.std.specs.Prelude.{◌≡◌, ◌≢◌, ℕ, ◌+◌, ◌-◌, ◌<◌, ◌≤◌, IfOk, IfErr, OnOk, OnErr, List, Option, Some, None, if◌then◌else◌, IsTrue, IsSome, ◌↔◌, slice_index};
 ghost use Rattle.rax_tree.specs.Radix.{same_bytes, Agrees, IsFork, shape_of};
 ghost use Rattle.std.specs.Option.{option_copied, option_map};
 
@@ -81,6 +81,22 @@ impl Branch {
 
 impl Radix {
     ghost use Rattle.rax_tree.specs.Radix.{places_of, walked, followed, shape_of, IsSound, child_for, IsReached, IsParting, IsBegunAt, IsRelinked, IsSamePlaces, Shape, Gains, value_at, IsSpan, IsHung, LeadsOn, Loses, IsShallow, IsBare, IsPruning, IsPruned, IsGone};
+
+    // The tree of no key.
+    pub(crate) fn new(alloc: Global) -> Radix
+        ensures sound { IsSound (places_of result) }
+        ensures empty { (key : List ℕ) → value_at (places_of result) key ≡ None }
+    {
+        Radix {
+            root: Branch {
+                prefix: [0; KEY_LEN],
+                depth: 0,
+                parent: None,
+                children: BTreeMap::new(alloc),
+            },
+            branches: Slab::new(alloc),
+        }
+    }
 
     // The branch at a place.
     fn branch(&self, place: Option<usize>) -> Option<&Branch>
