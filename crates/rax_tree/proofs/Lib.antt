@@ -6,3 +6,4 @@ pub mod Splits
 pub mod Gained
 pub mod Steps
 pub mod Pruned
+pub mod Values
