@@ -2,3 +2,4 @@ pub mod Radix
 pub mod Backed
 pub mod BackedProps
 pub mod Tree
+pub mod Seek

@@ -2,11 +2,13 @@
 
 ghost use Rattle.std.specs.Prelude.{◌≡◌, ◌≢◌, ℕ, ◌+◌, ◌-◌, ◌<◌, ◌≤◌, IfOk, IfErr, OnOk, OnErr, List, Option, Some, None, if◌then◌else◌, IsTrue, IsSome, ◌↔◌, slice_index};
 ghost use Rattle.rax_tree.specs.Radix.{same_bytes, Agrees, IsFork, shape_of};
+ghost use Rattle.rax_tree.specs.Seek.{IsByteAhead, Finds};
 ghost use Rattle.std.specs.Option.{option_copied, option_map};
 
 use slab::Slab;
 use std::alloc::{AllocError, Global};
 use std::collections::BTreeMap;
+use std::ops::Bound;
 
 /// How many bytes a key has.
 pub(crate) const KEY_LEN: usize = 16;
@@ -39,8 +41,9 @@ pub(crate) struct Radix {
 }
 
 impl Branch {
-    ghost use Rattle.std.specs.Prelude.{◌≡◌, ℕ, OnOk, OnErr, Some, None, IsSome, IsTrue, ◌↔◌};
+    ghost use Rattle.std.specs.Prelude.{◌≡◌, ℕ, OnOk, OnErr, Some, None, IsSome, IsTrue, true, false, ◌↔◌};
     ghost use Rattle.rax_tree.specs.Radix.{shape_of, relinked};
+    ghost use Rattle.rax_tree.specs.Seek.{IsNext};
 
     // Lets a byte, which leads to a child, lead to another.
     fn redirect(&mut self, byte: u8, child: Child)
@@ -69,6 +72,68 @@ impl Branch {
         }
     }
 
+    // The child at the first byte in a direction, beyond another byte where there is one.
+    fn next(&self, up: bool, from: Option<u8>) -> Option<Child>
+        ensures { IsNext (shape_of self.now) up from result }
+    {
+        match from {
+            None => {
+                if up {
+                    self.first()
+                } else {
+                    self.last()
+                }
+            }
+            Some(byte) => {
+                if up {
+                    self.after(byte)
+                } else {
+                    self.before(byte)
+                }
+            }
+        }
+    }
+
+    // The child at the least byte.
+    fn first(&self) -> Option<Child>
+        ensures { IsNext (shape_of self.now) true None result }
+    {
+        match self.children.first_key_value() {
+            None => None,
+            Some((_, child)) => Some(*child),
+        }
+    }
+
+    // The child at the greatest byte.
+    fn last(&self) -> Option<Child>
+        ensures { IsNext (shape_of self.now) false None result }
+    {
+        match self.children.last_key_value() {
+            None => None,
+            Some((_, child)) => Some(*child),
+        }
+    }
+
+    // The child at the least byte above another.
+    fn after(&self, byte: u8) -> Option<Child>
+        ensures { IsNext (shape_of self.now) true (Some byte) result }
+    {
+        match self.children.range((Bound::Excluded(byte), Bound::Unbounded)).next() {
+            None => None,
+            Some((_, child)) => Some(*child),
+        }
+    }
+
+    // The child at the greatest byte below another.
+    fn before(&self, byte: u8) -> Option<Child>
+        ensures { IsNext (shape_of self.now) false (Some byte) result }
+    {
+        match self.children.range(..byte).next_back() {
+            None => None,
+            Some((_, child)) => Some(*child),
+        }
+    }
+
     // Lets a byte lead to a child.
     fn link(&mut self, byte: u8, child: Child) -> Result<(), AllocError>
         ensures ok { OnOk result (shape_of self.new ≡ relinked (shape_of self.old) byte (Some child)) }
@@ -81,6 +146,7 @@ impl Branch {
 
 impl Radix {
     ghost use Rattle.rax_tree.specs.Radix.{places_of, walked, followed, shape_of, IsSound, child_for, IsReached, IsParting, IsBegunAt, IsRelinked, IsSamePlaces, Shape, Gains, value_at, IsSpan, IsHung, LeadsOn, Loses, IsShallow, IsBare, IsPruning, IsPruned, IsGone};
+    ghost use Rattle.rax_tree.specs.Seek.{Finds, StandsAt, StandsBelow, IsSeekable, HasLevels, IsFirst, IsFirstBeyond};
 
     // The tree of no key.
     pub(crate) fn new(alloc: Global) -> Radix
@@ -237,6 +303,76 @@ impl Radix {
         }
     }
 
+    // The key that is nearest to another below a place: that one, or else the first that comes
+    // after it in a direction.
+    pub(crate) fn nearest(
+        &self,
+        place: Option<usize>,
+        key: &Key,
+        up: bool,
+        levels: usize,
+    ) -> Option<Key>
+        requires sound { IsSound (places_of self.now) }
+        requires levels { IsSeekable (places_of self.now) levels place }
+        ensures { Finds (StandsAt (places_of self.now) levels place) up key.now result }
+    {
+        let Some(branch) = self.branch(place) else {
+            return None;
+        };
+        let shared = common(key, &branch.prefix, branch.depth);
+        if shared < branch.depth {
+            if is_ahead(branch.prefix[shared], key[shared], up) {
+                return None;
+            }
+            return self.beyond(place, None, up, levels);
+        }
+        let byte = self.turn(place, key);
+        match self.child(place, key) {
+            None => self.beyond(place, Some(byte), up, levels),
+            Some(Child::Leaf(at, _)) => match leaf_from(&at, key, up) {
+                None => self.beyond(place, Some(byte), up, levels),
+                Some(found) => Some(found),
+            },
+            Some(Child::Fork(at)) => match self.nearest(Some(at), key, up, levels - 1) {
+                None => self.beyond(place, Some(byte), up, levels),
+                Some(found) => Some(found),
+            },
+        }
+    }
+
+    // The first key in a direction below a place of those that go on beyond a byte.
+    fn beyond(&self, place: Option<usize>, from: Option<u8>, up: bool, levels: usize) -> Option<Key>
+        requires sound { IsSound (places_of self.now) }
+        requires levels { IsSeekable (places_of self.now) levels place }
+        ensures { IsFirstBeyond (places_of self.now) levels place up from result }
+    {
+        let Some(branch) = self.branch(place) else {
+            return None;
+        };
+        match branch.next(up, from) {
+            None => None,
+            Some(child) => Some(self.edge(child, up, levels - 1)),
+        }
+    }
+
+    // The first key in a direction below a child.
+    fn edge(&self, child: Child, up: bool, levels: usize) -> Key
+        requires sound { IsSound (places_of self.now) }
+        requires levels { HasLevels (places_of self.now) levels child }
+        ensures { IsFirst (StandsBelow (places_of self.now) levels child) up result }
+    {
+        match child {
+            Child::Leaf(at, _) => at,
+            Child::Fork(at) => match self.branches.get(at) {
+                None => [0; KEY_LEN],
+                Some(branch) => match branch.next(up, None) {
+                    None => [0; KEY_LEN],
+                    Some(below) => self.edge(below, up, levels - 1),
+                },
+            },
+        }
+    }
+
     // The byte by which a key goes on from a place.
     fn turn(&self, place: Option<usize>, key: &Key) -> u8
         requires { IsShallow (places_of self.now) }
@@ -341,6 +477,25 @@ impl Radix {
             None => false,
             Some(branch) => common(key, &branch.prefix, branch.depth) == branch.depth,
         }
+    }
+}
+
+// Whether a byte comes before another in a direction.
+fn is_ahead(byte: u8, other: u8, up: bool) -> bool
+    ensures { IsTrue result ↔ IsByteAhead up byte other }
+{
+    if up { byte < other } else { other < byte }
+}
+
+// A key that stands, where it does not come before another.
+fn leaf_from(at: &Key, key: &Key, up: bool) -> Option<Key>
+    ensures { Finds (λ other. at.now ≡ other) up key.now result }
+{
+    let shared = common(at, key, KEY_LEN);
+    if shared < KEY_LEN && is_ahead(at[shared], key[shared], up) {
+        None
+    } else {
+        Some(*at)
     }
 }
 
