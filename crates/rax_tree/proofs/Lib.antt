@@ -7,3 +7,5 @@ pub mod Gained
 pub mod Steps
 pub mod Pruned
 pub mod Values
+pub mod Seeks
+pub mod Found

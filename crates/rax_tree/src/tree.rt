@@ -19,9 +19,10 @@ pub struct Tree<V> {
 }
 
 impl<V> Tree<V> {
-    ghost use Rattle.std.specs.Prelude.{◌≡◌, ℕ, List, Option, Some, None, IfOk, IfErr, OnOk, OnErr};
+    ghost use Rattle.std.specs.Prelude.{◌≡◌, ℕ, List, Option, Some, None, IsSome, IfOk, IfErr, OnOk, OnErr, true, false};
     ghost use Rattle.std.specs.Option.{option_copied};
     ghost use Rattle.rax_tree.specs.Tree.{get, Updates, IsUnchanged};
+    ghost use Rattle.rax_tree.specs.Seek.{Finds};
 
     /// The map of no key.
     pub fn new(alloc: Global) -> Tree<V>
@@ -86,6 +87,20 @@ impl<V> Tree<V> {
             None => None,
             Some(at) => self.values.try_remove(at),
         }
+    }
+
+    /// The least key of the map that is this one or comes after it, in the order of the bytes.
+    pub fn seek_at_or_after(&self, key: &[u8; 16]) -> Option<[u8; 16]>
+        ensures { Finds (λ other. IsSome (get self.now other)) true key.now result }
+    {
+        self.radix.nearest(None, key, true, 16)
+    }
+
+    /// The greatest key of the map that is this one or comes before it, in the order of the bytes.
+    pub fn seek_at_or_before(&self, key: &[u8; 16]) -> Option<[u8; 16]>
+        ensures { Finds (λ other. IsSome (get self.now other)) false key.now result }
+    {
+        self.radix.nearest(None, key, false, 16)
     }
 
     // Puts a value at a key that is missing.
