@@ -1,10 +1,10 @@
 -- A seek among the keys of the radix tree is one among the keys of the map.
-use Rattle.std.proofs.Common.{◌≡◌, ℕ, ◌+◌, ◌≤◌, Bool, List, Option, Some, None, refl, sym, ap, ◌∙◌, arith}
+use Rattle.std.proofs.Common.{ℕ, Bool, List, Option, Some, None, refl, arith}
 use Rattle.std.specs.Prelude.{IsSome}
 use Rattle.std.specs.Option.{option_and_then}
 use Rattle.slab.specs.Slab as slab
 use Rattle.rax_tree.specs.declared.radix.Radix.{Radix}
-use Rattle.rax_tree.specs.Radix.{Places, IsSound, places_of, value_at, walked}
+use Rattle.rax_tree.specs.Radix.{Places, IsSound, places_of, value_at}
 use Rattle.rax_tree.specs.Backed.{IsBacked}
 use Rattle.rax_tree.specs.Seek.{Finds, StandsAt, IsSeekable}
 use Rattle.rax_tree.proofs.Walks.{some_case}

@@ -1,12 +1,12 @@
 -- A byte of a place that leads to a new key.
-use Rattle.std.proofs.Common.{◌≡◌, ℕ, zero, suc, ◌+◌, ◌-◌, ◌<◌, ◌≤◌, ◌⊎◌, Bool, true, false, ◌==◌, cond, List, length, Option, Some, None, refl, sym, ap, ◌∙◌, arith, inl, inr, subst, eq-eqb}
-use Rattle.std.specs.Prelude.{slice_index, IsSome, if◌then◌else◌}
-use Rattle.std.proofs.lemmas.Bool.{cases_lt, eqb-true, eqb-false}
+use Rattle.std.proofs.Common.{◌≡◌, ℕ, ◌⊎◌, true, ◌==◌, cond, List, length, Option, Some, None, refl, sym, ap, ◌∙◌, arith, inl, inr}
+use Rattle.std.specs.Prelude.{slice_index}
+use Rattle.std.proofs.lemmas.Bool.{eqb-true, eqb-false}
 use Rattle.rax_tree.specs.declared.radix.Child.{Child}
 use Rattle.rax_tree.specs.declared.radix.Child.TheVariants.{Leaf, Fork}
-use Rattle.rax_tree.specs.Radix.{Shape, Places, child_for, same_bytes, followed, followed_if, walked, value_at, Agrees, IsBelow, Leads, IsSoundBut, IsSound, Passes, IsReached, IsParting, IsBegunAt, relinked, IsRelinked, Gains}
+use Rattle.rax_tree.specs.Radix.{Shape, Places, child_for, same_bytes, walked, Agrees, Leads, IsSound, IsReached, IsParting, relinked, IsRelinked, Gains}
 use Rattle.rax_tree.proofs.Walks.{some_case, bool_case, same_true, same_refl, walked_step, walked_passes, passes_kept, walked_same}
-use Rattle.rax_tree.proofs.Partings.{fork_same, reached_some, some_same}
+use Rattle.rax_tree.proofs.Partings.{reached_some, some_same}
 
 -- two places are one or not
 pub place_cases : (x y : Option ℕ) → (x ≡ y) ⊎ (x ≡ y → ⊥)
@@ -36,17 +36,19 @@ leads_moved old new place shape shape' byte (Leaf at value) prefix_is depth_is u
     (fits.0, rw (e, prefix_is) fits.1, rw e fits.2)
 leads_moved old new place shape shape' byte (Fork at) prefix_is depth_is under fits =
     some_case (old (Some at)) fits.0 (λ below here.
-      let is = fits.1 below here in
-      let there = under at below refl here in
-      (rw there.1 refl, λ found e.
-        let same : there.0 ≡ found = some_same (sym there.1 ∙ e) in
-        let k : IsKept below found = rw (← same) there.2 in
-        record {
-          parent_is = k.parent_is ∙ is.parent_is;
-          deeper = rw (depth_is, k.depth_is) is.deeper;
-          agrees = rw (depth_is, prefix_is, k.prefix_is) is.agrees;
-          turns = rw (depth_is, k.prefix_is) is.turns;
-        }))
+    let is = fits.1 below here in
+    let there = under at below refl here in (
+      rw there.1 refl,
+      λ found e.
+          let same : there.0 ≡ found = some_same (sym there.1 ∙ e) in
+          let k : IsKept below found = rw (← same) there.2 in
+          record {
+            parent_is = k.parent_is ∙ is.parent_is;
+            deeper = rw (depth_is, k.depth_is) is.deeper;
+            agrees = rw (depth_is, prefix_is, k.prefix_is) is.agrees;
+            turns = rw (depth_is, k.prefix_is) is.turns;
+          },
+    ))
 
 pub leads_kept : (old new : Places) (place : Option ℕ) (shape shape' : Shape) (byte : ℕ) (child : Child) → IsKept shape shape'
     → ((at : ℕ) (below : Shape) → child ≡ Fork at → old (Some at) ≡ Some below → (below' : Shape) × (new (Some at) ≡ Some below') × IsKept below below')
@@ -89,13 +91,13 @@ sound_relinked old new place byte child sound change fits = record {
         let is' : (cond (b == byte) (Some child) (change.shape.child b)) ≡ Some c = ap (λ (s : Shape). s.child b) (sym e) ∙ is in
         bool_case (b == byte)
         (λ t.
-          let at_byte : b ≡ byte = eqb-true b byte t in
-          let same_child : child ≡ c = some_same (let h = rw t at is' in h) in
-          rw (same, e, at_byte, ← same_child) (leads_kept new new place change.shape (relinked change.shape byte (Some child)) byte child (relinked_kept change.shape byte (Some child)) (λ at below k h. (below, h, kept_refl below)) fits))
+        let at_byte : b ≡ byte = eqb-true b byte t in
+        let same_child : child ≡ c = some_same (let h = rw t at is' in h) in
+        rw (same, e, at_byte, ← same_child) (leads_kept new new place change.shape (relinked change.shape byte (Some child)) byte child (relinked_kept change.shape byte (Some child)) (λ at below k h. (below, h, kept_refl below)) fits))
         (λ f.
-          let old_child : change.shape.child b ≡ Some c = (let h = rw f at is' in h) in
-          rw (same, e) (leads_kept old new place change.shape (relinked change.shape byte (Some child)) b c (relinked_kept change.shape byte (Some child)) (λ at below k h. under_kept old new place byte (Some child) change (Some at) below h)
-            (sound.leads place change.shape b c change.was old_child)))
+        let old_child : change.shape.child b ≡ Some c = (let h = rw f at is' in h) in
+        rw (same, e) (leads_kept old new place change.shape (relinked change.shape byte (Some child)) b c (relinked_kept change.shape byte (Some child)) (λ at below k h. under_kept old new place byte (Some child) change (Some at) below h)
+        (sound.leads place change.shape b c change.was old_child)))
     | inr differ ↦
         let was : old x ≡ Some shape = sym (change.others x differ) ∙ here in
         leads_kept old new x shape shape b c (kept_refl shape) (λ at below k h. under_kept old new place byte (Some child) change (Some at) below h) (sound.leads x shape b c was is)
@@ -141,7 +143,7 @@ child_before old new place byte link change key = ap (λ o. child_for o key) cha
 pub gain_link : (old new : Places) (key : List ℕ) (value : ℕ) (place : Option ℕ) (byte : ℕ) → IsSound old → (parting : IsParting old key 16 None place) → child_for (old place) key ≡ None
     → (change : IsRelinked old new place byte (Some (Leaf key value))) → slice_index key change.shape.depth ≡ byte → Gains old new key value
 gain_link old new key value place byte sound parting missing change turns q = bool_case (same_bytes key q)
-  (λ same.
+    (λ same.
     let e : key ≡ q = same_true key q same in
     let passes = passes_kept old new key place (λ x at differ is. ap (λ o. child_for o key) (change.others x differ) ∙ is) 16 parting.left None parting.passes in
     let some = reached_some old sound key parting.left place parting.reached in
@@ -151,18 +153,18 @@ gain_link old new key value place byte sound parting missing change turns q = bo
     ∙ (let r = same_refl key in rw r refl) in
     let found' : walked 16 new None q ≡ Some value = rw e at found in
     rw same found')
-  (λ differ. rw differ (walked_same 16 old new q (λ n x. elim (place_cases x place) [
-    | inl at_place ↦
-        bool_case (slice_index q change.shape.depth == byte)
-        (λ t.
+    (λ differ. rw differ (walked_same 16 old new q (λ n x. elim (place_cases x place) [
+      | inl at_place ↦
+          bool_case (slice_index q change.shape.depth == byte)
+          (λ t.
           let at_byte = eqb-true (slice_index q change.shape.depth) byte t in
           let after : child_for (new x) q ≡ Some (Leaf key value) = ap (λ p. child_for (new p) q) at_place ∙ child_linked old new place byte (Some (Leaf key value)) change q at_byte in
           let none : change.shape.child byte ≡ None = ap change.shape.child (sym turns) ∙ sym (child_before old new place byte (Some (Leaf key value)) change key) ∙ missing in
           let before : child_for (old x) q ≡ None = ap (λ p. child_for (old p) q) at_place ∙ child_before old new place byte (Some (Leaf key value)) change q ∙ ap change.shape.child at_byte ∙ none in
           rw (after, before, differ) refl)
-        (λ f. rw (child_after old new place byte (Some (Leaf key value)) change x q (λ s h. eqb-false (slice_index q change.shape.depth) byte f h)) refl)
-    | inr apart ↦ rw (child_after old new place byte (Some (Leaf key value)) change x q (λ s h. apart s)) refl
-  ]) None))
+          (λ f. rw (child_after old new place byte (Some (Leaf key value)) change x q (λ s h. eqb-false (slice_index q change.shape.depth) byte f h)) refl)
+      | inr apart ↦ rw (child_after old new place byte (Some (Leaf key value)) change x q (λ s h. apart s)) refl
+    ]) None))
 
 -- the new key fits where its way ended
 pub leaf_leads : (old new : Places) (key : List ℕ) (value levels : ℕ) (place : Option ℕ) (byte : ℕ) → (reached : IsReached old key levels place) → (change : IsRelinked old new place byte (Some (Leaf key value)))

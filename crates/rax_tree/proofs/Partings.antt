@@ -1,9 +1,8 @@
 -- The way of a key down to the branch at which it parts.
-use Rattle.std.proofs.Common.{◌≡◌, ℕ, zero, suc, ◌+◌, ◌-◌, ◌<◌, ◌≤◌, List, Option, Some, None, refl, sym, ap, ◌∙◌, arith, subst}
+use Rattle.std.proofs.Common.{◌≡◌, ℕ, suc, ◌-◌, ◌<◌, List, Option, Some, sym, ap, ◌∙◌, arith, subst}
 use Rattle.std.specs.Prelude.{slice_index, IsSome}
-use Rattle.rax_tree.specs.declared.radix.Child.{Child}
-use Rattle.rax_tree.specs.declared.radix.Child.TheVariants.{Leaf, Fork}
-use Rattle.rax_tree.specs.Radix.{Shape, Places, child_for, Agrees, IsBelow, Leads, IsSoundBut, IsSound, Passes, arrived, onward, IsReached, IsParting, IsBegunAt}
+use Rattle.rax_tree.specs.declared.radix.Child.TheVariants.{Fork}
+use Rattle.rax_tree.specs.Radix.{Shape, Places, child_for, Agrees, IsBelow, IsSound, Passes, arrived, onward, IsReached, IsParting, IsBegunAt}
 use Rattle.rax_tree.proofs.Walks.{some_case}
 
 pub some_same : {X : Type 0} {x y : X} → Some x ≡ Some y → x ≡ y
@@ -32,13 +31,13 @@ pub reach_below : (places : Places) → IsSound places → (key : List ℕ) (lev
     → IsReached places key (levels - 1) (Some at)
 reach_below places sound key levels place at reached is begun =
     some_case (places (Some at)) (below_live places sound key place reached.shape at reached.live is) (λ below here.
-      let under = below_of places sound key place reached.shape at reached.live is below here in
-      record {
-        shape = below;
-        live = here;
-        begun = begun_is (places (Some at)) key below here begun;
-        enough = let d = under.deeper in let e = reached.enough in omega arith;
-      })
+    let under = below_of places sound key place reached.shape at reached.live is below here in
+    record {
+      shape = below;
+      live = here;
+      begun = begun_is (places (Some at)) key below here begun;
+      enough = let d = under.deeper in let e = reached.enough in omega arith;
+    })
 
 -- there are levels left
 pub reached_some : (places : Places) → IsSound places → (key : List ℕ) (levels : ℕ) (place : Option ℕ) → IsReached places key levels place → 0 < levels
@@ -62,19 +61,19 @@ parting_more places sound key levels place to at reached is parting =
     let some = reached_some places sound key levels place reached in
     let e : suc (levels - 1) ≡ levels = omega arith in
     some_case (places (Some at)) (below_live places sound key place reached.shape at reached.live is) (λ below here.
-      let under = below_of places sound key place reached.shape at reached.live is below here in
-      let lower = parting.deeper below here in
-      let up = under.deeper in
-      record {
-        left = parting.left;
-        passes = subst (λ n. Passes places key to n parting.left place) e (onward (levels - 1) parting.left at place
+    let under = below_of places sound key place reached.shape at reached.live is below here in
+    let lower = parting.deeper below here in
+    let up = under.deeper in
+    record {
+      left = parting.left;
+      passes = subst (λ n. Passes places key to n parting.left place) e (onward (levels - 1) parting.left at place
           (λ same. let twice : reached.shape ≡ parting.reached.shape = some_same (sym reached.live ∙ ap places same ∙ parting.reached.live) in
-            let d : reached.shape.depth ≡ parting.reached.shape.depth = ap (λ (s : Shape). s.depth) twice in absurd (omega arith))
+          let d : reached.shape.depth ≡ parting.reached.shape.depth = ap (λ (s : Shape). s.depth) twice in absurd (omega arith))
           is parting.passes);
-        reached = parting.reached;
-        deeper = λ shape live. let s : reached.shape ≡ shape = some_same (sym reached.live ∙ live) in let d : reached.shape.depth ≡ shape.depth = ap (λ (s : Shape). s.depth) s in omega arith;
-        parted = parting.parted;
-      })
+      reached = parting.reached;
+      deeper = λ shape live. let s : reached.shape ≡ shape = some_same (sym reached.live ∙ live) in let d : reached.shape.depth ≡ shape.depth = ap (λ (s : Shape). s.depth) s in omega arith;
+      parted = parting.parted;
+    })
 
 pub fork_same : {x y : ℕ} → Some (Fork x) ≡ Some (Fork y) → x ≡ y
 fork_same e = cc

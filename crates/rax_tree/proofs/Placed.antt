@@ -1,6 +1,6 @@
 -- What a write to one branch makes of the places.
-use Rattle.std.proofs.Common.{◌≡◌, ℕ, zero, suc, ◌+◌, ◌<◌, ◌≤◌, List, length, get_or, set, Option, Some, None, Result, Ok, Err, refl, sym, ap, ◌∙◌, arith, inl, inr}
-use Rattle.std.specs.Prelude.{IsSome, OnOk}
+use Rattle.std.proofs.Common.{◌≡◌, ℕ, ◌<◌, List, length, get_or, Option, Some, None, Result, Ok, Err, refl, ap, ◌∙◌, inl, inr}
+use Rattle.std.specs.Prelude.{OnOk}
 use Rattle.std.specs.Option.{option_map}
 use Rattle.std.proofs.lemmas.Bool.{cases_lt}
 use Rattle.std.proofs.lemmas.List.{get_or-set_other, get_or-set_same, get_or_past}
@@ -8,7 +8,7 @@ use Rattle.slab.specs.Slab as slab
 use Rattle.rax_tree.specs.declared.radix.Child.{Child}
 use Rattle.rax_tree.specs.declared.radix.Branch.{Branch}
 use Rattle.rax_tree.specs.declared.radix.Radix.{Radix}
-use Rattle.rax_tree.specs.Radix.{Shape, Places, shape_of, places_of, relinked, IsRelinked}
+use Rattle.rax_tree.specs.Radix.{shape_of, places_of, relinked, IsRelinked}
 
 pub on_ok : {T E : Type 0} {P Q : Type 0} (r : Result T E) → OnOk r P → (P → Q) → OnOk r Q
 on_ok (Ok x) p f = f p

@@ -1,5 +1,5 @@
 -- The order of keys, and what a seek finds.
-use Rattle.std.proofs.Common.{◌≡◌, ℕ, zero, suc, ◌+◌, ◌-◌, ◌<◌, ◌≤◌, ◌⊎◌, Bool, true, false, ◌==◌, cond, List, Option, Some, None, refl, sym, ap, ◌∙◌, inl, inr, arith}
+use Rattle.std.proofs.Common.{◌≡◌, ℕ, ◌+◌, ◌-◌, ◌<◌, ◌≤◌, Bool, true, false, cond, List, Option, Some, None, refl, sym, ap, ◌∙◌, inl, inr, arith}
 use Rattle.std.specs.Prelude.{slice_index, IsSome}
 use Rattle.std.proofs.lemmas.Bool.{cases_lt}
 use Rattle.std.proofs.lemmas.Grind.{common_steps}
@@ -7,7 +7,7 @@ use Rattle.std.specs.Ordering.{nat_cmp, is_lt}
 use Rattle.std.specs.declared.cmp.Ordering.TheVariants.{Less}
 use Rattle.rax_tree.specs.declared.radix.Child.{Child}
 use Rattle.rax_tree.specs.declared.radix.Child.TheVariants.{Leaf, Fork}
-use Rattle.rax_tree.specs.Radix.{Shape, Places, child_for, same_bytes, followed, followed_if, walked, Agrees, IsBelow, Leads, IsSoundBut, IsSound}
+use Rattle.rax_tree.specs.Radix.{Shape, Places, child_for, same_bytes, followed_if, walked, Agrees, IsSound}
 use Rattle.rax_tree.specs.Seek.{IsBefore, IsAhead, IsByteAhead, IsBeyond, IsNext, Finds, StandsBelow, StandsAt, HasLevels, IsSeekable, IsFirst, IsFirstBeyond, GoesBeyond}
 use Rattle.rax_tree.proofs.Walks.{some_case, bool_case, same_true, same_refl, found_agrees, walked_step}
 use Rattle.rax_tree.proofs.Partings.{some_same}
@@ -16,11 +16,11 @@ before_asym : (a b : List ℕ) → IsBefore a b → IsBefore b a → ⊥
 before_asym a b p q = elim (cases_lt p.at q.at) [
   | inl first ↦ let e = q.same p.at first in let l = p.less in omega arith
   | inr later ↦ elim (cases_lt q.at p.at) [
-      | inl second ↦ let e = p.same q.at second in let l = q.less in omega arith
-      | inr same ↦
-          let at : q.at ≡ p.at = omega arith in
-          let l : slice_index b p.at < slice_index a p.at = rw at at q.less in
-          let m = p.less in omega arith
+    | inl second ↦ let e = p.same q.at second in let l = q.less in omega arith
+    | inr same ↦
+        let at : q.at ≡ p.at = omega arith in
+        let l : slice_index b p.at < slice_index a p.at = rw at at q.less in
+        let m = p.less in omega arith
   ]
 ]
 
@@ -52,10 +52,10 @@ pub stands_split : {P : Type 0} (places : Places) → IsSound places → (levels
     → (Agrees shape.depth key shape.prefix → (child : Child) → shape.child (slice_index key shape.depth) ≡ Some child → StandsBelow places (levels - 1) child key → P) → P
 stands_split places sound levels place shape key here some stands next =
     some_case (walked levels places place key) stands (λ value found.
-      let agrees = found_agrees None places sound levels place shape key value here found in
-      let step : followed_if (λ at. walked (levels - 1) places (Some at) key) (shape.child (slice_index key shape.depth)) key ≡ Some value =
-      sym (walked_step levels places place key (shape.child (slice_index key shape.depth)) some (ap (λ o. child_for o key) here)) ∙ found in
-      split_child places (levels - 1) key value (shape.child (slice_index key shape.depth)) step (λ child is below. next agrees child is below))
+    let agrees = found_agrees None places sound levels place shape key value here found in
+    let step : followed_if (λ at. walked (levels - 1) places (Some at) key) (shape.child (slice_index key shape.depth)) key ≡ Some value =
+    sym (walked_step levels places place key (shape.child (slice_index key shape.depth)) some (ap (λ o. child_for o key) here)) ∙ found in
+    split_child places (levels - 1) key value (shape.child (slice_index key shape.depth)) step (λ child is below. next agrees child is below))
 
 -- only the leaf's own key stands at it
 pub leaf_stands : (at : List ℕ) (value : ℕ) (key : List ℕ) → IsSome (cond (same_bytes at key) (Some value) None) → at ≡ key
@@ -70,11 +70,11 @@ below_turns places sound levels place shape byte (Leaf at value) key here link s
 below_turns places sound levels place shape byte (Fork at) key here link stands =
     let fits = sound.leads place shape byte (Fork at) here link in
     some_case (places (Some at)) fits.0 (λ under there.
-      let b = fits.1 under there in
-      some_case (walked levels places (Some at) key) stands (λ value found.
-        let agrees = found_agrees None places sound levels (Some at) under key value there found in
-        let deep = b.deeper in
-        (agrees shape.depth deep ∙ b.turns, λ k h. agrees k (omega arith) ∙ b.agrees k h)))
+    let b = fits.1 under there in
+    some_case (walked levels places (Some at) key) stands (λ value found.
+    let agrees = found_agrees None places sound levels (Some at) under key value there found in
+    let deep = b.deeper in
+    (agrees shape.depth deep ∙ b.turns, λ k h. agrees k (omega arith) ∙ b.agrees k h)))
 
 -- a key that stands below a child of a place stands at the place, by the child's byte
 pub below_stands : (places : Places) → IsSound places → (levels : ℕ) (place : Option ℕ) (shape : Shape) (byte : ℕ) (child : Child) (key : List ℕ) → places place ≡ Some shape → shape.child byte ≡ Some child → 0 < levels
@@ -110,13 +110,13 @@ first_beyond places sound levels place shape up from child found here some next 
     record {
       stands_there = (below.0, goes_beyond (places place) shape up from found here (rw below.1 next.1));
       none_ahead = λ q stands ahead. stands_split places sound levels place shape q here some stands.0 (λ agrees c link under.
-        let beyond : IsBeyond up from (slice_index q shape.depth) = beyond_of (places place) shape up from q here stands.1 in
-        byte_cases up (slice_index q shape.depth) byte
-        (λ less. (let u = sym link ∙ next.3 (slice_index q shape.depth) beyond less in cc))
-        (λ same.
+          let beyond : IsBeyond up from (slice_index q shape.depth) = beyond_of (places place) shape up from q here stands.1 in
+          byte_cases up (slice_index q shape.depth) byte
+          (λ less. (let u = sym link ∙ next.3 (slice_index q shape.depth) beyond less in cc))
+          (λ same.
           let child_is : c ≡ child = some_same (sym link ∙ ap shape.child same ∙ next.2) in
           first.none_ahead q (rw (← child_is) under) ahead)
-        (λ more.
+          (λ more.
           let later : IsByteAhead up (slice_index found shape.depth) (slice_index q shape.depth) = rw below.1 more in
           ahead_asym up found q (ahead_by up shape.depth found q (agrees_through shape.depth found q shape.prefix below.2 agrees) later) ahead));
     }
@@ -126,16 +126,16 @@ pub none_beyond : (places : Places) → IsSound places → (levels : ℕ) (place
     → (other : List ℕ) → StandsAt places levels place other → GoesBeyond (places place) up from other → ⊥
 none_beyond places sound levels place shape up from here some none q stands goes =
     stands_split places sound levels place shape q here some stands (λ agrees c link under.
-      (let u = sym link ∙ none (slice_index q shape.depth) (beyond_of (places place) shape up from q here goes) in cc))
+    (let u = sym link ∙ none (slice_index q shape.depth) (beyond_of (places place) shape up from q here goes) in cc))
 
 -- a leaf's key is the first below it
 pub first_leaf : (places : Places) (levels : ℕ) (up : Bool) (at : List ℕ) (value : ℕ) → IsFirst (StandsBelow places levels (Leaf at value)) up at
 first_leaf places levels up at value = record {
   stands_there = let r = same_refl at in rw r refl;
   none_ahead = λ q stands ahead.
-    let same = leaf_stands at value q stands in
-    let self : IsAhead up at at = rw (← same) at ahead in
-    ahead_asym up at at self self;
+      let same = leaf_stands at value q stands in
+      let self : IsAhead up at at = rw (← same) at ahead in
+      ahead_asym up at at self self;
 }
 
 -- the first below a branch
@@ -151,55 +151,59 @@ pub near_none : (places : Places) → IsSound places → (levels : ℕ) (place :
     → IsByteAhead up (slice_index shape.prefix shared) (slice_index key shared) → (other : List ℕ) → StandsAt places levels place other → IsAhead up other key
 near_none places sound levels place shape up key shared here some less alike ahead q stands =
     stands_split places sound levels place shape q here some stands (λ agrees c link under.
-      ahead_by up shared q key (λ k h. agrees k (omega arith) ∙ sym (alike k h)) (rw (agrees shared less) ahead))
+    ahead_by up shared q key (λ k h. agrees k (omega arith) ∙ sym (alike k h)) (rw (agrees shared less) ahead))
 
 -- all keys below come after the key that is sought
 pub near_all : (places : Places) → IsSound places → (levels : ℕ) (place : Option ℕ) (shape : Shape) (up : Bool) (key : List ℕ) (shared : ℕ) (result : Option (List ℕ)) → places place ≡ Some shape → 0 < levels → shared < shape.depth
     → Agrees shared key shape.prefix → IsByteAhead up (slice_index key shared) (slice_index shape.prefix shared) → IsFirstBeyond places levels place up None result → Finds (StandsAt places levels place) up key result
 near_all places sound levels place shape up key shared None here some less alike ahead first = λ q stands. absurd (first q stands (goes_beyond (places place) shape up None q here tt))
-near_all places sound levels place shape up key shared (Some found) here some less alike ahead first =
-    (first.stands_there.0,
-      (λ before. stands_split places sound levels place shape found here some first.stands_there.0 (λ agrees c link under.
-        ahead_asym up key found (ahead_by up shared key found (λ k h. alike k h ∙ sym (agrees k (omega arith))) (rw (agrees shared less) ahead)) before)),
-      (λ q stands before. absurd (first.none_ahead q (stands, goes_beyond (places place) shape up None q here tt) before)))
+near_all places sound levels place shape up key shared (Some found) here some less alike ahead first = (
+  first.stands_there.0,
+  (λ before. stands_split places sound levels place shape found here some first.stands_there.0 (λ agrees c link under.
+      ahead_asym up key found (ahead_by up shared key found (λ k h. alike k h ∙ sym (agrees k (omega arith))) (rw (agrees shared less) ahead)) before)),
+  (λ q stands before. absurd (first.none_ahead q (stands, goes_beyond (places place) shape up None q here tt) before)),
+)
 
 -- nothing stands by the key's byte that is not before it, and so the next byte tells
 pub near_beyond : (places : Places) → IsSound places → (levels : ℕ) (place : Option ℕ) (shape : Shape) (up : Bool) (key : List ℕ) (byte : ℕ) (result : Option (List ℕ)) → places place ≡ Some shape → 0 < levels → Agrees shape.depth key shape.prefix
     → byte ≡ slice_index key shape.depth
     → ((other : List ℕ) → StandsAt places levels place other → slice_index other shape.depth ≡ slice_index key shape.depth → IsAhead up other key) → IsFirstBeyond places levels place up (Some byte) result → Finds (StandsAt places levels place) up key result
 near_beyond places sound levels place shape up key byte None here some begun turns lower first = λ q stands.
-  stands_split places sound levels place shape q here some stands (λ agrees c link under.
+    stands_split places sound levels place shape q here some stands (λ agrees c link under.
     byte_cases up (slice_index q shape.depth) (slice_index key shape.depth)
     (λ less. ahead_by up shape.depth q key (agrees_through shape.depth q key shape.prefix agrees begun) less)
     (λ same. lower q stands same)
     (λ more. absurd (first q stands (goes_beyond (places place) shape up (Some byte) q here (rw turns more)))))
 near_beyond places sound levels place shape up key byte (Some found) here some begun turns lower first =
     let goes : IsByteAhead up byte (slice_index found shape.depth) = beyond_of (places place) shape up (Some byte) found here first.stands_there.1 in
-    let goes' : IsByteAhead up (slice_index key shape.depth) (slice_index found shape.depth) = rw turns at goes in
-    (first.stands_there.0,
+    let goes' : IsByteAhead up (slice_index key shape.depth) (slice_index found shape.depth) = rw turns at goes in (
+      first.stands_there.0,
       (λ before. stands_split places sound levels place shape found here some first.stands_there.0 (λ agrees c link under.
-        ahead_asym up key found (ahead_by up shape.depth key found (agrees_through shape.depth key found shape.prefix begun agrees) goes') before)),
+          ahead_asym up key found (ahead_by up shape.depth key found (agrees_through shape.depth key found shape.prefix begun agrees) goes') before)),
       (λ q stands before. stands_split places sound levels place shape q here some stands (λ agrees c link under.
-        byte_cases up (slice_index q shape.depth) (slice_index key shape.depth)
-        (λ less. ahead_by up shape.depth q key (agrees_through shape.depth q key shape.prefix agrees begun) less)
-        (λ same. lower q stands same)
-        (λ more. absurd (first.none_ahead q (stands, goes_beyond (places place) shape up (Some byte) q here (rw turns more)) before)))))
+          byte_cases up (slice_index q shape.depth) (slice_index key shape.depth)
+          (λ less. ahead_by up shape.depth q key (agrees_through shape.depth q key shape.prefix agrees begun) less)
+          (λ same. lower q stands same)
+          (λ more. absurd (first.none_ahead q (stands, goes_beyond (places place) shape up (Some byte) q here (rw turns more)) before)))),
+    )
 
 -- what is found below the child by the key's byte is found at the place
 pub near_child : (places : Places) → IsSound places → (levels : ℕ) (place : Option ℕ) (shape : Shape) (up : Bool) (key : List ℕ) (child : Child) (found : List ℕ) → places place ≡ Some shape → 0 < levels → Agrees shape.depth key shape.prefix
     → shape.child (slice_index key shape.depth) ≡ Some child → Finds (StandsBelow places (levels - 1) child) up key (Some found) → Finds (StandsAt places levels place) up key (Some found)
 near_child places sound levels place shape up key child found here some begun link finds =
-    let below = below_stands places sound levels place shape (slice_index key shape.depth) child found here link some finds.0 in
-    (below.0, finds.1,
+    let below = below_stands places sound levels place shape (slice_index key shape.depth) child found here link some finds.0 in (
+      below.0,
+      finds.1,
       (λ q stands before. stands_split places sound levels place shape q here some stands (λ agrees c linked under.
-        byte_cases up (slice_index q shape.depth) (slice_index key shape.depth)
-        (λ less. ahead_by up shape.depth q key (agrees_through shape.depth q key shape.prefix agrees begun) less)
-        (λ same.
+          byte_cases up (slice_index q shape.depth) (slice_index key shape.depth)
+          (λ less. ahead_by up shape.depth q key (agrees_through shape.depth q key shape.prefix agrees begun) less)
+          (λ same.
           let child_is : c ≡ child = some_same (sym linked ∙ ap shape.child same ∙ link) in
           finds.2 q (rw (← child_is) under) before)
-        (λ more.
+          (λ more.
           let later : IsByteAhead up (slice_index found shape.depth) (slice_index q shape.depth) = rw below.1 more in
-          absurd (ahead_asym up found q (ahead_by up shape.depth found q (agrees_through shape.depth found q shape.prefix below.2 agrees) later) before)))))
+          absurd (ahead_asym up found q (ahead_by up shape.depth found q (agrees_through shape.depth found q shape.prefix below.2 agrees) later) before)))),
+    )
 
 -- where nothing is found below the child, all keys by the key's byte come before it
 pub child_lower : (places : Places) → IsSound places → (levels : ℕ) (place : Option ℕ) (shape : Shape) (up : Bool) (key : List ℕ) (child : Child) → places place ≡ Some shape → 0 < levels
@@ -207,15 +211,15 @@ pub child_lower : (places : Places) → IsSound places → (levels : ℕ) (place
     → (other : List ℕ) → StandsAt places levels place other → slice_index other shape.depth ≡ slice_index key shape.depth → IsAhead up other key
 child_lower places sound levels place shape up key child here some link finds q stands same =
     stands_split places sound levels place shape q here some stands (λ agrees c linked under.
-      let child_is : c ≡ child = some_same (sym linked ∙ ap shape.child same ∙ link) in
-      finds q (rw (← child_is) under))
+    let child_is : c ≡ child = some_same (sym linked ∙ ap shape.child same ∙ link) in
+    finds q (rw (← child_is) under))
 
 pub no_child_lower : (places : Places) → IsSound places → (levels : ℕ) (place : Option ℕ) (shape : Shape) (up : Bool) (key : List ℕ) → places place ≡ Some shape → 0 < levels
     → shape.child (slice_index key shape.depth) ≡ None
     → (other : List ℕ) → StandsAt places levels place other → slice_index other shape.depth ≡ slice_index key shape.depth → IsAhead up other key
 no_child_lower places sound levels place shape up key here some link q stands same =
     stands_split places sound levels place shape q here some stands (λ agrees c linked under.
-      absurd (let u = sym linked ∙ ap shape.child same ∙ link in cc))
+    absurd (let u = sym linked ∙ ap shape.child same ∙ link in cc))
 
 -- a leaf's key, found or passed over
 pub leaf_finds : (places : Places) (levels : ℕ) (up : Bool) (key at : List ℕ) (value : ℕ) (result : Option (List ℕ)) → Finds (λ other. at ≡ other) up key result → Finds (StandsBelow places levels (Leaf at value)) up key result

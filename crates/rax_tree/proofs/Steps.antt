@@ -1,15 +1,15 @@
 -- The steps of a split, and what they start from.
-use Rattle.std.proofs.Common.{◌≡◌, ℕ, zero, suc, ◌+◌, ◌-◌, ◌<◌, ◌≤◌, ◌⊎◌, Bool, true, false, ◌==◌, cond, List, [], ◌∷◌, length, Option, Some, None, refl, sym, ap, ◌∙◌, arith, inl, inr, subst}
-use Rattle.std.specs.Prelude.{slice_index, IsSome}
+use Rattle.std.proofs.Common.{◌≡◌, ℕ, zero, suc, ◌<◌, ◌≤◌, true, List, [], ◌∷◌, length, Option, Some, None, refl, sym, ap, ◌∙◌, arith, inl, inr}
+use Rattle.std.specs.Prelude.{slice_index}
 use Rattle.std.specs.Option.{option_map}
-use Rattle.std.proofs.lemmas.Bool.{cases_lt, eqb-true, eqb-false}
+use Rattle.std.proofs.lemmas.Bool.{cases_lt}
 use Rattle.slab.specs.Slab as slab
 use Rattle.rax_tree.specs.declared.radix.Child.{Child}
 use Rattle.rax_tree.specs.declared.radix.Child.TheVariants.{Leaf, Fork}
 use Rattle.rax_tree.specs.declared.radix.Branch.{Branch}
 use Rattle.rax_tree.specs.declared.radix.Radix.{Radix}
-use Rattle.rax_tree.specs.Radix.{Shape, Places, shape_of, places_of, child_for, same_bytes, walked, value_at, Agrees, IsBelow, Leads, IsSoundBut, IsSound, IsReached, IsParting, IsBegunAt, IsSpan, relinked, IsRelinked, hung_at, IsHung, IsFork, IsSplit, LeadsOn}
-use Rattle.rax_tree.proofs.Walks.{some_case, bool_case, same_refl, walked_step, walked_passes}
+use Rattle.rax_tree.specs.Radix.{Shape, Places, shape_of, places_of, child_for, same_bytes, walked, value_at, Agrees, IsSound, IsReached, IsParting, IsSpan, IsRelinked, IsHung, IsSplit, LeadsOn}
+use Rattle.rax_tree.proofs.Walks.{some_case, same_refl, walked_step, walked_passes}
 use Rattle.rax_tree.proofs.Partings.{some_same, reached_some}
 use Rattle.rax_tree.proofs.Splits.{IsApart}
 
@@ -52,10 +52,10 @@ parts_early old sound key place (Fork k) span limit depth missing parting link i
       let step : shape.child (slice_index key shape.depth) ≡ Some (Fork k) = ap (λ o. child_for o key) (sym parting.reached.live) ∙ link in
       let fits = sound.leads place shape (slice_index key shape.depth) (Fork k) parting.reached.live step in
       some_case (old (Some k)) fits.0 (λ under there.
-        let is = is_span under there in
-        let full : depth ≡ under.depth = let l = is.1 in omega arith in
-        let begun : Agrees under.depth key under.prefix = λ i h. sym (alike i (omega arith)) ∙ ap (λ xs. slice_index xs i) is.0 in
-        absurd (parting.parted k link (rw there begun)))
+      let is = is_span under there in
+      let full : depth ≡ under.depth = let l = is.1 in omega arith in
+      let begun : Agrees under.depth key under.prefix = λ i h. sym (alike i (omega arith)) ∙ ap (λ xs. slice_index xs i) is.0 in
+      absurd (parting.parted k link (rw there begun)))
 ]
 
 -- the child's bytes agree with the key as far as the place's depth, and there too
@@ -71,12 +71,12 @@ span_begun old sound place shape key (Leaf leaf stands) span limit live begun st
 span_begun old sound place shape key (Fork k) span limit live begun step is_span i low =
     let fits = sound.leads place shape (slice_index key shape.depth) (Fork k) live step in
     some_case (old (Some k)) fits.0 (λ under there.
-      let b = fits.1 under there in
-      let is = (is_span under there).0 in
-      elim (cases_lt i shape.depth) [
-        | inl less ↦ ap (λ xs. slice_index xs i) is ∙ b.agrees i less ∙ sym (begun i less)
-        | inr more ↦ let e : i ≡ shape.depth = omega arith in rw (e, is) b.turns
-      ])
+    let b = fits.1 under there in
+    let is = (is_span under there).0 in
+    elim (cases_lt i shape.depth) [
+      | inl less ↦ ap (λ xs. slice_index xs i) is ∙ b.agrees i less ∙ sym (begun i less)
+      | inr more ↦ let e : i ≡ shape.depth = omega arith in rw (e, is) b.turns
+    ])
 
 -- what a split starts from
 pub apart_of : (old : Places) → IsSound old → (key : List ℕ) (place : Option ℕ) (shape : Shape) (byte : ℕ) (child : Child) (span : List ℕ) (limit depth : ℕ) → value_at old key ≡ None → IsParting old key 16 None place
@@ -112,19 +112,19 @@ split_of old first second new place shape byte at fork child sound live leads_to
     let not_at : place ≡ Some at → ⊥ = λ e. (let u = sym live ∙ ap old e ∙ fresh in cc) in
     let shape_is : shape ≡ change.shape = some_same (sym live ∙ sym (others place not_at) ∙ change.was) in
     let not_child : (k : ℕ) → place ≡ Some k → child ≡ Fork k → ⊥ = λ k e ck.
-      (let f = sound.leads place shape byte child live leads_to in
-      let f' = rw ck at f in
-      some_case (old (Some k)) f'.0 (λ under there.
-        let b = f'.1 under there in
-        let twice : shape ≡ under = some_same (sym live ∙ ap old e ∙ there) in
-        let d : shape.depth ≡ under.depth = ap (λ (t : Shape). t.depth) twice in
-        let deeper = b.deeper in
-        absurd (omega arith))) in
+    (let f = sound.leads place shape byte child live leads_to in
+    let f' = rw ck at f in
+    some_case (old (Some k)) f'.0 (λ under there.
+    let b = f'.1 under there in
+    let twice : shape ≡ under = some_same (sym live ∙ ap old e ∙ there) in
+    let d : shape.depth ≡ under.depth = ap (λ (t : Shape). t.depth) twice in
+    let deeper = b.deeper in
+    absurd (omega arith))) in
     let at_not_child : (k : ℕ) → Some at ≡ Some k → child ≡ Fork k → ⊥ = λ k e ck.
-      (let f = sound.leads place shape byte child live leads_to in
-      let f' = rw ck at f in
-      let gone : old (Some k) ≡ None = ap old (sym e) ∙ fresh in
-      some_case (old (Some k)) f'.0 (λ under there. absurd (let u = sym there ∙ gone in cc))) in
+    (let f = sound.leads place shape byte child live leads_to in
+    let f' = rw ck at f in
+    let gone : old (Some k) ≡ None = ap old (sym e) ∙ fresh in
+    some_case (old (Some k)) f'.0 (λ under there. absurd (let u = sym there ∙ gone in cc))) in
     record {
       fresh = fresh;
       forked = hang.others (Some at) at_not_child ∙ change.others (Some at) (λ e. not_at (sym e)) ∙ put;
@@ -132,9 +132,9 @@ split_of old first second new place shape byte at fork child sound live leads_to
       was = live ∙ ap Some shape_is;
       now = hang.others place not_child ∙ change.now;
       hung = λ x under ck there.
-        (let not_place : Some x ≡ place → ⊥ = λ e. not_child x (sym e) ck in
-        let x_not : Some x ≡ Some at → ⊥ = λ e. (let u = sym there ∙ ap old e ∙ fresh in cc) in
-        hang.hung x under ck (change.others (Some x) not_place ∙ others (Some x) x_not ∙ there));
+          (let not_place : Some x ≡ place → ⊥ = λ e. not_child x (sym e) ck in
+          let x_not : Some x ≡ Some at → ⊥ = λ e. (let u = sym there ∙ ap old e ∙ fresh in cc) in
+          hang.hung x under ck (change.others (Some x) not_place ∙ others (Some x) x_not ∙ there));
       others = λ x a n o. hang.others x o ∙ change.others x a ∙ others x n;
     }
 
@@ -147,8 +147,8 @@ put_others radix branches at same (Some k) away = ap (option_map shape_of) (same
 -- the root may be reached
 pub reach_root : (places : Places) → IsSound places → (key : List ℕ) → IsReached places key 16 None
 reach_root places sound key = some_case (places None) sound.standing (λ shape here.
-  let root = sound.rooted shape here in
-  record { shape = shape; live = here; begun = λ k h. absurd (omega arith); enough = omega arith })
+    let root = sound.rooted shape here in
+    record { shape = shape; live = here; begun = λ k h. absurd (omega arith); enough = omega arith })
 
 pub leads_on : (o : Option Shape) (byte : ℕ) (shape : Shape) (child : Child) → o ≡ Some shape → shape.child byte ≡ Some child → LeadsOn o byte
 leads_on o byte shape child live link = rw live (rw link refl)

@@ -1,15 +1,13 @@
 -- The values over a radix tree.
-use Rattle.std.proofs.Common.{◌≡◌, ◌==◌, ℕ, Bool, true, false, cond, List, Option, Some, None, refl, sym, ap, ◌∙◌, inl, inr, arith}
-use Rattle.std.specs.Prelude.{IsSome}
+use Rattle.std.proofs.Common.{◌≡◌, ◌==◌, ℕ, true, false, cond, List, Option, Some, None, refl, sym, ap, ◌∙◌, arith}
 use Rattle.std.specs.Option.{option_and_then}
 use Rattle.std.proofs.lemmas.Bool.{eqb-true, eqb-false}
 use Rattle.slab.specs.Slab as slab
 use Rattle.rax_tree.specs.declared.radix.Radix.{Radix}
-use Rattle.rax_tree.specs.Radix.{IsSound, IsSamePlaces, Places, child_for, places_of, value_at, same_bytes, Gains, Loses, walked}
+use Rattle.rax_tree.specs.Radix.{IsSound, IsSamePlaces, Places, child_for, places_of, value_at, same_bytes, Gains, Loses}
 use Rattle.rax_tree.specs.Backed.{IsBacked}
 use Rattle.rax_tree.proofs.Walks.{bool_case, some_case, same_true, same_refl, walked_step}
 use Rattle.rax_tree.proofs.Partings.{some_same}
-use Rattle.rax_tree.proofs.Links.{place_cases}
 use Rattle.rax_tree.proofs.Placed.{with_value_same, with_value_other}
 
 -- two numbers are one or not
@@ -55,8 +53,8 @@ pub backed_set : {V : Type 0} (radix : Radix) (values : slab.Slab V) (at : ℕ) 
 backed_set radix values at old new backed here = record {
   sound = backed.sound;
   live = λ key k is. key_cases k at
-    (λ same. rw (ap (λ m. slab.get (slab.with_value values at new) m) same ∙ with_value_same values at old new here) refl)
-    (λ differ. rw (with_value_other values at k new differ) (backed.live key k is));
+      (λ same. rw (ap (λ m. slab.get (slab.with_value values at new) m) same ∙ with_value_same values at old new here) refl)
+      (λ differ. rw (with_value_other values at k new differ) (backed.live key k is));
   apart = backed.apart;
 }
 
@@ -70,11 +68,11 @@ set_other radix values at new key backed is other f (Some k) e =
 pub found_set : {V : Type 0} (radix : Radix) (values : slab.Slab V) (at : ℕ) (old new : V) (key : List ℕ) → IsBacked radix values → slab.get values at ≡ Some old → value_at (places_of radix) key ≡ Some at
     → (other : List ℕ) → found radix (slab.with_value values at new) other ≡ (cond (same_bytes key other) (Some new) (found radix values other))
 found_set radix values at old new key backed here is other = bool_case (same_bytes key other)
-  (λ t.
+    (λ t.
     let e : key ≡ other = same_true key other t in
     let is' : value_at (places_of radix) other ≡ Some at = rw e at is in
     rw t (found_some radix (slab.with_value values at new) other at is' ∙ with_value_same values at old new here))
-  (λ f. rw f (set_other radix values at new key backed is other f (value_at (places_of radix) other) refl))
+    (λ f. rw f (set_other radix values at new key backed is other f (value_at (places_of radix) other) refl))
 
 -- a key has come, with a value of its own
 pub backed_gain : {V : Type 0} (radix radix' : Radix) (values values' : slab.Slab V) (key : List ℕ) (at : ℕ) (value : V) → IsBacked radix values → IsSound (places_of radix') → Gains (places_of radix) (places_of radix') key at
@@ -82,23 +80,23 @@ pub backed_gain : {V : Type 0} (radix radix' : Radix) (values values' : slab.Sla
 backed_gain radix radix' values values' key at value backed sound gains vacant change = record {
   sound = sound;
   live = λ q k is. bool_case (same_bytes key q)
-    (λ t. let e : at ≡ k = some_same (sym (let g = gains q in rw t at g) ∙ is) in rw (← e) (rw change.changed refl))
-    (λ f.
+      (λ t. let e : at ≡ k = some_same (sym (let g = gains q in rw t at g) ∙ is) in rw (← e) (rw change.changed refl))
+      (λ f.
       let was : value_at (places_of radix) q ≡ Some k = sym (let g = gains q in rw f at g) ∙ is in
       let differ : k ≡ at → ⊥ = λ s. some_case (slab.get values k) (backed.live q k was) (λ v here. (let u = sym here ∙ ap (slab.get values) s ∙ vacant in cc)) in
       rw (change.others k differ) (backed.live q k was));
   apart = λ q r k is too. bool_case (same_bytes key q)
-    (λ t. bool_case (same_bytes key r)
+      (λ t. bool_case (same_bytes key r)
       (λ u. sym (same_true key q t) ∙ same_true key r u)
       (λ f.
-        let e : at ≡ k = some_same (sym (let g = gains q in rw t at g) ∙ is) in
-        let was : value_at (places_of radix) r ≡ Some k = sym (let g = gains r in rw f at g) ∙ too in
-        some_case (slab.get values k) (backed.live r k was) (λ v here. absurd (let w = sym here ∙ ap (slab.get values) (sym e) ∙ vacant in cc))))
-    (λ f. bool_case (same_bytes key r)
+      let e : at ≡ k = some_same (sym (let g = gains q in rw t at g) ∙ is) in
+      let was : value_at (places_of radix) r ≡ Some k = sym (let g = gains r in rw f at g) ∙ too in
+      some_case (slab.get values k) (backed.live r k was) (λ v here. absurd (let w = sym here ∙ ap (slab.get values) (sym e) ∙ vacant in cc))))
+      (λ f. bool_case (same_bytes key r)
       (λ u.
-        let e : at ≡ k = some_same (sym (let g = gains r in rw u at g) ∙ too) in
-        let was : value_at (places_of radix) q ≡ Some k = sym (let g = gains q in rw f at g) ∙ is in
-        some_case (slab.get values k) (backed.live q k was) (λ v here. absurd (let w = sym here ∙ ap (slab.get values) (sym e) ∙ vacant in cc)))
+      let e : at ≡ k = some_same (sym (let g = gains r in rw u at g) ∙ too) in
+      let was : value_at (places_of radix) q ≡ Some k = sym (let g = gains q in rw f at g) ∙ is in
+      some_case (slab.get values k) (backed.live q k was) (λ v here. absurd (let w = sym here ∙ ap (slab.get values) (sym e) ∙ vacant in cc)))
       (λ h. backed.apart q r k (sym (let g = gains q in rw f at g) ∙ is) (sym (let g = gains r in rw h at g) ∙ too)));
 }
 
@@ -112,8 +110,8 @@ gain_other radix radix' values values' at value backed vacant change q same (Som
 pub found_gain : {V : Type 0} (radix radix' : Radix) (values values' : slab.Slab V) (key : List ℕ) (at : ℕ) (value : V) → IsBacked radix values → Gains (places_of radix) (places_of radix') key at
     → slab.get values at ≡ None → slab.Updates values values' at (Some value) → (other : List ℕ) → found radix' values' other ≡ (cond (same_bytes key other) (Some value) (found radix values other))
 found_gain radix radix' values values' key at value backed gains vacant change q = bool_case (same_bytes key q)
-  (λ t. rw t (found_some radix' values' q at (let g = gains q in rw t at g) ∙ change.changed))
-  (λ f. rw f (gain_other radix radix' values values' at value backed vacant change q (let g = gains q in rw f at g) (value_at (places_of radix) q) refl))
+    (λ t. rw t (found_some radix' values' q at (let g = gains q in rw t at g) ∙ change.changed))
+    (λ f. rw f (gain_other radix radix' values values' at value backed vacant change q (let g = gains q in rw f at g) (value_at (places_of radix) q) refl))
 
 lose_apart : {V : Type 0} (radix : Radix) (values : slab.Slab V) (key : List ℕ) (at : ℕ) → IsBacked radix values → value_at (places_of radix) key ≡ Some at
     → (q : List ℕ) (k : ℕ) → value_at (places_of radix) q ≡ Some k → same_bytes key q ≡ false → k ≡ at → ⊥
@@ -129,13 +127,13 @@ pub backed_lose : {V : Type 0} (radix radix' : Radix) (values values' : slab.Sla
 backed_lose radix radix' values values' key at backed sound loses stood change = record {
   sound = sound;
   live = λ q k is. bool_case (same_bytes key q)
-    (λ t. absurd (let u = sym (let g = loses q in rw t at g) ∙ is in cc))
-    (λ f.
+      (λ t. absurd (let u = sym (let g = loses q in rw t at g) ∙ is in cc))
+      (λ f.
       let was : value_at (places_of radix) q ≡ Some k = sym (let g = loses q in rw f at g) ∙ is in
       rw (change.others k (lose_apart radix values key at backed stood q k was f)) (backed.live q k was));
   apart = λ q r k is too. bool_case (same_bytes key q)
-    (λ t. absurd (let u = sym (let g = loses q in rw t at g) ∙ is in cc))
-    (λ f. bool_case (same_bytes key r)
+      (λ t. absurd (let u = sym (let g = loses q in rw t at g) ∙ is in cc))
+      (λ f. bool_case (same_bytes key r)
       (λ t. absurd (let u = sym (let g = loses r in rw t at g) ∙ too in cc))
       (λ h. backed.apart q r k (sym (let g = loses q in rw f at g) ∙ is) (sym (let g = loses r in rw h at g) ∙ too)));
 }
@@ -149,9 +147,8 @@ lose_other radix radix' values values' key at backed stood change q f same (Some
 pub found_lose : {V : Type 0} (radix radix' : Radix) (values values' : slab.Slab V) (key : List ℕ) (at : ℕ) → IsBacked radix values → Loses (places_of radix) (places_of radix') key
     → value_at (places_of radix) key ≡ Some at → slab.Updates values values' at None → (other : List ℕ) → found radix' values' other ≡ (cond (same_bytes key other) None (found radix values other))
 found_lose radix radix' values values' key at backed loses stood change q = bool_case (same_bytes key q)
-  (λ t. rw t (found_none radix' values' q (let g = loses q in rw t at g)))
-  (λ f. rw f (lose_other radix radix' values values' key at backed stood change q f (let g = loses q in rw f at g) (value_at (places_of radix) q) refl))
-
+    (λ t. rw t (found_none radix' values' q (let g = loses q in rw t at g)))
+    (λ f. rw f (lose_other radix radix' values values' key at backed stood change q f (let g = loses q in rw f at g) (value_at (places_of radix) q) refl))
 
 abbrev pub if_else : {V : Type 0} → List ℕ → List ℕ → Option V → Option V → Option V
 if_else key other some none = cond (same_bytes key other) some none
@@ -164,19 +161,19 @@ found_same radix radix' values values' keys slots key =
 -- a key that did not stand is lost by no change
 pub lost_same : (old new : Places) (key : List ℕ) → value_at old key ≡ None → Loses old new key → (other : List ℕ) → value_at new other ≡ value_at old other
 lost_same old new key none loses other = bool_case (same_bytes key other)
-  (λ t.
+    (λ t.
     let e : key ≡ other = same_true key other t in
     let g = loses other in
     let gone : value_at new other ≡ None = rw t at g in
     gone ∙ sym (ap (λ k. value_at old k) (sym e) ∙ none))
-  (λ f. let g = loses other in let h : value_at new other ≡ value_at old other = rw f at g in h)
+    (λ f. let g = loses other in let h : value_at new other ≡ value_at old other = rw f at g in h)
 
 -- and then nothing is found at it
 pub found_lost : {V : Type 0} (radix radix' : Radix) (values : slab.Slab V) (key : List ℕ) → value_at (places_of radix) key ≡ None → Loses (places_of radix) (places_of radix') key
     → (other : List ℕ) → found radix' values other ≡ (cond (same_bytes key other) None (found radix values other))
 found_lost radix radix' values key none loses other = bool_case (same_bytes key other)
-  (λ t. let g = loses other in rw t (found_none radix' values other (rw t at g)))
-  (λ f. rw f (found_same radix radix' values values (lost_same (places_of radix) (places_of radix') key none loses) (λ at. refl) other))
+    (λ t. let g = loses other in rw t (found_none radix' values other (rw t at g)))
+    (λ f. rw f (found_same radix radix' values values (lost_same (places_of radix) (places_of radix') key none loses) (λ at. refl) other))
 
 -- with no key nothing is asked of the values
 pub backed_new : {V : Type 0} (radix : Radix) (values : slab.Slab V) → IsSound (places_of radix) → ((key : List ℕ) → value_at (places_of radix) key ≡ None) → IsBacked radix values

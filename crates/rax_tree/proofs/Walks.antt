@@ -1,10 +1,10 @@
 -- Walks through a radix tree, and how they change with it.
-use Rattle.std.proofs.Common.{◌≡◌, ◌≢◌, ℕ, zero, suc, ◌+◌, ◌-◌, ◌<◌, ◌≤◌, Bool, true, false, ◌==◌, ◌&&◌, cond, List, [], ◌∷◌, length, Option, Some, None, refl, sym, ap, ◌∙◌, arith, inl, inr}
+use Rattle.std.proofs.Common.{◌≡◌, ℕ, zero, suc, ◌-◌, ◌<◌, Bool, true, false, ◌==◌, ◌&&◌, cond, List, [], ◌∷◌, Option, Some, None, refl, ap, ◌∙◌, arith}
 use Rattle.std.specs.Prelude.{slice_index, IsSome}
-use Rattle.std.proofs.lemmas.Bool.{cases_lt, eqb-true}
+use Rattle.std.proofs.lemmas.Bool.{eqb-true}
 use Rattle.rax_tree.specs.declared.radix.Child.{Child}
 use Rattle.rax_tree.specs.declared.radix.Child.TheVariants.{Leaf, Fork}
-use Rattle.rax_tree.specs.Radix.{Shape, Places, same_bytes, followed, followed_if, child_for, walked, Agrees, IsBelow, Leads, IsSoundBut, Passes, arrived, onward}
+use Rattle.rax_tree.specs.Radix.{Shape, Places, same_bytes, followed_if, child_for, walked, Agrees, IsSoundBut, Passes, arrived, onward}
 
 both_true : {P : Type 0} (a b : Bool) → (a && b) ≡ true → (a ≡ true → b ≡ true → P) → P
 both_true true b h k = k refl h
@@ -62,9 +62,9 @@ child_agrees spared places sound levels place shape key value here (Some (Leaf a
 child_agrees spared places sound levels place shape key value here (Some (Fork at)) is found later =
     let fits = sound.leads place shape (slice_index key shape.depth) (Fork at) here is in
     some_case (places (Some at)) fits.0 (λ below e.
-      let under = fits.1 below e in
-      let deep = later at below e found in
-      λ k h. deep k (let d = under.deeper in omega arith) ∙ under.agrees k h)
+    let under = fits.1 below e in
+    let deep = later at below e found in
+    λ k h. deep k (let d = under.deeper in omega arith) ∙ under.agrees k h)
 
 -- what is found agrees with the branch that it is found below
 pub found_agrees : (spared : Option ℕ) (places : Places) → IsSoundBut spared places → (levels : ℕ) (place : Option ℕ) (shape : Shape) (key : List ℕ) (value : ℕ) → places place ≡ Some shape
@@ -74,7 +74,6 @@ found_agrees spared places sound zero place shape key value here found = absurd 
 found_agrees spared places sound (suc levels) place shape key value here found =
     let step : followed_if (λ at. walked levels places (Some at) key) (shape.child (slice_index key shape.depth)) key ≡ Some value = rw here at found in
     child_agrees spared places sound levels place shape key value here (shape.child (slice_index key shape.depth)) refl step (λ at below. found_agrees spared places sound levels (Some at) below key value)
-
 
 -- one step of a walk
 pub walked_step : (levels : ℕ) (places : Places) (place : Option ℕ) (key : List ℕ) (child : Option Child) → 0 < levels → child_for (places place) key ≡ child

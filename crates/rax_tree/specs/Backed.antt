@@ -1,5 +1,5 @@
 -- What a tree of values rests on: the sound radix tree, and a value for each key of it.
-use Rattle.std.specs.Prelude.{◌≡◌, ℕ, List, Option, Some, IsSome}
+use Rattle.std.specs.Prelude.{◌≡◌, ℕ, List, Some, IsSome}
 use Rattle.slab.specs.Slab as slab
 use Rattle.rax_tree.specs.declared.radix.Radix.{Radix}
 use Rattle.rax_tree.specs.Radix.{IsSound, places_of, value_at}

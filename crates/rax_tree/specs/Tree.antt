@@ -1,5 +1,5 @@
 -- The ordered map that a `Tree` is.
-use Rattle.std.specs.Prelude.{◌≡◌, ℕ, List, Option, Some, IsSome, if◌then◌else◌}
+use Rattle.std.specs.Prelude.{◌≡◌, ℕ, List, Option, if◌then◌else◌}
 use Rattle.std.specs.Option.{option_and_then}
 use Rattle.slab.specs.Slab as slab
 use Rattle.rax_tree.specs.declared.tree.Tree.{Tree}

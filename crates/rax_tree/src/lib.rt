@@ -6,6 +6,8 @@
 #![tactic(auto)]
 
 mod radix;
+#[cfg(test)]
+mod tests;
 mod tree;
 
 pub use crate::tree::Tree;

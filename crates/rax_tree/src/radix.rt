@@ -77,13 +77,7 @@ impl Branch {
         ensures { IsNext (shape_of self.now) up from result }
     {
         match from {
-            None => {
-                if up {
-                    self.first()
-                } else {
-                    self.last()
-                }
-            }
+            None => { if up { self.first() } else { self.last() } }
             Some(byte) => {
                 if up {
                     self.after(byte)
@@ -118,7 +112,11 @@ impl Branch {
     fn after(&self, byte: u8) -> Option<Child>
         ensures { IsNext (shape_of self.now) true (Some byte) result }
     {
-        match self.children.range((Bound::Excluded(byte), Bound::Unbounded)).next() {
+        match self
+            .children
+            .range((Bound::Excluded(byte), Bound::Unbounded))
+            .next()
+        {
             None => None,
             Some((_, child)) => Some(*child),
         }
@@ -220,7 +218,12 @@ impl Radix {
     }
 
     // Puts in a key that is missing.
-    pub(crate) fn insert(&mut self, alloc: Global, key: &Key, value: usize) -> Result<(), AllocError>
+    pub(crate) fn insert(
+        &mut self,
+        alloc: Global,
+        key: &Key,
+        value: usize,
+    ) -> Result<(), AllocError>
         requires sound { IsSound (places_of self.old) }
         requires missing { value_at (places_of self.old) key.now ≡ None }
         ensures sound { OnOk result (IsSound (places_of self.new)) }

@@ -1,6 +1,5 @@
-use Rattle.std.proofs.Common.{◌≡◌, ◌∙◌, sym, ap, ◌<◌, arith, Some, None, true, false, refl}
-use Rattle.rax_tree.specs.declared.radix.Child.TheVariants.{Leaf, Fork}
-use Rattle.rax_tree.specs.Radix.{places_of, child_for}
+use Rattle.std.proofs.Common.{◌∙◌, sym, ap, arith, Some, refl}
+use Rattle.rax_tree.specs.Radix.{places_of}
 use Rattle.rax_tree.proofs.Partings.{reach_below, reached_some, parting_here, parting_more, fork_same}
 use Rattle.rax_tree.proofs.radix.Radix.+parting.Goals as goal
 

@@ -1,9 +1,7 @@
-use Rattle.std.proofs.Common.{◌≡◌, ◌∙◌, ◌<◌, arith, ap, sym, Some, None, refl, true, false}
-use Rattle.std.specs.Prelude.{IsSome}
-use Rattle.rax_tree.specs.declared.radix.Child.TheVariants.{Leaf, Fork}
+use Rattle.std.proofs.Common.{◌∙◌, arith, ap, sym, Some, refl}
 use Rattle.rax_tree.specs.Radix.{places_of}
 use Rattle.rax_tree.proofs.Walks.{some_case}
-use Rattle.rax_tree.proofs.Pruned.{pruning_below, pruned_up, pruned_cut, pruned_end, pruned_higher}
+use Rattle.rax_tree.proofs.Pruned.{pruning_below, pruned_up, pruned_cut, pruned_higher}
 use Rattle.rax_tree.proofs.radix.Radix.+prune.Goals as goal
 
 pub prune-requires : goal.prune-requires
@@ -23,7 +21,7 @@ pub cut-requires : goal.cut-requires
 cut-requires t c =
     let is = sym c.in-Some-Fork.ensures ∙ ap Some c.in-Some-Fork.field-0-is in
     some_case (places_of c.args.self.now c.args.place) c.requires.live (λ s here.
-      rw (pruned_higher (places_of c.args.self.now) (places_of c.prune.new.self) c.args.key.now c.args.place c.in-Some-Fork.at c.requires.sound is c.prune.ensures c.args.place s s here here (omega arith)) c.requires.live)
+    rw (pruned_higher (places_of c.args.self.now) (places_of c.prune.new.self) c.args.key.now c.args.place c.in-Some-Fork.at c.requires.sound is c.prune.ensures c.args.place s s here here (omega arith)) c.requires.live)
 
 pub returns : goal.returns
 returns t c =

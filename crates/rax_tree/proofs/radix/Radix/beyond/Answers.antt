@@ -1,6 +1,5 @@
-use Rattle.std.proofs.Common.{◌≡◌, ◌∙◌, ◌<◌, ◌+◌, ◌≤◌, arith, ap, sym, Some, None, refl}
-use Rattle.rax_tree.specs.Radix.{places_of, shape_of, Shape}
-use Rattle.rax_tree.proofs.Partings.{some_same}
+use Rattle.std.proofs.Common.{sym}
+use Rattle.rax_tree.specs.Radix.{places_of, shape_of}
 use Rattle.rax_tree.proofs.Seeks.{levels_some, levels_below, first_beyond, none_beyond, enough_at}
 use Rattle.rax_tree.proofs.radix.Radix.beyond.Goals as goal
 

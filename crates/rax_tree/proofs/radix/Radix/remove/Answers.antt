@@ -1,4 +1,4 @@
-use Rattle.std.proofs.Common.{◌≡◌, ◌∙◌, arith, ap, sym, Some, None, refl}
+use Rattle.std.proofs.Common.{sym}
 use Rattle.rax_tree.specs.Radix.{places_of}
 use Rattle.rax_tree.proofs.Steps.{reach_root}
 use Rattle.rax_tree.proofs.Pruned.{lost_none, lost_cut, pruning_root}

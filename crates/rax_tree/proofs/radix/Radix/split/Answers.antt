@@ -1,10 +1,8 @@
-use Rattle.std.proofs.Common.{◌≡◌, ◌∙◌, ◌<◌, arith, ap, sym, Some, None, refl}
+use Rattle.std.proofs.Common.{◌≡◌, ◌∙◌, arith, ap, sym, Some, None}
 use Rattle.std.specs.Option.{option_map}
-use Rattle.std.specs.Prelude.{slice_index}
-use Rattle.rax_tree.specs.declared.radix.Child.TheVariants.{Leaf, Fork}
-use Rattle.rax_tree.specs.Radix.{shape_of, places_of, Shape, IsSplit}
+use Rattle.rax_tree.specs.Radix.{shape_of, places_of, IsSplit}
 use Rattle.rax_tree.proofs.Steps.{parts_early, apart_of, split_of, put_others, leads_on}
-use Rattle.rax_tree.proofs.Splits.{IsApart, sound_split}
+use Rattle.rax_tree.proofs.Splits.{sound_split}
 use Rattle.rax_tree.proofs.Gained.{gain_split}
 use Rattle.rax_tree.proofs.radix.Radix.split.Goals as goal
 
@@ -19,7 +17,7 @@ pub forked-requires-clause-parted : goal.forked-requires-clause-parted
 forked-requires-clause-parted c =
     c.common-depth.ensures.parted
     (parts_early (places_of c.args.self.now) c.requires.sound c.args.key.now c.args.place c.args.child c.span-limit.result.0 c.span-limit.result.1 c.common-depth.result c.requires.missing c.requires.parting c.requires.child
-      c.span-limit.ensures.span c.told-key c.common-depth.ensures.within c.common-depth.ensures.alike)
+    c.span-limit.ensures.span c.told-key c.common-depth.ensures.within c.common-depth.ensures.alike)
 
 pub redirect-requires : goal.redirect-requires
 redirect-requires c =

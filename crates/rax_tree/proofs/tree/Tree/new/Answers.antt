@@ -1,4 +1,3 @@
-use Rattle.std.proofs.Common.{◌≡◌, ◌∙◌, sym, ap, Some, None, refl}
 use Rattle.rax_tree.specs.Tree.{get}
 use Rattle.rax_tree.proofs.Values.{found_none, backed_new}
 use Rattle.rax_tree.proofs.tree.Tree.new.Goals as goal

@@ -1,4 +1,4 @@
-use Rattle.std.proofs.Common.{true, false}
+use Rattle.std.proofs.Common.{true}
 use Rattle.rax_tree.specs.Radix.{places_of}
 use Rattle.rax_tree.specs.Tree.{get}
 use Rattle.rax_tree.proofs.Found.{finds_found, seek_root}

@@ -1,6 +1,5 @@
-use Rattle.std.proofs.Common.{◌≡◌, ◌∙◌, sym, ap, Some, None, refl}
+use Rattle.std.proofs.Common.{◌∙◌, sym, ap, Some}
 use Rattle.rax_tree.specs.Tree.{get}
-use Rattle.rax_tree.proofs.Walks.{some_case}
 use Rattle.rax_tree.proofs.Values.{found_none, found_some, backed_set, found_set, found, if_else}
 use Rattle.rax_tree.proofs.tree.Tree.set.Goals as goal
 
@@ -24,5 +23,5 @@ returns-in-Some-get_mut-clause-old g c =
 pub returns-in-Some-get_mut-clause-ok : goal.returns-in-Some-get_mut-clause-ok
 unfolding get
 returns-in-Some-get_mut-clause-ok g c = λ other.
-  found_set c.args.self.now.radix c.args.self.now.values c.in-Some.at c.in-Some-get_mut.slot.now c.replace.new.dest c.args.key.now c.args.self.now.backed (sym c.in-Some-get_mut.ensures.value) (sym c.in-Some.ensures) other
-  ∙ ap (λ v. if_else c.args.key.now other (Some v) (found c.args.self.now.radix c.args.self.now.values other)) c.replace.ensures.after
+    found_set c.args.self.now.radix c.args.self.now.values c.in-Some.at c.in-Some-get_mut.slot.now c.replace.new.dest c.args.key.now c.args.self.now.backed (sym c.in-Some-get_mut.ensures.value) (sym c.in-Some.ensures) other
+    ∙ ap (λ v. if_else c.args.key.now other (Some v) (found c.args.self.now.radix c.args.self.now.values other)) c.replace.ensures.after
