@@ -15,7 +15,7 @@ finds_alike : (stands other_stands : List ℕ → Type 0) (up : Bool) (key : Lis
 finds_alike stands other_stands up key None there back finds = λ q s. finds q (back q s)
 finds_alike stands other_stands up key (Some k) there back finds = (there k finds.0, finds.1, λ q s before. finds.2 q (back q s) before)
 
-some_and_then : {V : Type 0} (f : ℕ → Option V) (o : Option ℕ) → IsSome (option_and_then f o) → IsSome o
+pub some_and_then : {V : Type 0} (f : ℕ → Option V) (o : Option ℕ) → IsSome (option_and_then f o) → IsSome o
 some_and_then f None h = h
 some_and_then f (Some x) h = refl
 

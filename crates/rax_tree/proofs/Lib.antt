@@ -9,3 +9,4 @@ pub mod Pruned
 pub mod Values
 pub mod Seeks
 pub mod Found
+pub mod Finite

@@ -3,3 +3,4 @@ pub mod Backed
 pub mod BackedProps
 pub mod Tree
 pub mod Seek
+pub mod Keys

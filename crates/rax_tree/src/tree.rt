@@ -23,6 +23,8 @@ impl<V> Tree<V> {
     ghost use Rattle.std.specs.Option.{option_copied};
     ghost use Rattle.rax_tree.specs.Tree.{get, Updates, IsUnchanged};
     ghost use Rattle.rax_tree.specs.Seek.{Finds};
+    ghost use Rattle.rax_tree.specs.Keys.{keys};
+    ghost use Rattle.std.specs.List.{Contains};
 
     /// The map of no key.
     pub fn new(alloc: Global) -> Tree<V>
@@ -37,7 +39,10 @@ impl<V> Tree<V> {
 
     /// The value at a key.
     pub fn find(&self, key: &[u8; 16]) -> Option<&V>
-        ensures { option_copied result ≡ get self.now key.now }
+        ensures value { option_copied result ≡ get self.now key.now }
+
+        // The map is finite: each key that has a value is one of a list.
+        ensures finite { (other : List ℕ) → IsSome (get self.now other) → Contains (keys self.now) other }
     {
         match self.radix.walk(None, key, 16) {
             None => None,
