@@ -1,0 +1,12 @@
+pub mod Walks
+pub mod Partings
+pub mod Placed
+pub mod Links
+pub mod Splits
+pub mod Gained
+pub mod Steps
+pub mod Pruned
+pub mod Values
+pub mod Seeks
+pub mod Found
+pub mod Finite
