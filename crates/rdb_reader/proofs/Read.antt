@@ -1,18 +1,18 @@
 -- One turn of the loader.
-use Rattle.std.proofs.Common.{◌≡◌, ◌==◌, ℕ, ◌+◌, ◌<◌, ◌≤◌, List, [], ◌∷◌, ◌++◌, Option, Some, None, Result, Err, Bool, true, false, cond, length, take, refl, sym, ap, subst, ◌∙◌, arith}
+use Rattle.std.proofs.Common.{◌≡◌, ◌==◌, ℕ, ◌+◌, ◌≤◌, List, Option, Some, None, Err, Bool, true, false, cond, length, take, refl, sym, ap, subst, ◌∙◌}
 use Rattle.std.specs.Prelude.{is_none, is_some}
 use Rattle.std.specs.FinMap.{get, insert, len, len-insert, len-empty}
 use Rattle.std.specs.Ordering.{nat_cmp}
 use Rattle.std.specs.Cmp.Lexicographic.{slice_cmp, nat_list_cmp_total}
 use Rattle.std.proofs.lemmas.Bool.{eqb-true}
-use Rattle.plain_model.specs.Worlds.{World, Database, Entry, Value, new_world, no_keys, look, put}
+use Rattle.plain_model.specs.Worlds.{World, Database, Entry, Value, no_keys, look}
 use Rattle.rdb_grammar.specs.Format.{Branch, Goes, Refuses, BranchSpells, pick, followed, give}
-use Rattle.rdb_grammar.specs.Items.{Item, Passed, Deadline, Database as Base, End, Key, item, item_behind, database, keyed, key_with}
+use Rattle.rdb_grammar.specs.Items.{Item, Passed, Deadline, Database as Base, End, Key, item, database, keyed}
 use Rattle.rdb_grammar.specs.Values.{value_behind}
 use Rattle.rdb_grammar.specs.declared.fault.LoadKind.{LoadKind}
 use Rattle.rdb_grammar.specs.declared.fault.LoadKind.TheVariants as kinds
 use Rattle.rdb_grammar.specs.Places.{Stands, Fails}
-use Rattle.rdb_grammar.specs.Files.{State, Reached, new_state, header, after, is_fresh, with_key, file_world, sum_field, IsFile, IsFault}
+use Rattle.rdb_grammar.specs.Files.{State, new_state, header, after, is_fresh, with_key, file_world, sum_field, IsFile, IsFault}
 use Rattle.rdb_grammar.proofs.Loading.{begins, goes_on, longer, inside, is_file, item_fault, twice, sum_fault}
 use Rattle.rdb_reader.specs.Held.{world_of}
 use Rattle.rdb_grammar.specs.declared.fault.ItemFault.{ItemFault}

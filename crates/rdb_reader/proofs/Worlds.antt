@@ -2,7 +2,7 @@
 use Rattle.std.proofs.Common.{◌≡◌, ◌==◌, List, ℕ, Bool, true, false, cond, refl, sym, ap, ◌∙◌}
 use Rattle.std.specs.FinMap.{insert}
 use Rattle.std.specs.Prelude.{if◌then◌else◌}
-use Rattle.plain_model.specs.Worlds.{Entry, Database, World, new_world, put, no_keys}
+use Rattle.plain_model.specs.Worlds.{Entry, Database, new_world, put, no_keys}
 use Rattle.rdb_reader.specs.Held.{world_of}
 
 shadowed : {X : Type 0} (b : Bool) (x y z : X) → cond b x (cond b y z) ≡ cond b x z

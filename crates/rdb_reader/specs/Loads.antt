@@ -1,5 +1,5 @@
 -- What loading does: the file's world or its first fault.
-use Rattle.std.specs.Prelude.{◌≡◌, ℕ, ◌+◌, ◌<◌, ◌≤◌, List, length, Option, Some, None, Result, Ok, Err, Bool, true, false}
+use Rattle.std.specs.Prelude.{◌≡◌, ℕ, ◌+◌, ◌<◌, ◌≤◌, List, length, Option, None, Result, Ok, Err, Bool, true, false}
 use Rattle.std.specs.FinMap.{get, insert, len}
 use Rattle.plain_model.specs.Worlds.{Database, Value, no_keys}
 use Rattle.rdb_grammar.specs.declared.fault.LoadKind.{LoadKind}

@@ -1,19 +1,18 @@
 -- Steps at the moment 0, at which nothing is gone, in worlds with one database.
-use Rattle.std.proofs.Common.{◌≡◌, ◌==◌, ℕ, List, [], ◌∷◌, Option, Some, None, Bool, true, false, cond, Result, Ok, Err, IfOk, refl, sym, ap, subst, ◌∙◌, arith, Equal}
+use Rattle.std.proofs.Common.{◌≡◌, ℕ, List, [], ◌∷◌, Option, Some, None, Bool, true, cond, Result, Ok, Err, IfOk, refl, sym, ap, subst, ◌∙◌, arith, Equal}
 use Rattle.std.specs.Prelude.{MatchResult}
-use Rattle.std.specs.FinMap.{get, insert, same_map, get-retain_keys, nat_cmp-IsAntisymmetric, slice_cmp-IsAntisymmetric}
+use Rattle.std.specs.FinMap.{get, same_map, get-retain_keys, nat_cmp-IsAntisymmetric, slice_cmp-IsAntisymmetric}
 use Rattle.std.specs.Ordering.{nat_cmp}
 use Rattle.std.specs.Cmp.Lexicographic.{slice_cmp, nat_list_cmp_total}
 use Rattle.std.proofs.lemmas.Bool.{le-leb}
 use Rattle.plain_model.specs.Words.{Words}
-use Rattle.plain_model.specs.Worlds.{Entry, Database, World, in_time, is_there, live_keys, live, put, no_keys}
+use Rattle.plain_model.specs.Worlds.{Entry, Database, World, in_time, is_there, live_keys, live}
 use Rattle.plain_model.specs.Meant.{meant}
 use Rattle.plain_model.specs.Steps.{may, step}
 use Rattle.plain_model.specs.declared.command.Command.{Command}
 use Rattle.plain_model.specs.declared.refusal.Refusal.{Refusal}
 use Rattle.plain_model.specs.declared.reply.Part.{Part}
 use Rattle.plain_model.specs.declared.reply.Part.TheVariants.{Refused}
-use Rattle.rdb_reader.specs.Held.{world_of}
 
 same_bytes : (x y : List ℕ) → slice_cmp nat_cmp x y ≡ Equal → x ≡ y
 same_bytes = slice_cmp-IsAntisymmetric nat_cmp-IsAntisymmetric

@@ -1,6 +1,5 @@
-use Rattle.std.proofs.Common.{◌≡◌, ap, sym, subst, ◌∙◌, refl}
-use Rattle.rdb_reader.specs.Held.{base_of, plain_entry}
-use Rattle.rdb_reader.specs.Loads.{Reads}
+use Rattle.std.proofs.Common.{refl}
+use Rattle.rdb_reader.specs.Held.{base_of}
 use Rattle.rdb_reader.proofs.Read.{fault_read, lies_inside, key_put, other_read, key_again, file_ends, sum_wrong}
 use Rattle.rdb_reader.proofs.items.read_item.Goals as goal
 

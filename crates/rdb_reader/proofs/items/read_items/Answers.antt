@@ -1,5 +1,4 @@
-use Rattle.std.proofs.Common.{arith, ap, sym, ◌∙◌}
-use Rattle.std.specs.FinMap.{len}
+use Rattle.std.proofs.Common.{arith}
 use Rattle.rdb_reader.specs.Held.{base_of}
 use Rattle.rdb_reader.proofs.Read.{holds_nothing, none_held}
 use Rattle.rdb_reader.proofs.items.read_items.Goals as goal
