@@ -1,4 +1,5 @@
 use Rattle.std.proofs.Common.{◌≡◌, ◌+◌, ◌<◌, length, max, ap, ◌∙◌, arith}
+use Rattle.std.proofs.lemmas.Grind.{common_steps}
 use Rattle.blocks.specs.Blocks.{overwritten, no_step}
 use Rattle.blocks.proofs.Serve.{Served-next}
 use Rattle.string_object.specs.Range.{widened}
@@ -15,7 +16,7 @@ returns-clause-bytes g c =
     let xs = text_bytes (g.B.BlockStore.blocks c.args.store.now) c.args.self.now in
     let piece = c.args.piece.now in
     let len : c.max-new_len.result ≡ max (length xs) (c.args.at + length piece) = c.max-new_len.ensures ∙ ap (λ n. max n (c.args.at + length piece)) c.len-old_len.ensures in
-    let some : 0 < length piece = omega arith in
+    let some : 0 < length piece = grind (arith, common_steps) in
     text_written (g.B.BlockStore.blocks c.widen.new.store) (g.B.BlockStore.blocks c.write.new.self) c.in_ok-block.block c.args.at piece (widened xs c.max-new_len.result) c.widen.new.self
     c.in_ok-block.ensures.raw c.in_ok-block.ensures.bytes c.write.ensures.written
     ∙ ap (λ n. overwritten (widened xs n) c.args.at piece) len
