@@ -12,11 +12,13 @@ fn numbers_are_counted_and_appended_to(rt: HostRuntime) -> Result<(), Fail> {
     let mut text = Text::make(&mut store, b"10")?;
     assert_eq!(rt; text.number(&store), Some(10));
     assert_eq!(rt; text.name(&store), Name::Int);
-    text.set_number(&mut store, -15);
-    assert_eq!(rt; text.append(&mut store, b"x")?, 4);
-    assert_eq!(rt; text.bytes(&store, &mut room), b"-15x".as_slice());
+    assert_eq!(rt; text.append(&mut store, b"x")?, 3);
+    assert_eq!(rt; text.bytes(&store, &mut room), b"10x".as_slice());
     assert_eq!(rt; text.number(&store), None);
     assert_eq!(rt; text.name(&store), Name::Raw);
+    text.set_number(&mut store, -15);
+    assert_eq!(rt; text.number(&store), Some(-15));
+    assert_eq!(rt; text.name(&store), Name::Int);
     text.set_number(&mut store, i64::MIN);
     assert_eq!(rt;
         text.bytes(&store, &mut room),

@@ -153,6 +153,8 @@ impl Text {
         ensures bytes { IfOk result (λ at. B.blocks store.new at ≡ Some (widened (text_bytes (B.blocks store.old) self.old) len)) }
         ensures changes { Changes (B.blocks store.old) (B.blocks store.new) (text_refs self.old) (text_refs self.new) }
         ensures served { Served B.step store.old store.new }
+
+        // Want of memory changes nothing.
         ensures err_text { OnErr result (self.new ≡ self.old) }
         ensures err_blocks { OnErr result (B.blocks store.new ≡ B.blocks store.old) }
         ensures err_slabs { OnErr result (B.heap store.new ≡ B.heap store.old) }
@@ -181,6 +183,8 @@ impl Text {
         ensures raw { OnOk result (is_raw self.new ≡ true) }
         ensures changes { Changes (B.blocks store.old) (B.blocks store.new) (text_refs self.old) (text_refs self.new) }
         ensures served { Served B.step store.old store.new }
+
+        // Want of memory changes nothing.
         ensures err_text { OnErr result (self.new ≡ self.old) }
         ensures err_blocks { OnErr result (B.blocks store.new ≡ B.blocks store.old) }
         ensures err_slabs { OnErr result (B.heap store.new ≡ B.heap store.old) }
@@ -211,8 +215,11 @@ impl Text {
         ensures served { Served B.step store.old store.new }
 
         // An empty piece changes nothing.
+        ensures empty { length piece.now ≡ 0 → result ≡ Ok (length (text_bytes (B.blocks store.old) self.old)) }
         ensures empty_text { length piece.now ≡ 0 → self.new ≡ self.old }
         ensures empty_store { length piece.now ≡ 0 → store.new ≡ store.old }
+
+        // Want of memory changes nothing.
         ensures err_text { OnErr result (self.new ≡ self.old) }
         ensures err_blocks { OnErr result (B.blocks store.new ≡ B.blocks store.old) }
         ensures err_slabs { OnErr result (B.heap store.new ≡ B.heap store.old) }
