@@ -1,10 +1,10 @@
 -- Strings over blocks that change.
 use Rattle.std.proofs.Common.{◌≡◌, ℕ, ◌+◌, ◌≤◌, false, List, [], ◌∷◌, ◌++◌, Option, Some, None, IsSome, unwrap_or, length, take, drop, refl, sym, ap, ◌∙◌, subst, inl, inr, arith}
-use Rattle.std.proofs.lemmas.Bool.{cond-true, cond-false}
+use Rattle.std.proofs.lemmas.Bool.{cond-true}
 use Rattle.blocks.specs.declared.BlockRef.{BlockRef}
-use Rattle.blocks.specs.Blocks.{Blocks, ref_eq, with_block, overwritten, bytes_at, live, times, IsIn, IsOut, Changes, Owned}
-use Rattle.blocks.proofs.Refs.{ref_eq-refl, ref_eq-sym, cases_ref, with_block-same, with_block-other, apart_live}
-use Rattle.blocks.proofs.Change.{one, live-is, live-once, live-None, live_placed, with_block-twice, Counts, Counts-placed, Counts-ended, Counts-written, Counts-changed, Counts-then, Counts-beside, Changes-counted, Changes-owned, Changes-same, Changes-then, Owned-others}
+use Rattle.blocks.specs.Blocks.{Blocks, ref_eq, with_block, overwritten, bytes_at, times, IsIn, Changes, Owned}
+use Rattle.blocks.proofs.Refs.{ref_eq-refl, cases_ref, with_block-same, with_block-other, apart_live}
+use Rattle.blocks.proofs.Change.{one, live-is, live-once, live-None, live_placed, with_block-twice, Counts, Counts-placed, Counts-ended, Counts-written, Counts-changed, Counts-then, Counts-beside, Changes-counted, Changes-owned, Changes-then, Owned-others}
 use Rattle.blocks.proofs.Times.{times-append}
 use Rattle.blocks.proofs.Written.{bytes_at-placed}
 use Rattle.string_object.proofs.Lists.{overwritten_step}

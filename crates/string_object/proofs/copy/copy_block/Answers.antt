@@ -1,4 +1,4 @@
-use Rattle.std.proofs.Common.{◌≡◌, ◌+◌, ◌≤◌, length, take, sym, refl, ap, ◌∙◌, arith, unwrap_or, []}
+use Rattle.std.proofs.Common.{◌≡◌, length, take, sym, refl, ap, ◌∙◌, arith, unwrap_or, []}
 use Rattle.std.proofs.lemmas.Grind.{common_steps}
 use Rattle.blocks.specs.Blocks.{bytes_at, no_step}
 use Rattle.blocks.proofs.Serve.{Served-next}

@@ -1,4 +1,4 @@
-use Rattle.std.proofs.Common.{◌≡◌, ◌-◌, ◌≤◌, Some, length, take}
+use Rattle.std.proofs.Common.{◌≡◌, ◌-◌, ◌≤◌, Some, take}
 use Rattle.blocks.specs.Blocks.{with_block, overwritten, bytes_at, Served}
 use Rattle.string_object.proofs.copy.copy_block.Given as goal
 
