@@ -41,15 +41,6 @@ overwritten_step over from start count inside =
 pub overwritten_zeros : (xs : List ℕ) (len : ℕ) → length xs ≤ len → overwritten (replicate len 0) 0 xs ≡ widened xs len
 overwritten_zeros xs len room = grind (arith, common_steps, drop-replicate {X = ℕ})
 
-pub widened_same : (xs : List ℕ) (len : ℕ) → length xs ≡ len → widened xs len ≡ xs
-widened_same xs len same = grind (arith, common_steps)
-
-pub length-widened : (xs : List ℕ) (len : ℕ) → length xs ≤ len → length (widened xs len) ≡ len
-length-widened xs len room = grind (arith, common_steps)
-
-pub overwritten_tail : (xs tail : List ℕ) → overwritten (widened xs (length xs + length tail)) (length xs) tail ≡ xs ++ tail
-overwritten_tail xs tail = grind (arith, common_steps)
-
 -- what stands before a place, and zeros up to it
 take_widened : (xs : List ℕ) (len n : ℕ) → n ≤ len → length xs ≤ len → take n (widened xs len) ≡ take n xs ++ replicate (n - length xs) 0
 take_widened xs len n within room =
@@ -71,6 +62,3 @@ overwritten_range xs piece start some =
   where
     len : ℕ
     len = max (length xs) (start + length piece)
-
-pub length_ranged : (xs piece : List ℕ) (start : ℕ) → 0 < length piece → length (ranged xs start piece) ≡ max (length xs) (start + length piece)
-length_ranged xs piece start some = grind (arith, common_steps)
