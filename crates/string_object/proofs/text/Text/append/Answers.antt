@@ -1,0 +1,5 @@
+use Rattle.blocks.proofs.Serve.{Served-next}
+use Rattle.string_object.proofs.text.Text.append.Goals as goal
+
+pub returns-clause-served : goal.returns-clause-served
+returns-clause-served g c = Served-next _ _ _ c.widen.ensures.served c.write.ensures.step

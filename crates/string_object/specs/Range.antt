@@ -1,0 +1,11 @@
+-- Writing over a part of a string.
+use Rattle.std.specs.Prelude.{ℕ, ◌+◌, ◌-◌, ◌==◌, List, ◌++◌, length, take, drop, replicate, if◌then◌else◌}
+
+-- The bytes with a piece from a place on: zero bytes fill a gap before it, and what stands behind it
+-- stays. An empty piece changes nothing. (Redis command reference, SETRANGE.)
+abbrev pub ranged : List ℕ → ℕ → List ℕ → List ℕ
+ranged bytes at piece = if length piece == 0 then bytes else take at bytes ++ replicate (at - length bytes) 0 ++ piece ++ drop (at + length piece) bytes
+
+-- the bytes with zero bytes behind them up to a length
+abbrev pub widened : List ℕ → ℕ → List ℕ
+widened bytes len = bytes ++ replicate (len - length bytes) 0

@@ -1,0 +1,25 @@
+-- String values over the blocks of a store.
+use Rattle.std.specs.Prelude.{ℕ, Bool, true, false, List, [], ◌∷◌}
+use Rattle.blocks.specs.declared.BlockRef.{BlockRef}
+use Rattle.blocks.specs.Blocks.{Blocks, bytes_at}
+use Rattle.int_text.specs.Decimal.{canonical}
+use Rattle.string_object.specs.declared.text.Text.{Text}
+use Rattle.string_object.specs.declared.text.Text.TheVariants.{Number, Whole, Raw}
+
+-- the bytes of a string (Redis command reference, data type Strings: a sequence of bytes)
+abbrev pub text_bytes : Blocks → Text → List ℕ
+text_bytes blocks (Number n) = canonical n
+text_bytes blocks (Whole at) = bytes_at blocks at
+text_bytes blocks (Raw at) = bytes_at blocks at
+
+-- the references that it owns
+abbrev pub text_refs : Text → List BlockRef
+text_refs (Number n) = []
+text_refs (Whole at) = at ∷ []
+text_refs (Raw at) = at ∷ []
+
+-- it was made raw by a change of a part
+abbrev pub is_raw : Text → Bool
+is_raw (Number n) = false
+is_raw (Whole at) = false
+is_raw (Raw at) = true

@@ -1,0 +1,11 @@
+//! String values over a block store: a number without a block, or one block of bytes.
+#![tactic(auto)]
+
+mod copy;
+mod laws;
+#[cfg(test)]
+mod tests;
+mod text;
+
+pub use laws::text_laws;
+pub use text::Text;
