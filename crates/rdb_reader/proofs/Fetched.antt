@@ -57,7 +57,7 @@ module _ (files files' : Option (List ℕ → Option (List ℕ))) (same : files'
 
   -- a fault of the taking is one of the fetching
   pub not_fetched : (bytes : List ℕ) (rose rose' : Type 0) → (rose → rose') → (fault : LoadFault) → Fetches left limit bytes rose (Err fault) → FetchesFile files name limit rose' (Err fault)
-  not_fetched bytes rose rose' still (faults.Refused kind at) f = absurd f
+  not_fetched bytes rose rose' still (faults.Refused what at) f = absurd f
   not_fetched bytes rose rose' still faults.Host f = still f
   not_fetched bytes rose rose' still faults.Limit f = long_file files name left limit begun f
   not_fetched bytes rose rose' still faults.Memory f = tt

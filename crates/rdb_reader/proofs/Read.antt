@@ -119,11 +119,11 @@ module _ (bytes : List ℕ) (at : ℕ) (base : Database) (h : Holds bytes at bas
       let same : file_world h.state ≡ world_of base = ap (λ (w : World). record { bases = w.bases; selected = 0 }) h.world in
       subst P same (is_file bytes 0 at h.state next sum last h.reached s k)
 
-  pub sum_wrong : (kind : LoadKind) (place : ℕ) → Stands item End bytes at next → Fails (sum_field (take next bytes)) bytes next kind place → IsFault bytes 0 kind place
-  sum_wrong kind place s f = sum_fault bytes 0 at h.state next kind place h.reached s f
+  pub sum_wrong : (what : LoadKind) (place : ℕ) → Stands item End bytes at next → Fails (sum_field (take next bytes)) bytes next what place → IsFault bytes 0 what place
+  sum_wrong what place s f = sum_fault bytes 0 at h.state next what place h.reached s f
 
-pub item_wrong : (bytes : List ℕ) (at : ℕ) (base : Database) (h : Holds bytes at base) (kind : LoadKind) (place : ℕ) → Fails item bytes at kind place → IsFault bytes 0 kind place
-item_wrong bytes at base h kind place f = item_fault bytes 0 at h.state kind place h.reached f
+pub item_wrong : (bytes : List ℕ) (at : ℕ) (base : Database) (h : Holds bytes at base) (what : LoadKind) (place : ℕ) → Fails item bytes at what place → IsFault bytes 0 what place
+item_wrong bytes at base h what place f = item_fault bytes 0 at h.state what place h.reached f
 
 pub lies_inside : (bytes : List ℕ) (at : ℕ) (base : Database) → Holds bytes at base → at ≤ length bytes
 lies_inside bytes at base h = inside bytes 0 at h.state h.reached
@@ -135,7 +135,7 @@ holds_nothing bytes text next base e s = record { state = new_state; reached = b
 -- what a fault of an item makes of loading
 pub fault_read : (bytes : List ℕ) (at : ℕ) (base new : Database) → Holds bytes at base → (f : ItemFault) → IsItemFault bytes at f → Reads bytes at base new (Err (load_fault f))
 fault_read bytes at base new h faults.Memory i = tt
-fault_read bytes at base new h (faults.Refused kind place) i = item_wrong bytes at base h kind place i
+fault_read bytes at base new h (faults.Refused what place) i = item_wrong bytes at base h what place i
 
 -- no key is held
 pub none_held : (base : Database) → base ≡ no_keys → 0 ≡ len base

@@ -41,7 +41,7 @@ pub record IsLong (left : Option (List ℕ)) (limit : ℕ) : Type 0 where
 -- what `take_all` answers
 abbrev pub Fetches : Option (List ℕ) → ℕ → List ℕ → Type 0 → Result (Unit {0}) LoadFault → Type 0
 Fetches left limit bytes rose (Ok x) = IsAll left bytes × (length bytes ≤ limit)
-Fetches left limit bytes rose (Err (faults.Refused kind at)) = ⊥
+Fetches left limit bytes rose (Err (faults.Refused what at)) = ⊥
 Fetches left limit bytes rose (Err faults.Host) = rose
 Fetches left limit bytes rose (Err faults.Limit) = IsLong left limit
 Fetches left limit bytes rose (Err faults.Memory) = Unit {0}
@@ -55,7 +55,7 @@ pub record IsLongFile (files : Option (List ℕ → Option (List ℕ))) (name : 
 -- what `fetch` answers
 abbrev pub FetchesFile : Option (List ℕ → Option (List ℕ)) → List ℕ → ℕ → Type 0 → Result (Vec ℕ) LoadFault → Type 0
 FetchesFile files name limit rose (Ok v) = IsFileOf files name v.items × (length v.items ≤ limit)
-FetchesFile files name limit rose (Err (faults.Refused kind at)) = ⊥
+FetchesFile files name limit rose (Err (faults.Refused what at)) = ⊥
 FetchesFile files name limit rose (Err faults.Host) = rose
 FetchesFile files name limit rose (Err faults.Limit) = IsLongFile files name limit
 FetchesFile files name limit rose (Err faults.Memory) = Unit {0}

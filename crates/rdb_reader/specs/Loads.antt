@@ -29,7 +29,7 @@ pub record Holds (bytes : List ℕ) (at : ℕ) (base : Database) : Type 0 where
 -- the fault of an item, as one of loading
 abbrev pub load_fault : ItemFault → LoadFault
 load_fault items.Memory = faults.Memory
-load_fault (items.Refused kind place) = faults.Refused kind place
+load_fault (items.Refused what place) = faults.Refused what place
 
 -- an item is read, and the next one begins there
 pub record Advances (bytes : List ℕ) (at next : ℕ) (new : Database) : Type 0 where
@@ -42,7 +42,7 @@ abbrev pub Reads : List ℕ → ℕ → Database → Database → Result Read Lo
 Reads bytes at old new (Ok (read.Key next)) = Advances bytes at next new × (len new ≡ len old + 1)
 Reads bytes at old new (Ok (read.Other next)) = Advances bytes at next new × (new ≡ old)
 Reads bytes at old new (Ok read.End) = IsFile bytes 0 (world_of new) × (new ≡ old)
-Reads bytes at old new (Err (faults.Refused kind place)) = IsFault bytes 0 kind place
+Reads bytes at old new (Err (faults.Refused what place)) = IsFault bytes 0 what place
 Reads bytes at old new (Err faults.Host) = ⊥
 Reads bytes at old new (Err faults.Limit) = ⊥
 Reads bytes at old new (Err faults.Memory) = Unit {0}
@@ -50,7 +50,7 @@ Reads bytes at old new (Err faults.Memory) = Unit {0}
 -- all items are read, and so many keys
 abbrev pub ReadsAll : List ℕ → Database → Result ℕ LoadFault → Type 0
 ReadsAll bytes new (Ok keys) = IsFile bytes 0 (world_of new) × (keys ≡ len new)
-ReadsAll bytes new (Err (faults.Refused kind place)) = IsFault bytes 0 kind place
+ReadsAll bytes new (Err (faults.Refused what place)) = IsFault bytes 0 what place
 ReadsAll bytes new (Err faults.Host) = ⊥
 ReadsAll bytes new (Err faults.Limit) = ⊥
 ReadsAll bytes new (Err faults.Memory) = Unit {0}
@@ -65,16 +65,16 @@ pub record LoadsFile (files : Option (List ℕ → Option (List ℕ))) (name : L
   pub passed : loaded.passed ≡ 0
 
 -- the file has this first fault
-pub record RefusesFile (files : Option (List ℕ → Option (List ℕ))) (name : List ℕ) (limit : ℕ) (kind : LoadKind) (at : ℕ) : Type 0 where
+pub record RefusesFile (files : Option (List ℕ → Option (List ℕ))) (name : List ℕ) (limit : ℕ) (what : LoadKind) (at : ℕ) : Type 0 where
   pub bytes : List ℕ
   pub is : IsFileOf files name bytes
   pub few : length bytes ≤ limit
-  pub fault : IsFault bytes 0 kind at
+  pub fault : IsFault bytes 0 what at
 
 -- what `load` answers
 abbrev pub Loads : Option (List ℕ → Option (List ℕ)) → List ℕ → ℕ → Type 0 → Database → Result Loaded LoadFault → Type 0
 Loads files name limit rose base (Ok loaded) = LoadsFile files name limit base loaded
-Loads files name limit rose base (Err (faults.Refused kind at)) = RefusesFile files name limit kind at × (base ≡ no_keys)
+Loads files name limit rose base (Err (faults.Refused what at)) = RefusesFile files name limit what at × (base ≡ no_keys)
 Loads files name limit rose base (Err faults.Host) = rose × (base ≡ no_keys)
 Loads files name limit rose base (Err faults.Limit) = IsLongFile files name limit × (base ≡ no_keys)
 Loads files name limit rose base (Err faults.Memory) = base ≡ no_keys
