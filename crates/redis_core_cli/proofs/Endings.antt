@@ -9,7 +9,7 @@ use Rattle.resp_frames.specs.Frames.{requests}
 use Rattle.resp_frames.specs.Ends.{End, Whole, Cut, Fault, EndsAs, IsCut, Frames}
 use Rattle.resp_frames.specs.Feeding.{Feeding, SameFed}
 use Rattle.resp_frames.proofs.Streams.{frames_there, requests_first, one_frames, fault_frames}
-use Rattle.redis_core.specs.Held.{world_of}
+use Rattle.rdb_reader.specs.Held.{world_of}
 use Rattle.redis_core_cli.specs.Answering.{Serves, Breaks, IsFaulty}
 use Rattle.redis_core_cli.specs.Serving.{IsFresh, TakesPiece}
 use Rattle.redis_core_cli.specs.Headline.{AnswersAllOf, EndsOpen, at_limit, take_fails, finds_end, EndsBy, answered, write_fault, no_memory, Concludes, Causes, EndsExactly, Completes}

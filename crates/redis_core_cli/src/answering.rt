@@ -4,7 +4,7 @@ ghost use Rattle.std.specs.Prelude.{◌≡◌, ◌≤◌, [], OnErr};
 ghost use Rattle.outside.specs.Counts.{Rose};
 ghost use Rattle.plain_model.specs.Spelling.{spelling};
 ghost use Rattle.resp_frames.specs.Feeding.{SameFed};
-ghost use Rattle.redis_core.specs.Held.{world_of};
+ghost use Rattle.rdb_reader.specs.Held.{world_of};
 ghost use Rattle.redis_core_cli.specs.Answering.{Gathers, PutsLarge, Writes, Relieves, AnswersOne, AnswersAll, Finishes, AllPut};
 
 use crate::pending::{Pending, flush};

@@ -1,5 +1,5 @@
 use Rattle.std.proofs.Common.{arith, refl}
-use Rattle.redis_core.specs.Held.{world_of}
+use Rattle.rdb_reader.specs.Held.{world_of}
 use Rattle.redis_core_cli.proofs.Runs.{rose_after, le_trans}
 use Rattle.redis_core_cli.proofs.Gathering.{gathered_starts, gathered_reply, gathered_relieved, gathered_breaks, gathered_fault, finish_protocol, finish_all, finish_memory, relieved_kept, fed_then, protocol_is, false_is, true_is, gives_lent}
 use Rattle.redis_core_cli.proofs.answering.answer_all.Goals as goal

@@ -1,6 +1,6 @@
 use Rattle.std.proofs.Common.{◌≤◌, length}
 use Rattle.resp_frames.specs.Feeding.{SameFed}
-use Rattle.redis_core.specs.Held.{world_of}
+use Rattle.rdb_reader.specs.Held.{world_of}
 use Rattle.redis_core_cli.proofs.Gathering.{Gathered}
 use Rattle.redis_core_cli.proofs.answering.answer_all.Given as goal
 

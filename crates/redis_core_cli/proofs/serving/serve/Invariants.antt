@@ -1,5 +1,5 @@
 use Rattle.std.proofs.Common.{◌≡◌, [], ◌-◌, ◌≤◌}
-use Rattle.redis_core.specs.Held.{world_of}
+use Rattle.rdb_reader.specs.Held.{world_of}
 use Rattle.redis_core_cli.proofs.Endings.{Serving}
 use Rattle.redis_core_cli.proofs.serving.serve.Given as goal
 
