@@ -1,6 +1,8 @@
 //! The engine: requests in, replies out, over one ordered map.
 #![tactic(auto)]
 
+#[cfg(test)]
+mod tests;
 mod words;
 
 ghost use Rattle.std.specs.Prelude.{◌≡◌, ◌≤◌, ◌^◌, [], IfOk, OnErr, false};
