@@ -35,7 +35,8 @@ impl Pending {
 
     /// Keeps the first n bytes.
     pub fn truncate(&mut self, n: usize)
-        ensures { self.new.bytes.items ≡ take n self.old.bytes.items }
+        ensures bytes { self.new.bytes.items ≡ take n self.old.bytes.items }
+        ensures faults { self.new.faults ≡ self.old.faults }
     {
         self.bytes.truncate(n);
     }
