@@ -1,6 +1,6 @@
 //! The bytes of a file.
 
-ghost use Rattle.std.specs.Prelude.{◌≡◌, ◌≤◌, ◌<◌, ◌+◌, ◌^◌, ℕ, List, length, vec_len};
+ghost use Rattle.std.specs.Prelude.{◌≡◌, ◌≤◌, ◌<◌, ◌+◌, ℕ, List, length, vec_len};
 ghost use Rattle.outside.specs.Counts.{Rose};
 ghost use Rattle.rdb_reader.specs.Fetching.{Takes, Fetches, FetchesFile};
 
@@ -49,13 +49,13 @@ fn take_all<H: Host>(
 ) -> Result<(), LoadFault>
     requires room { length room.old ≡ 65536 }
     requires none { vec_len bytes.old ≡ 0 }
-    requires limit { limit ≤ 2 ^ 62 }
     ensures fetches { Fetches (H.left host.old) limit bytes.new.items (Rose (H.faults host.old) (H.faults host.new)) result }
     ensures same { H.files host.new ≡ H.files host.old }
     ensures counted { H.faults host.old ≤ H.faults host.new }
 {
     'pieces: loop {
-        let most = (limit - bytes.len() + 1).min(PIECE);
+        // one more than is left, so that a file past the limit is seen
+        let most = (limit - bytes.len()).min(PIECE - 1) + 1;
         match take_piece(host, &mut room[..most], bytes) {
             Taken::Piece => {}
             Taken::End => return Ok(()),
@@ -76,7 +76,6 @@ pub fn fetch<H: Host>(
     name: &str,
     limit: u64,
 ) -> Result<Vec<u8>, LoadFault>
-    requires { limit ≤ 2 ^ 62 }
     ensures { FetchesFile (H.files host.old) name.now limit (Rose (H.faults host.old) (H.faults host.new)) result }
 {
     match host.begin(name) {

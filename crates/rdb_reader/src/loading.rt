@@ -1,6 +1,6 @@
 //! Loading a file into a map.
 
-ghost use Rattle.std.specs.Prelude.{◌≡◌, ◌≤◌, ◌^◌};
+ghost use Rattle.std.specs.Prelude.{◌≡◌, ◌≤◌};
 ghost use Rattle.outside.specs.Counts.{Rose};
 ghost use Rattle.plain_model.specs.Worlds.{no_keys};
 ghost use Rattle.rdb_reader.specs.Held.{base_of};
@@ -34,7 +34,6 @@ pub fn load<H: Host>(
     map: &mut BTreeMap<Vec<u8>, Vec<u8>>,
 ) -> Result<Loaded, LoadFault>
     requires empty { base_of map.old.entries ≡ no_keys }
-    requires limit { limit ≤ 2 ^ 62 }
     ensures { Loads (H.files host.old) name.now limit (Rose (H.faults host.old) (H.faults host.new)) (base_of map.new.entries) result }
 {
     let bytes = match fetch(alloc, host, name, limit) {

@@ -1,7 +1,5 @@
 //! Files of strings, loaded from a host in memory. The expected answers are worked out from the format.
 
-ghost use Rattle.std.specs.Prelude.{◌≤◌, ◌^◌};
-
 use crate::{LoadFault, Loaded, load};
 use outside::MemHost;
 use rdb_grammar::LoadKind;
@@ -21,9 +19,7 @@ fn loaded(
     name: &str,
     failing: &[u64],
     limit: u64,
-) -> Result<(Map, Result<Loaded, LoadFault>), AllocError>
-    requires { limit ≤ 2 ^ 62 }
-{
+) -> Result<(Map, Result<Loaded, LoadFault>), AllocError> {
     let names = vec![in alloc; String::from_str(alloc, "f")?]?;
     let files = vec![in alloc; Vec::from_slice(alloc, bytes)?]?;
     let mut host = MemHost::new(names, files, Vec::from_slice(alloc, failing)?);

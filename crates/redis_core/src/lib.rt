@@ -71,7 +71,6 @@ impl Engine {
         limit: u64,
     ) -> Result<Loaded, LoadFault>
         requires empty { self.old ≡ no_keys }
-        requires limit { limit ≤ 2 ^ 62 }
         ensures { Loads (H.files host.old) name.now limit (Rose (H.faults host.old) (H.faults host.new)) self.new result }
     {
         load(self.alloc, host, name, limit, &mut self.values)

@@ -11,9 +11,6 @@ take_all-requires-clause-room g c = c.deref_mut.ensures.len ∙ c.in-Ok-vec.ensu
 pub take_all-requires-clause-none : goal.take_all-requires-clause-none
 take_all-requires-clause-none g c = c.new-bytes.ensures.len
 
-pub take_all-requires-clause-limit : goal.take_all-requires-clause-limit
-take_all-requires-clause-limit g c = c.requires
-
 pub returns-in-Ok-take_all : goal.returns-in-Ok-take_all
 returns-in-Ok-take_all g c =
     let f = c.in-Ok-take_all.ensures.fetches in
