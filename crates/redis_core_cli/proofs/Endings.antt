@@ -4,15 +4,14 @@ use Rattle.std.specs.Prelude.{◌⊎◌, if◌then◌else◌}
 use Rattle.std.specs.Io.KnownBytes.{Consumes, IsAtEnd}
 use Rattle.std.proofs.lemmas.List.{append_assoc, append-nil, append_cancel_right, nil_from_length}
 use Rattle.plain_model.specs.Words.{Words}
-use Rattle.plain_model.specs.Worlds.{World, new_world, no_keys, Database}
+use Rattle.plain_model.specs.Worlds.{World}
 use Rattle.resp_frames.specs.Frames.{requests}
 use Rattle.resp_frames.specs.Ends.{End, Whole, Cut, Fault, EndsAs, IsCut, Frames}
 use Rattle.resp_frames.specs.Feeding.{Feeding, SameFed}
 use Rattle.resp_frames.proofs.Streams.{frames_there, requests_first, one_frames, fault_frames}
-use Rattle.rdb_reader.specs.Held.{world_of}
 use Rattle.redis_core_cli.specs.Answering.{Serves, Breaks, IsFaulty}
 use Rattle.redis_core_cli.specs.Serving.{IsFresh, TakesPiece}
-use Rattle.redis_core_cli.specs.Headline.{AnswersAllOf, EndsOpen, at_limit, take_fails, finds_end, EndsBy, answered, write_fault, no_memory, Concludes, Causes, EndsExactly, Completes}
+use Rattle.redis_core_cli.specs.Served.{AnswersAllOf, EndsOpen, at_limit, take_fails, finds_end, EndsBy, answered, write_fault, no_memory, Served, ServesExactly, ServesWhole}
 use Rattle.redis_core_cli.proofs.Runs.{serves_nothing, serves_then, serves_more, breaks_then}
 
 pub consumes_then : (a b c : Option (List ℕ)) (x y : List ℕ) → Consumes a b x → Consumes b c y → Consumes a c (x ++ y)
@@ -25,56 +24,47 @@ pub consumes_nothing : (a : Option (List ℕ)) → Consumes a a []
 consumes_nothing None = tt
 consumes_nothing (Some xs) = refl
 
--- the world of no keys
-chosen_alike : {A : Type 0} (b : Bool) (x : A) → (if b then x else x) ≡ x
-chosen_alike true x = refl
-chosen_alike false x = refl
-
-pub new_is : (base : Database) → base ≡ no_keys → world_of base ≡ new_world
-new_is base e = ap world_of e ∙ (λ i. record { bases = λ number. chosen_alike (number == 0) no_keys i; selected = 0 })
-
 -- what serving keeps from piece to piece
-pub record Serving (left left' : Option (List ℕ)) (count : ℕ) (feeder : Feeding) (after : World) (written written' : Option (List ℕ)) : Type 0 where
+pub record Serving (first : World) (left left' : Option (List ℕ)) (count : ℕ) (feeder : Feeding) (after : World) (written written' : Option (List ℕ)) : Type 0 where
   pub taken : List ℕ
   pub took : Consumes left left' taken
   pub counted : length taken ≡ count
   pub fed : feeder.gone + length feeder.kept ≡ count
-  pub serves : Serves taken feeder.kept new_world after written written'
+  pub serves : Serves taken feeder.kept first after written written'
 
-pub serving_starts : (l o : Option (List ℕ)) (feeder : Feeding) (base : Database) → IsFresh feeder → base ≡ no_keys → Serving l l 0 feeder (world_of base) o o
-serving_starts l o feeder base fresh e =
-    let S : List ℕ → Type 0 = λ r. Serves [] r new_world new_world o o in
-    let W : World → Type 0 = λ x. Serves [] feeder.kept new_world x o o in
+pub serving_starts : (first : World) (l o : Option (List ℕ)) (feeder : Feeding) → IsFresh feeder → Serving first l l 0 feeder first o o
+serving_starts first l o feeder fresh =
+    let S : List ℕ → Type 0 = λ r. Serves [] r first first o o in
     record {
       taken = [];
       took = consumes_nothing l;
       counted = refl;
       fed = omega (arith, fresh.gone, ap length fresh.kept);
-      serves = subst W (sym (new_is base e)) (subst S (sym fresh.kept) (serves_nothing [] new_world o));
+      serves = subst S (sym fresh.kept) (serves_nothing [] first o);
     }
 
--- ---- the headline of each ending
+-- ---- what is served at each ending
 
 -- the frames of bytes whose requests are all answered
 frames_of : (bytes rest : List ℕ) (w0 w1 : World) (o0 o1 : Option (List ℕ)) (s : Serves bytes rest w0 w1 o0 o1) (end : End) → EndsAs bytes rest end → Frames bytes (requests s.items) end
 frames_of bytes rest w0 w1 o0 o1 s end e = record { items = s.items; rest = rest; framed = s.framed; are = refl; ends = e }
 
-answers_of : (bytes rest : List ℕ) (w : World) (o0 o1 : Option (List ℕ)) (s : Serves bytes rest new_world w o0 o1) → AnswersAllOf (requests s.items) o0 o1
-answers_of bytes rest w o0 o1 s = record { replies = s.replies; may = record { world = w; ran = s.ran }; wrote = s.wrote }
+answers_of : (first : World) (bytes rest : List ℕ) (w : World) (o0 o1 : Option (List ℕ)) (s : Serves bytes rest first w o0 o1) → AnswersAllOf first (requests s.items) o0 o1
+answers_of first bytes rest w o0 o1 s = record { replies = s.replies; may = record { world = w; ran = s.ran }; wrote = s.wrote }
 
-module _ (limit : ℕ) (l l1 : Option (List ℕ)) (o o1 : Option (List ℕ)) (in_rose out_rose : Type 0) (taken : List ℕ) (took : Consumes l l1 taken) where
+module _ (first : World) (limit : ℕ) (l l1 : Option (List ℕ)) (o o1 : Option (List ℕ)) (in_rose out_rose : Type 0) (taken : List ℕ) (took : Consumes l l1 taken) where
   -- all requests are answered
-  concludes : (rest : List ℕ) (w : World) (s : Serves taken rest new_world w o o1) (end : End) → EndsAs taken rest end → (status : ℕ) → EndsBy limit taken end l1 in_rose status → Concludes limit l l1 o o1 in_rose out_rose status
+  concludes : (rest : List ℕ) (w : World) (s : Serves taken rest first w o o1) (end : End) → EndsAs taken rest end → (status : ℕ) → EndsBy limit taken end l1 in_rose status → Served first limit l l1 o o1 in_rose out_rose status
   concludes rest w s end e status by = record {
     taken = taken;
     took = took;
     asked = requests s.items;
     end = end;
-    frames = frames_of taken rest new_world w o o1 s end e;
-    ending = answered (answers_of taken rest w o o1 s) by;
+    frames = frames_of taken rest first w o o1 s end e;
+    ends = answered (answers_of first taken rest w o o1 s) by;
   }
 
-  concludes_memory : (rest : List ℕ) (w : World) → Serves taken rest new_world w o o1 → Concludes limit l l1 o o1 in_rose out_rose 8
+  concludes_memory : (rest : List ℕ) (w : World) → Serves taken rest first w o o1 → Served first limit l l1 o o1 in_rose out_rose 8
   concludes_memory rest w s =
       let f = frames_there taken in
       let r = requests_first taken s.items rest f.0 f.1 s.framed f.2 in
@@ -84,10 +74,10 @@ module _ (limit : ℕ) (l l1 : Option (List ℕ)) (o o1 : Option (List ℕ)) (in
         asked = f.0;
         end = f.1;
         frames = f.2;
-        ending = no_memory (record { first = requests s.items; others = r.0; split = r.1; answers = answers_of taken rest w o o1 s }) refl;
+        ends = no_memory (record { some = requests s.items; others = r.0; split = r.1; answers = answers_of first taken rest w o o1 s }) refl;
       }
 
-  concludes_fault : Breaks taken new_world o o1 → out_rose → Concludes limit l l1 o o1 in_rose out_rose 5
+  concludes_fault : Breaks taken first o o1 → out_rose → Served first limit l l1 o o1 in_rose out_rose 5
   concludes_fault s rose =
       let f = frames_there taken in
       let r = requests_first taken s.items s.rest f.0 f.1 s.framed f.2 in
@@ -97,28 +87,28 @@ module _ (limit : ℕ) (l l1 : Option (List ℕ)) (o o1 : Option (List ℕ)) (in
         asked = f.0;
         end = f.1;
         frames = f.2;
-        ending = write_fault (record { first = requests s.items; others = r.0; split = r.1; replies = s.replies; may = record { world = s.after; ran = s.ran }; wrote = s.wrote }) refl rose;
+        ends = write_fault (record { some = requests s.items; others = r.0; split = r.1; replies = s.replies; may = record { world = s.after; ran = s.ran }; wrote = s.wrote }) refl rose;
       }
 
-module _ (limit : ℕ) (l l1 l2 o o0 o1 : Option (List ℕ)) (in_rose out_rose : Type 0) (n : ℕ) (old new : Feeding) (w0 w1 : World) (s : Serving l l1 n old w0 o o0) (f : Serves old.kept new.kept w0 w1 o0 o1) where
+module _ (first : World) (limit : ℕ) (l l1 l2 o o0 o1 : Option (List ℕ)) (in_rose out_rose : Type 0) (n : ℕ) (old new : Feeding) (w0 w1 : World) (s : Serving first l l1 n old w0 o o0) (f : Serves old.kept new.kept w0 w1 o0 o1) where
   -- the requests that are whole are answered
-  all_served : Serves s.taken new.kept new_world w1 o o1
-  all_served = serves_then s.taken old.kept new_world w0 o o0 s.serves new.kept w1 o1 f
+  all_served : Serves s.taken new.kept first w1 o o1
+  all_served = serves_then s.taken old.kept first w0 o o0 s.serves new.kept w1 o1 f
 
   fed_as : SameFed old new → new.gone + length new.kept ≡ length s.taken
   fed_as e = e ∙ s.fed ∙ sym s.counted
 
-  pub ends_protocol : IsFaulty new → SameFed old new → Concludes limit l l1 o o1 in_rose out_rose 2
-  ends_protocol e fed = concludes limit l l1 o o1 in_rose out_rose s.taken s.took new.kept w1 all_served (Fault e.0 e.1) (e.2, e.3, e.4 ∙ fed_as fed) 2 refl
+  pub ends_protocol : IsFaulty new → SameFed old new → Served first limit l l1 o o1 in_rose out_rose 2
+  ends_protocol e fed = concludes first limit l l1 o o1 in_rose out_rose s.taken s.took new.kept w1 all_served (Fault e.0 e.1) (e.2, e.3, e.4 ∙ fed_as fed) 2 refl
 
   -- what is left is nothing, or cut
-  ends_open : (l' : Option (List ℕ)) (took : Consumes l l' s.taken) → (new.kept ≡ []) ⊎ IsCut new.kept → (status : ℕ) → ((at_end : ℕ) → EndsOpen limit s.taken l' in_rose at_end status) → Concludes limit l l' o o1 in_rose out_rose status
+  ends_open : (l' : Option (List ℕ)) (took : Consumes l l' s.taken) → (new.kept ≡ []) ⊎ IsCut new.kept → (status : ℕ) → ((at_end : ℕ) → EndsOpen limit s.taken l' in_rose at_end status) → Served first limit l l' o o1 in_rose out_rose status
   ends_open l' took e status by = elim e [
-    | inl none ↦ concludes limit l l' o o1 in_rose out_rose s.taken took new.kept w1 all_served Whole none status (by 0)
-    | inr cut ↦ concludes limit l l' o o1 in_rose out_rose s.taken took new.kept w1 all_served Cut cut status (by 3)
+    | inl none ↦ concludes first limit l l' o o1 in_rose out_rose s.taken took new.kept w1 all_served Whole none status (by 0)
+    | inr cut ↦ concludes first limit l l' o o1 in_rose out_rose s.taken took new.kept w1 all_served Cut cut status (by 3)
   ]
 
-  pub ends_limit : n ≡ limit → (new.kept ≡ []) ⊎ IsCut new.kept → Concludes limit l l1 o o1 in_rose out_rose 9
+  pub ends_limit : n ≡ limit → (new.kept ≡ []) ⊎ IsCut new.kept → Served first limit l l1 o o1 in_rose out_rose 9
   ends_limit is e = ends_open l1 s.took e 9 (λ at_end. at_limit (s.counted ∙ is) refl)
 
   took_none : Consumes l1 l2 [] → Consumes l l2 s.taken
@@ -127,47 +117,47 @@ module _ (limit : ℕ) (l l1 l2 o o0 o1 : Option (List ℕ)) (in_rose out_rose :
   below : (n ≡ limit → ⊥) → length s.taken ≡ limit → ⊥
   below not is = not (sym s.counted ∙ is)
 
-  pub ends_read_fault : (n ≡ limit → ⊥) → (new.kept ≡ []) ⊎ IsCut new.kept → Consumes l1 l2 [] → in_rose → Concludes limit l l2 o o1 in_rose out_rose 4
+  pub ends_read_fault : (n ≡ limit → ⊥) → (new.kept ≡ []) ⊎ IsCut new.kept → Consumes l1 l2 [] → in_rose → Served first limit l l2 o o1 in_rose out_rose 4
   ends_read_fault not e k rose = ends_open l2 (took_none k) e 4 (λ at_end. take_fails (below not) rose refl)
 
-  pub ends_whole : (n ≡ limit → ⊥) → Consumes l1 l2 [] → IsAtEnd l2 → length new.kept ≡ 0 → Concludes limit l l2 o o1 in_rose out_rose 0
-  ends_whole not k end none = concludes limit l l2 o o1 in_rose out_rose s.taken (took_none k) new.kept w1 all_served Whole (nil_from_length new.kept none) 0 (finds_end (below not) end refl)
+  pub ends_whole : (n ≡ limit → ⊥) → Consumes l1 l2 [] → IsAtEnd l2 → length new.kept ≡ 0 → Served first limit l l2 o o1 in_rose out_rose 0
+  ends_whole not k end none = concludes first limit l l2 o o1 in_rose out_rose s.taken (took_none k) new.kept w1 all_served Whole (nil_from_length new.kept none) 0 (finds_end (below not) end refl)
 
   is_cut : (new.kept ≡ []) ⊎ IsCut new.kept → (length new.kept ≡ 0 → ⊥) → IsCut new.kept
   is_cut e some = elim e [ inl none ↦ absurd (some (ap length none)) | inr begun ↦ begun ]
 
-  pub ends_cut : (n ≡ limit → ⊥) → (new.kept ≡ []) ⊎ IsCut new.kept → Consumes l1 l2 [] → IsAtEnd l2 → (length new.kept ≡ 0 → ⊥) → Concludes limit l l2 o o1 in_rose out_rose 3
-  ends_cut not e k end some = concludes limit l l2 o o1 in_rose out_rose s.taken (took_none k) new.kept w1 all_served Cut (is_cut e some) 3 (finds_end (below not) end refl)
+  pub ends_cut : (n ≡ limit → ⊥) → (new.kept ≡ []) ⊎ IsCut new.kept → Consumes l1 l2 [] → IsAtEnd l2 → (length new.kept ≡ 0 → ⊥) → Served first limit l l2 o o1 in_rose out_rose 3
+  ends_cut not e k end some = concludes first limit l l2 o o1 in_rose out_rose s.taken (took_none k) new.kept w1 all_served Cut (is_cut e some) 3 (finds_end (below not) end refl)
 
   -- want of memory, when a piece was taken
-  pub ends_taken : (piece : List ℕ) → Consumes l1 l2 piece → Concludes limit l l2 o o1 in_rose out_rose 8
+  pub ends_taken : (piece : List ℕ) → Consumes l1 l2 piece → Served first limit l l2 o o1 in_rose out_rose 8
   ends_taken piece k =
-      concludes_memory limit l l2 o o1 in_rose out_rose (s.taken ++ piece) (consumes_then l l1 l2 s.taken piece s.took k) (new.kept ++ piece) w1 (serves_more s.taken new.kept new_world w1 o o1 all_served piece)
+      concludes_memory first limit l l2 o o1 in_rose out_rose (s.taken ++ piece) (consumes_then l l1 l2 s.taken piece s.took k) (new.kept ++ piece) w1 (serves_more s.taken new.kept first w1 o o1 all_served piece)
 
   -- a piece was taken and fed
-  pub serving_on : SameFed old new → (most count : ℕ) (fed : Feeding) → TakesPiece l1 l2 most count new fed → Serving l l2 (n + count) fed w1 o o1
+  pub serving_on : SameFed old new → (most count : ℕ) (fed : Feeding) → TakesPiece l1 l2 most count new fed → Serving first l l2 (n + count) fed w1 o o1
   serving_on same most count fed t =
-      let P : List ℕ → Type 0 = λ r. Serves (s.taken ++ t.piece) r new_world w1 o o1 in
+      let P : List ℕ → Type 0 = λ r. Serves (s.taken ++ t.piece) r first w1 o o1 in
       record {
         taken = s.taken ++ t.piece;
         took = consumes_then l l1 l2 s.taken t.piece s.took t.took;
         counted = length-append s.taken t.piece ∙ ap (λ x. x + length t.piece) s.counted ∙ ap (λ x. n + x) t.long;
         fed = let a : new.gone + length new.kept ≡ n = same ∙ s.fed in omega (arith, t.gone, ap length t.kept, length-append new.kept t.piece, t.long);
-        serves = subst P (sym t.kept) (serves_more s.taken new.kept new_world w1 o o1 all_served t.piece);
+        serves = subst P (sym t.kept) (serves_more s.taken new.kept first w1 o o1 all_served t.piece);
       }
 
-module _ (limit : ℕ) (l l1 o o0 o1 : Option (List ℕ)) (in_rose out_rose : Type 0) (n : ℕ) (old : Feeding) (w0 : World) (s : Serving l l1 n old w0 o o0) where
-  pub ends_fault : Breaks old.kept w0 o0 o1 → out_rose → Concludes limit l l1 o o1 in_rose out_rose 5
-  ends_fault f rose = concludes_fault limit l l1 o o1 in_rose out_rose s.taken s.took (breaks_then s.taken old.kept new_world w0 o o0 s.serves o1 f) rose
+module _ (first : World) (limit : ℕ) (l l1 o o0 o1 : Option (List ℕ)) (in_rose out_rose : Type 0) (n : ℕ) (old : Feeding) (w0 : World) (s : Serving first l l1 n old w0 o o0) where
+  pub ends_fault : Breaks old.kept w0 o0 o1 → out_rose → Served first limit l l1 o o1 in_rose out_rose 5
+  ends_fault f rose = concludes_fault first limit l l1 o o1 in_rose out_rose s.taken s.took (breaks_then s.taken old.kept first w0 o o0 s.serves o1 f) rose
 
-  pub ends_memory : (rest : List ℕ) (w : World) → Serves old.kept rest w0 w o0 o1 → Concludes limit l l1 o o1 in_rose out_rose 8
-  ends_memory rest w f = concludes_memory limit l l1 o o1 in_rose out_rose s.taken s.took rest w (serves_then s.taken old.kept new_world w0 o o0 s.serves rest w o1 f)
+  pub ends_memory : (rest : List ℕ) (w : World) → Serves old.kept rest w0 w o0 o1 → Served first limit l l1 o o1 in_rose out_rose 8
+  ends_memory rest w f = concludes_memory first limit l l1 o o1 in_rose out_rose s.taken s.took rest w (serves_then s.taken old.kept first w0 o o0 s.serves rest w o1 f)
 
 -- want of memory before anything is taken
-pub ends_at_once : (limit : ℕ) (l o : Option (List ℕ)) (in_rose out_rose : Type 0) → Concludes limit l l o o in_rose out_rose 8
-ends_at_once limit l o in_rose out_rose = concludes_memory limit l l o o in_rose out_rose [] (consumes_nothing l) [] new_world (serves_nothing [] new_world o)
+pub ends_at_once : (first : World) (limit : ℕ) (l o : Option (List ℕ)) (in_rose out_rose : Type 0) → Served first limit l l o o in_rose out_rose 8
+ends_at_once first limit l o in_rose out_rose = concludes_memory first limit l l o o in_rose out_rose [] (consumes_nothing l) [] first (serves_nothing [] first o)
 
--- ---- what the headline says of the status
+-- ---- what is said of the status
 
 open_causes : (limit : ℕ) (taken : List ℕ) (left : Option (List ℕ)) (in_rose : Type 0) (at_end status : ℕ) → EndsOpen limit taken left in_rose at_end status → (at_end ≡ 4 → ⊥) → status ≡ 4 → in_rose
 open_causes limit taken left in_rose at_end status (at_limit e is) not h = absurd (omega (arith, is, h))
@@ -189,19 +179,41 @@ by_no_write limit taken Whole left in_rose status e h = open_no_write limit take
 by_no_write limit taken Cut left in_rose status e h = open_no_write limit taken left in_rose 3 status e (λ k. omega arith) h
 by_no_write limit taken (Fault rule at) left in_rose status e h = omega (arith, e, h)
 
-pub has_causes : (limit : ℕ) (l l1 o o1 : Option (List ℕ)) (in_rose out_rose : Type 0) (status : ℕ) → Concludes limit l l1 o o1 in_rose out_rose status → Causes in_rose out_rose status
-has_causes limit l l1 o o1 in_rose out_rose status c = record {
-  read = λ h. elim c.ending [
+module _ (first : World) (limit : ℕ) (l l1 o o1 : Option (List ℕ)) (in_rose out_rose : Type 0) (status : ℕ) (c : Served first limit l l1 o o1 in_rose out_rose status) where
+  pub read_cause : status ≡ 4 → in_rose
+  read_cause h = elim c.ends [
     | answered a by ↦ by_causes limit c.taken c.end l1 in_rose status by h
     | write_fault a is rose ↦ absurd (omega (arith, is, h))
     | no_memory a is ↦ absurd (omega (arith, is, h))
-  ];
-  write = λ h. elim c.ending [
+  ]
+
+  pub write_cause : status ≡ 5 → out_rose
+  write_cause h = elim c.ends [
     | answered a by ↦ absurd (by_no_write limit c.taken c.end l1 in_rose status by h)
     | write_fault a is rose ↦ rose
     | no_memory a is ↦ absurd (omega (arith, is, h))
-  ];
-}
+  ]
+
+-- a status that serving has
+abbrev pub is_served : ℕ → Bool
+is_served status = if status == 1 then false else (if status == 6 then false else (if status == 7 then false else true))
+
+open_served : (limit : ℕ) (taken : List ℕ) (left : Option (List ℕ)) (in_rose : Type 0) (at_end status : ℕ) → EndsOpen limit taken left in_rose at_end status → is_served at_end ≡ true → is_served status ≡ true
+open_served limit taken left in_rose at_end status (at_limit e is) h = ap is_served is
+open_served limit taken left in_rose at_end status (take_fails e rose is) h = ap is_served is
+open_served limit taken left in_rose at_end status (finds_end e end is) h = ap is_served is ∙ h
+
+by_served : (limit : ℕ) (taken : List ℕ) (end : End) (left : Option (List ℕ)) (in_rose : Type 0) (status : ℕ) → EndsBy limit taken end left in_rose status → is_served status ≡ true
+by_served limit taken Whole left in_rose status e = open_served limit taken left in_rose 0 status e refl
+by_served limit taken Cut left in_rose status e = open_served limit taken left in_rose 3 status e refl
+by_served limit taken (Fault rule at) left in_rose status e = ap is_served e
+
+pub served_status : (first : World) (limit : ℕ) (l l1 o o1 : Option (List ℕ)) (in_rose out_rose : Type 0) (status : ℕ) → Served first limit l l1 o o1 in_rose out_rose status → is_served status ≡ true
+served_status first limit l l1 o o1 in_rose out_rose status c = elim c.ends [
+  | answered a by ↦ by_served limit c.taken c.end l1 in_rose status by
+  | write_fault a is rose ↦ ap is_served is
+  | no_memory a is ↦ ap is_served is
+]
 
 -- the bytes taken, where the input tells them
 same_taken : (l l1 : Option (List ℕ)) (bytes rest taken taken' : List ℕ) → l ≡ Some bytes → l1 ≡ Some rest → Consumes l l1 taken → bytes ≡ taken' ++ rest → taken ≡ taken'
@@ -212,12 +224,12 @@ same_taken (Some xs) (Some ys) bytes rest taken taken' e f k h =
     let b : ys ≡ rest = cc in
     append_cancel_right taken taken' rest (ap (λ l. taken ++ l) (sym b) ∙ sym k ∙ a ∙ h)
 
-pub ends_exactly : (limit : ℕ) (l l1 o o1 : Option (List ℕ)) (in_rose out_rose : Type 0) (status : ℕ) → Concludes limit l l1 o o1 in_rose out_rose status → EndsExactly limit l l1 in_rose out_rose status
-ends_exactly limit l l1 o o1 in_rose out_rose status c bytes rest taken asked end e f whole frames =
+pub ends_exactly : (first : World) (limit : ℕ) (l l1 o o1 : Option (List ℕ)) (in_rose out_rose : Type 0) (status : ℕ) → Served first limit l l1 o o1 in_rose out_rose status → ServesExactly limit l l1 in_rose out_rose status
+ends_exactly first limit l l1 o o1 in_rose out_rose status c bytes rest taken asked end e f whole frames =
     let same : c.taken ≡ taken = same_taken l l1 bytes rest c.taken taken e f c.took whole in
     let F : List ℕ → Type 0 = λ t. Frames t c.asked c.end in
     let one = one_frames taken c.asked asked c.end end (subst F same c.frames) frames in
-    elim c.ending [
+    elim c.ends [
       | answered a by ↦
           let P : List ℕ → Type 0 = λ t. EndsBy limit t c.end l1 in_rose status in
           let Q : End → Type 0 = λ x. EndsBy limit taken x l1 in_rose status in
@@ -268,10 +280,10 @@ module _ (limit : ℕ) (l1 : Option (List ℕ)) (in_rose out_rose : Type 0) (byt
       let P : List ℕ → Type 0 = λ t. Frames t asked' (Fault rule at) in
       absurd (whole_not_fault bytes asked asked' rule at frames (subst P (sym left.whole) (fault_frames taken left.rest asked' rule at f)))
 
-pub completes : (limit : ℕ) (l l1 o o1 : Option (List ℕ)) (in_rose out_rose : Type 0) (status : ℕ) → Concludes limit l l1 o o1 in_rose out_rose status → Completes limit l l1 in_rose out_rose status
-completes limit l l1 o o1 in_rose out_rose status c bytes asked e frames few no_read no_write =
+pub completes : (first : World) (limit : ℕ) (l l1 o o1 : Option (List ℕ)) (in_rose out_rose : Type 0) (status : ℕ) → Served first limit l l1 o o1 in_rose out_rose status → ServesWhole limit l l1 in_rose out_rose status
+completes first limit l l1 o o1 in_rose out_rose status c bytes asked e frames few no_read no_write =
     let left = left_of l l1 bytes c.taken e c.took in
-    elim c.ending [
+    elim c.ends [
       | answered a by ↦ by_completes limit l1 in_rose out_rose bytes c.taken asked c.asked left frames few no_read c.end status c.frames by
       | write_fault a is rose ↦ absurd (no_write rose)
       | no_memory a is ↦ inr is
@@ -296,15 +308,3 @@ fits_w64 n limit h small = omega arith
 
 pub falls : (limit taken k : ℕ) → taken + k ≤ limit → 0 < k → limit - (taken + k) < limit - taken
 falls limit taken k h some = omega arith
-
--- the same of a status that is equal
-
-module _ (limit : ℕ) (l l1 o o1 : Option (List ℕ)) (in_rose out_rose : Type 0) (status status' : ℕ) (e : status' ≡ status) (c : Concludes limit l l1 o o1 in_rose out_rose status) where
-  concludes_as : Concludes limit l l1 o o1 in_rose out_rose status'
-  concludes_as = let P : ℕ → Type 0 = λ s. Concludes limit l l1 o o1 in_rose out_rose s in subst P (sym e) c
-
-  pub exactly_as : EndsExactly limit l l1 in_rose out_rose status'
-  exactly_as = ends_exactly limit l l1 o o1 in_rose out_rose status' concludes_as
-
-  pub completes_as : Completes limit l l1 in_rose out_rose status'
-  completes_as = completes limit l l1 o o1 in_rose out_rose status' concludes_as

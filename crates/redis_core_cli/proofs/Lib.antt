@@ -1,3 +1,6 @@
 pub mod Runs
 pub mod Gathering
 pub mod Endings
+pub mod Lines
+pub mod Starts
+pub mod Whole

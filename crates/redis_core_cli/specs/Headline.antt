@@ -1,82 +1,69 @@
--- What the top call answers: from bytes in to bytes out.
-use Rattle.std.specs.Prelude.{◌≡◌, ◌≢◌, ℕ, ◌<◌, List, ◌⊎◌, ◌++◌, length, Option, Some}
-use Rattle.std.specs.Io.KnownBytes.{Appends, Consumes, IsAtEnd}
-use Rattle.plain_model.specs.Words.{Words}
-use Rattle.plain_model.specs.Worlds.{World, new_world}
-use Rattle.plain_model.specs.Runs.{run, at_moment}
-use Rattle.plain_model.specs.Spelling.{spelled}
-use Rattle.plain_model.specs.declared.reply.Part.{Part}
-use Rattle.resp_frames.specs.Ends.{End, Whole, Cut, Fault, Frames}
-use Rattle.resp_frames.specs.Puts.{PutsFront}
+-- What the top call answers: from words, a file and bytes in to bytes out, a status and a line.
+use Rattle.std.specs.Prelude.{◌≡◌, ℕ, ◌≤◌, ◌<◌, List, ◌⊎◌, length, Option, Some, None, IsSome}
+use Rattle.plain_model.specs.Worlds.{World}
+use Rattle.rdb_grammar.specs.Files.{IsFault}
+use Rattle.rdb_grammar.specs.declared.fault.LoadKind.{LoadKind}
+use Rattle.rdb_reader.specs.Loads.{RefusesFile}
+use Rattle.redis_core_cli.specs.Served.{Served, ServesExactly, ServesWhole}
+use Rattle.redis_core_cli.specs.Notes.{Notes, refused_line, line_of}
+use Rattle.redis_core_cli.specs.Starting.{Usage, Fresh, Loading, Wrong, Files, Begins, NotBegun}
+use Rattle.redis_core_cli.specs.Statuses.{status_of}
+use Rattle.redis_core_cli.specs.declared.ending.Ending.{Ending}
 
--- from a world without a key, all at moment 0, the requests may be answered by these replies
-pub record Replies (asked : List Words) (replies : List (List Part)) : Type 0 where
-  pub world : World
-  pub ran : run 0 new_world (at_moment 0 asked) replies world
+-- a run: it begins, and is served from the world that it begins with; or nothing is taken and nothing written
+pub data Runs (usage : Usage) (files : Files) (limit : ℕ) (left left' written written' : Option (List ℕ)) (host_rose in_rose out_rose : Type 0) (ending : Ending) : Type 0 where
+  begun : (first : World) → Begins files limit usage first → Served first limit left left' written written' in_rose out_rose (status_of ending) → Runs usage files limit left left' written written' host_rose in_rose out_rose ending
+  not_begun : NotBegun files limit host_rose usage ending → left' ≡ left → written' ≡ written → Runs usage files limit left left' written written' host_rose in_rose out_rose ending
 
--- the replies to the requests are written: replies that a plain map may give to them, in order
-pub record AnswersAllOf (asked : List Words) (written written' : Option (List ℕ)) : Type 0 where
-  pub replies : List (List Part)
-  pub may : Replies asked replies
-  pub wrote : Appends written written' (spelled replies)
+-- a run, with its line in the notes
+pub record Finishes (usage : Usage) (files : Files) (limit : ℕ) (left left' written written' noted noted' : Option (List ℕ)) (host_rose in_rose out_rose note_rose : Type 0) (ending : Ending) : Type 0 where
+  pub run : Runs usage files limit left left' written written' host_rose in_rose out_rose ending
+  pub line : Notes noted noted' note_rose (line_of ending)
 
--- the replies to the first of the requests are written
-pub record AnswersFirst (asked : List Words) (written written' : Option (List ℕ)) : Type 0 where
-  pub first : List Words
-  pub others : List Words
-  pub split : asked ≡ first ++ others
-  pub answers : AnswersAllOf first written written'
+-- the headline: the same, where the status alone is answered
+pub record Concludes (usage : Usage) (files : Files) (limit : ℕ) (left left' written written' noted noted' : Option (List ℕ)) (host_rose in_rose out_rose note_rose : Type 0) (status : ℕ) : Type 0 where
+  pub ending : Ending
+  pub is : status ≡ status_of ending
+  pub finishes : Finishes usage files limit left left' written written' noted noted' host_rose in_rose out_rose note_rose ending
 
--- a front of the bytes of replies to the first of the requests is written
-pub record AnswersPart (asked : List Words) (written written' : Option (List ℕ)) : Type 0 where
-  pub first : List Words
-  pub others : List Words
-  pub split : asked ≡ first ++ others
-  pub replies : List (List Part)
-  pub may : Replies first replies
-  pub wrote : PutsFront written written' (spelled replies)
-
--- what ends a run where no rule is broken, in this order: the limit's number of bytes was taken, 9; a take fails, 4;
--- a take finds the end of the input, which has a status of its own
-pub data EndsOpen (limit : ℕ) (taken : List ℕ) (left : Option (List ℕ)) (in_rose : Type 0) (at_end status : ℕ) : Type 0 where
-  at_limit : length taken ≡ limit → status ≡ 9 → EndsOpen limit taken left in_rose at_end status
-  take_fails : length taken ≢ limit → in_rose → status ≡ 4 → EndsOpen limit taken left in_rose at_end status
-  finds_end : length taken ≢ limit → IsAtEnd left → status ≡ at_end → EndsOpen limit taken left in_rose at_end status
-
--- what ends a run in which all requests taken are answered: first of all a broken rule, 2;
--- the end of the input after a whole request is 0, and inside one 3
-abbrev pub EndsBy : ℕ → List ℕ → End → Option (List ℕ) → Type 0 → ℕ → Type 0
-EndsBy limit taken (Fault rule at) left in_rose status = status ≡ 2
-EndsBy limit taken Whole left in_rose status = EndsOpen limit taken left in_rose 0 status
-EndsBy limit taken Cut left in_rose status = EndsOpen limit taken left in_rose 3 status
-
--- a run and its status
-pub data Ending (limit : ℕ) (taken : List ℕ) (asked : List Words) (end : End) (left written written' : Option (List ℕ)) (in_rose out_rose : Type 0) (status : ℕ) : Type 0 where
-  answered : AnswersAllOf asked written written' → EndsBy limit taken end left in_rose status → Ending limit taken asked end left written written' in_rose out_rose status
-  write_fault : AnswersPart asked written written' → status ≡ 5 → out_rose → Ending limit taken asked end left written written' in_rose out_rose status
-  no_memory : AnswersFirst asked written written' → status ≡ 8 → Ending limit taken asked end left written written' in_rose out_rose status
-
--- the headline: the bytes answered are the spelling of replies that a plain map may give to the requests framed in the bytes taken
-pub record Concludes (limit : ℕ) (left left' written written' : Option (List ℕ)) (in_rose out_rose : Type 0) (status : ℕ) : Type 0 where
-  pub taken : List ℕ
-  pub took : Consumes left left' taken
-  pub asked : List Words
-  pub end : End
-  pub frames : Frames taken asked end
-  pub ending : Ending limit taken asked end left' written written' in_rose out_rose status
-
--- a fault of the input or the output has its count
-pub record Causes (in_rose out_rose : Type 0) (status : ℕ) : Type 0 where
+-- a fault of the input, the output or the host has its count
+pub record Causes (host_rose in_rose out_rose : Type 0) (status : ℕ) : Type 0 where
   pub read : status ≡ 4 → in_rose
   pub write : status ≡ 5 → out_rose
+  pub host : status ≡ 6 → host_rose
 
--- where the input tells its bytes, the bytes taken and their frames give the status, unless the output failed or memory wanted
-abbrev pub EndsExactly : ℕ → Option (List ℕ) → Option (List ℕ) → Type 0 → Type 0 → ℕ → Type 0
-EndsExactly limit left left' in_rose out_rose status =
-    (bytes rest taken : List ℕ) (asked : List Words) (end : End) → left ≡ Some bytes → left' ≡ Some rest → bytes ≡ taken ++ rest → Frames taken asked end
-    → (status ≡ 8) ⊎ (((status ≡ 5) × out_rose) ⊎ EndsBy limit taken end (Some rest) in_rose status)
+-- the line of an ending of this status is put, or where the notes' count of faults rose a front of it
+pub record NotesStatus (noted noted' : Option (List ℕ)) (note_rose : Type 0) (status : ℕ) : Type 0 where
+  pub ending : Ending
+  pub is : status ≡ status_of ending
+  pub line : Notes noted noted' note_rose (line_of ending)
 
--- an input of fewer bytes than the limit that ends after a whole request, with no counted fault, is answered whole, unless memory wanted
-abbrev pub Completes : ℕ → Option (List ℕ) → Option (List ℕ) → Type 0 → Type 0 → ℕ → Type 0
-Completes limit left left' in_rose out_rose status =
-    (bytes : List ℕ) (asked : List Words) → left ≡ Some bytes → Frames bytes asked Whole → length bytes < limit → (in_rose → ⊥) → (out_rose → ⊥) → (status ≡ 0) ⊎ (status ≡ 8)
+-- the host tells that the name has this file
+abbrev pub Tells : Files → List ℕ → List ℕ → Type 0
+Tells None name bytes = ⊥
+Tells (Some files) name bytes = files name ≡ Some bytes
+
+-- a fault of the host, or want of memory
+abbrev pub Excused : Type 0 → ℕ → Type 0
+Excused host_rose status = ((status ≡ 6) × host_rose) ⊎ (status ≡ 8)
+
+-- exactly when each status comes, unless the host failed or memory wanted, which wrong words never meet
+pub record Exactly (usage : Usage) (files : Files) (limit : ℕ) (left left' noted noted' : Option (List ℕ)) (host_rose in_rose out_rose note_rose : Type 0) (status : ℕ) : Type 0 where
+  pub wrong : usage ≡ Wrong → status ≡ 1
+  pub wrong_alone : status ≡ 1 → usage ≡ Wrong
+  -- a file of at most the limit's bytes with this first fault
+  pub refused : (name bytes : List ℕ) (what : LoadKind) (at : ℕ) → usage ≡ Loading name → Tells files name bytes → length bytes ≤ limit → IsFault bytes 0 what at
+      → Excused host_rose status ⊎ ((status ≡ 7) × Notes noted noted' note_rose (refused_line what at))
+  pub refused_alone : status ≡ 7 → (name : List ℕ) × (what : LoadKind) × (at : ℕ) × (usage ≡ Loading name) × RefusesFile files name limit what at × Notes noted noted' note_rose (refused_line what at)
+  -- a file of more bytes than the limit
+  pub long : (name bytes : List ℕ) → usage ≡ Loading name → Tells files name bytes → limit < length bytes → Excused host_rose status ⊎ (status ≡ 9)
+  -- a name that the host has no file of
+  pub absent : (name : List ℕ) (known : List ℕ → Option (List ℕ)) → usage ≡ Loading name → files ≡ Some known → known name ≡ None → Excused host_rose status
+  -- a run that begins ends as its input does
+  pub served : (first : World) → Begins files limit usage first → (usage ≡ Fresh) ⊎ IsSome files → Excused host_rose status ⊎ ServesExactly limit left left' in_rose out_rose status
+
+-- with words that are taken, no file or a file of the format of at most the limit's bytes, an input of fewer bytes than
+-- the limit that ends after a whole request, and no counted fault, the run ends with status 0, unless memory wanted
+abbrev pub Completes : Usage → Files → ℕ → Option (List ℕ) → Option (List ℕ) → Type 0 → Type 0 → Type 0 → ℕ → Type 0
+Completes usage files limit left left' host_rose in_rose out_rose status =
+    (first : World) → Begins files limit usage first → (usage ≡ Fresh) ⊎ IsSome files → (host_rose → ⊥) → ServesWhole limit left left' in_rose out_rose status

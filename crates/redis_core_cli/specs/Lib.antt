@@ -1,4 +1,7 @@
-pub mod Headline
 pub mod Statuses
 pub mod Answering
 pub mod Serving
+pub mod Served
+pub mod Notes
+pub mod Starting
+pub mod Headline

@@ -3,23 +3,35 @@
 ghost use Rattle.std.specs.Prelude.{◌≡◌};
 ghost use Rattle.redis_core_cli.specs.Statuses.{status_of};
 
-/// What ends a run, with its exit status.
+use rdb_grammar::LoadKind;
+
+/// What ends a run. Each has an exit status.
 #[derive(Clone, Copy, Debug, PartialEq, Eq)]
 pub enum Ending {
-    /// The input was read to its end, and ended after a whole request.
-    Whole = 0,
-    /// The bytes break a rule of the protocol.
-    Protocol = 2,
-    /// The input ended inside a request.
-    Cut = 3,
-    /// The input failed.
-    ReadFault = 4,
-    /// The output failed.
-    WriteFault = 5,
-    /// Want of memory.
-    Memory = 8,
-    /// So many bytes were taken as the limit allows.
-    Limit = 9,
+    /// The input was read to its end, and ended after a whole request: 0.
+    Whole,
+    /// The words are none that are taken: 1.
+    Usage,
+    /// The bytes break a rule of the protocol: 2.
+    Protocol,
+    /// The input ended inside a request: 3.
+    Cut,
+    /// The input failed: 4.
+    ReadFault,
+    /// The output failed: 5.
+    WriteFault,
+    /// The host failed, or has no file of the name: 6.
+    Host,
+    /// The format excludes the file, by its first fault: 7.
+    Refused {
+        kind: LoadKind,
+        /// The fault's byte, from the file's start.
+        at: u64,
+    },
+    /// Want of memory: 8.
+    Memory,
+    /// So many bytes were taken as the limit allows, or the file has more: 9.
+    Limit,
 }
 
 impl Ending {
@@ -27,6 +39,17 @@ impl Ending {
     pub fn status(self) -> u8
         ensures { result ≡ status_of self }
     {
-        self as u8
+        match self {
+            Ending::Whole => 0,
+            Ending::Usage => 1,
+            Ending::Protocol => 2,
+            Ending::Cut => 3,
+            Ending::ReadFault => 4,
+            Ending::WriteFault => 5,
+            Ending::Host => 6,
+            Ending::Refused { .. } => 7,
+            Ending::Memory => 8,
+            Ending::Limit => 9,
+        }
     }
 }

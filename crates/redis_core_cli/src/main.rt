@@ -1,19 +1,63 @@
-//! Serves a stream of requests: reads them from standard input, and writes the replies to standard output.
+//! Loads a file where the words name one, and serves a stream of requests: reads them from standard input, and writes the
+//! replies to standard output and what ended the run to standard error.
 #![tactic(auto)]
 
 mod answering;
 mod ending;
+#[cfg(test)]
+mod loading_tests;
+mod notes;
 mod pending;
 mod serving;
+mod starting;
 #[cfg(test)]
 mod tests;
+mod top_call;
+mod words;
 
-use crate::serving::redis_core;
-use outside::{StdSink, StdSource};
+use crate::ending::Ending;
+use crate::notes::note;
+use crate::top_call::redis_core;
+use outside::{FileHost, StdSink, StdSource};
+use std::env;
+use std::io::ErrorKind;
 use std::process::ExitCode;
 
+// The words behind the program's name. Words that are no text are wrong ones.
+fn words_given(rt: &HostRuntime) -> Result<Vec<String>, Ending> {
+    let words = match env::args(rt) {
+        Ok(words) => words,
+        Err(error) => {
+            return Err(match error.kind() {
+                ErrorKind::InvalidData => Ending::Usage,
+                _ => Ending::Memory,
+            });
+        }
+    };
+    match words.skip(1).collect(rt.alloc()) {
+        Ok(words) => Ok(words),
+        Err(_) => Err(Ending::Memory),
+    }
+}
+
 fn main(rt: HostRuntime) -> ExitCode {
+    let mut notes = StdSink::new(rt.stderr());
+    let words = match words_given(&rt) {
+        Ok(words) => words,
+        Err(ending) => {
+            note(&mut notes, ending);
+            return ExitCode::from(ending.status());
+        }
+    };
+    let mut host = FileHost::new(&rt);
     let mut input = StdSource::new(rt.stdin());
     let mut output = StdSink::new(rt.stdout());
-    ExitCode::from(redis_core(rt.alloc(), &mut input, &mut output))
+    ExitCode::from(redis_core(
+        rt.alloc(),
+        &words,
+        &mut host,
+        &mut input,
+        &mut output,
+        &mut notes,
+    ))
 }

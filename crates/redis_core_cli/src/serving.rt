@@ -1,9 +1,9 @@
-//! The top call.
+//! Requests of an input are served, piece by piece.
 
 ghost use Rattle.std.specs.Prelude.{◌≡◌, ◌^◌, ◌≤◌, ◌<◌, ◌+◌, [], length};
 ghost use Rattle.outside.specs.Counts.{Rose};
-ghost use Rattle.plain_model.specs.Worlds.{no_keys};
-ghost use Rattle.redis_core_cli.specs.Headline.{Concludes, Causes, EndsExactly, Completes};
+ghost use Rattle.rdb_reader.specs.Held.{world_of};
+ghost use Rattle.redis_core_cli.specs.Served.{Served};
 ghost use Rattle.redis_core_cli.specs.Serving.{Takes, IsFresh};
 ghost use Rattle.redis_core_cli.specs.Statuses.{status_of};
 
@@ -14,9 +14,6 @@ use outside::{Sink, Source};
 use redis_core::Engine;
 use resp_frames::Feeder;
 use std::alloc::Global;
-
-/// At most so many bytes are taken from the input.
-const LIMIT: u64 = 1_099_511_627_776;
 
 /// At most so many bytes are taken at once.
 const PIECE: usize = 65_536;
@@ -50,7 +47,7 @@ fn take_piece<I: Source>(input: &mut I, room: &mut [u8], feeder: &mut Feeder) ->
     }
 }
 
-// Serves the requests of the input, of which at most so many bytes are taken, with an engine, a feeder and a sink in memory that are new.
+// Serves the requests of the input, of which at most so many bytes are taken, with a feeder and a sink in memory that are new.
 #[tactic(none)]
 fn serve<I: Source, O: Sink>(
     engine: &mut Engine,
@@ -61,12 +58,11 @@ fn serve<I: Source, O: Sink>(
     room: &mut [u8],
     limit: u64,
 ) -> Ending
-    requires engine { engine.old ≡ no_keys }
     requires feeder { IsFresh feeder.old }
     requires pending { pending.old.bytes.items ≡ [] }
     requires room { length room.old ≡ 65536 }
     requires limit { limit ≤ 2 ^ 61 }
-    ensures { Concludes limit (I.told input.old) (I.told input.new) (O.told output.old) (O.told output.new)
+    ensures { Served (world_of engine.old) limit (I.told input.old) (I.told input.new) (O.told output.old) (O.told output.new)
         (Rose (I.faults input.old) (I.faults input.new)) (Rose (O.faults output.old) (O.faults output.new)) (status_of result) }
 {
     let mut taken: u64 = 0;
@@ -94,23 +90,23 @@ fn serve<I: Source, O: Sink>(
     }
 }
 
-/// The same with a limit of one's own, in bytes.
-pub fn redis_core_up_to<I: Source, O: Sink>(
+/// Serves the requests of the input with this engine. At most so many bytes are taken.
+pub fn serve_input<I: Source, O: Sink>(
     alloc: Global,
+    engine: &mut Engine,
     input: &mut I,
     output: &mut O,
     limit: u64,
 ) -> Ending
     requires { limit ≤ 2 ^ 61 }
-    ensures { Concludes limit (I.told input.old) (I.told input.new) (O.told output.old) (O.told output.new)
+    ensures { Served (world_of engine.old) limit (I.told input.old) (I.told input.new) (O.told output.old) (O.told output.new)
         (Rose (I.faults input.old) (I.faults input.new)) (Rose (O.faults output.old) (O.faults output.new)) (status_of result) }
 {
-    let mut engine = Engine::new(alloc);
     let mut feeder = Feeder::new(alloc);
     let mut pending = Pending::new(alloc);
     match vec![in alloc; 0u8; 65_536] {
         Ok(mut room) => serve(
-            &mut engine,
+            engine,
             &mut feeder,
             &mut pending,
             input,
@@ -120,19 +116,4 @@ pub fn redis_core_up_to<I: Source, O: Sink>(
         ),
         Err(_) => Ending::Memory,
     }
-}
-
-/// Serves the requests of the input, and says with which status the run ends: 0 where the input ended after a whole
-/// request, 2 where it breaks a rule of RESP2, 3 where it ended inside a request, 4 where the input failed, 5 where the
-/// output failed, 8 for want of memory, 9 where 2^40 bytes were taken.
-pub fn redis_core<I: Source, O: Sink>(alloc: Global, input: &mut I, output: &mut O) -> u8
-    ensures headline { Concludes (2 ^ 40) (I.told input.old) (I.told input.new) (O.told output.old) (O.told output.new)
-        (Rose (I.faults input.old) (I.faults input.new)) (Rose (O.faults output.old) (O.faults output.new)) result }
-    ensures causes { Causes (Rose (I.faults input.old) (I.faults input.new)) (Rose (O.faults output.old) (O.faults output.new)) result }
-    ensures exact { EndsExactly (2 ^ 40) (I.told input.old) (I.told input.new)
-        (Rose (I.faults input.old) (I.faults input.new)) (Rose (O.faults output.old) (O.faults output.new)) result }
-    ensures complete { Completes (2 ^ 40) (I.told input.old) (I.told input.new)
-        (Rose (I.faults input.old) (I.faults input.new)) (Rose (O.faults output.old) (O.faults output.new)) result }
-{
-    redis_core_up_to(alloc, input, output, LIMIT).status()
 }

@@ -1,10 +1,10 @@
-//! Runs of the top call over the memory forms. The expected bytes are RESP2's, worked out by hand.
+//! Runs of the top call over the memory forms, without a file. The expected bytes are RESP2's, worked out by hand.
 
 ghost use Rattle.std.specs.Prelude.{◌≤◌, ◌^◌, Some};
 
 use crate::ending::Ending;
-use crate::serving::redis_core_up_to;
-use outside::{MemSink, MemSource, Sink, WriteFault};
+use crate::top_call::redis_core_up_to;
+use outside::{MemHost, MemSink, MemSource, Sink, WriteFault};
 use std::alloc::{AllocError, Global};
 use std::test::Fail;
 
@@ -82,6 +82,11 @@ const ROWS: [Row; 22] = [
     Row(b"PING\r\n", b"", 2),
 ];
 
+// A host without files.
+fn no_files(alloc: Global) -> MemHost {
+    MemHost::new(Vec::new(alloc), Vec::new(alloc), Vec::new(alloc))
+}
+
 // The status, and what is written.
 fn served(
     alloc: Global,
@@ -100,7 +105,17 @@ fn served(
         Vec::from_slice(alloc, reads)?,
     );
     let mut output = MemSink::new(vec![in alloc; 0u8; room]?, Vec::from_slice(alloc, writes)?);
-    let status = redis_core_up_to(alloc, &mut input, &mut output, limit).status();
+    let mut notes = MemSink::new(vec![in alloc; 0u8; 100]?, Vec::new(alloc));
+    let status = redis_core_up_to(
+        alloc,
+        &[],
+        &mut no_files(alloc),
+        &mut input,
+        &mut output,
+        &mut notes,
+        limit,
+    )
+    .status();
     Ok((status, Vec::from_slice(alloc, output.written())?))
 }
 
@@ -207,7 +222,16 @@ fn puts_of_one_byte(rt: HostRuntime) -> Result<(), Fail> {
         bytes: Vec::new(rt.alloc()),
         faults: 0,
     };
-    let ended = redis_core_up_to(rt.alloc(), &mut input, &mut output, MANY_BYTES);
+    let mut notes = MemSink::new(Vec::new(rt.alloc()), Vec::new(rt.alloc()));
+    let ended = redis_core_up_to(
+        rt.alloc(),
+        &[],
+        &mut no_files(rt.alloc()),
+        &mut input,
+        &mut output,
+        &mut notes,
+        MANY_BYTES,
+    );
     assert_eq!(rt; ended, Ending::Whole);
     assert_eq!(rt;
         output.bytes.as_slice(),
