@@ -1,0 +1,7 @@
+pub mod Each
+pub mod Table
+pub mod Values
+pub mod Databases
+pub mod Sound
+pub mod Worlds
+pub mod Calls
