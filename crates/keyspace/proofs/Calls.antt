@@ -10,7 +10,7 @@ use Rattle.blocks.proofs.Refs.{with_block-same}
 use Rattle.blocks.proofs.Change.{Changes-then, Changes-beside, Changes-same, Changes-owned}
 use Rattle.object_codec.specs.Limits.{AreInRange}
 use Rattle.string_object.specs.declared.text.Text.TheVariants.{Number}
-use Rattle.plain_model.specs.Worlds.{Entry, World, with_base, look, put}
+use Rattle.plain_model.specs.Worlds.{Entry, World, with_base, look, put, Database}
 use Rattle.plain_model.specs.Worlds as model
 use Rattle.keyspace.specs.declared.table.Element.{Element}
 use Rattle.keyspace.specs.declared.value.Value.{Value}
@@ -24,7 +24,7 @@ use Rattle.keyspace.specs.Sound.{IsArranged, IsIntact, SoundBeside}
 use Rattle.keyspace.specs.Worlds.{without, emptied}
 use Rattle.keyspace.specs.Calls.{Found, IsPlace, IsVacant, Lifts, AreParts}
 use Rattle.keyspace.proofs.Lists.{Each-weaker, Each-both, parts_at}
-use Rattle.keyspace.proofs.Tables.{maps_alike, some_bytes, refs-joined, Keyed-parted, Keyed-empty, map_of-empty, map_of-leaves, get-map_of-leaves, map_of-lacks, map_of-stands, map_of-each, remove_absent, insert_over, Each-named}
+use Rattle.keyspace.proofs.Tables.{get_inserted, maps_alike, some_bytes, refs-joined, Keyed-parted, Keyed-empty, map_of-empty, map_of-leaves, get-map_of-leaves, map_of-lacks, map_of-stands, map_of-each, remove_absent, insert_over, Each-named}
 use Rattle.keyspace.proofs.Bases.{entry_own, table_owned, owned_joins, owned_leaves, owned_swaps, kept_named, kept_inside, arranged_out, means_out, base_out, intact_out, means_changed, swapped_intact, swapped_means, joined_intact, joined_means, left_intact}
 
 -- ---- a key leaves with its value, and both are given back
@@ -173,7 +173,7 @@ module _ (old : Bases) (m after : Blocks) (value : Value) (intact : IsIntact old
 
 -- ---- lifting and lowering
 
-put_twice : (w : World) (key : List ℕ) (a b : Entry) → put (put w key a) key b ≡ put w key b
+pub put_twice : (w : World) (key : List ℕ) (a b : Entry) → put (put w key a) key b ≡ put w key b
 put_twice w key a b = λ i. record { bases = λ number. each number i; selected = w.selected }
   where
     each : (number : ℕ) → (put (put w key a) key b).bases number ≡ (put w key b).bases number
@@ -186,6 +186,14 @@ put_twice w key a b = λ i. record { bases = λ number. each number i; selected 
       | inr other ↦ cond-false _ _ _ (ne_eqb number w.selected other) ∙ cond-false _ _ _ (ne_eqb number w.selected other) ∙ sym (cond-false _ _ _ (ne_eqb number w.selected other))
     ]
 
+-- what is put at a key stands there
+pub look_put : (w : World) (key : List ℕ) (a : Entry) → look (put w key a) key ≡ Some a
+look_put w key a = ap (λ (base : Database). get base key) (cond-true _ _ _ (eq-eqb w.selected w.selected refl)) ∙ get_inserted (w.bases w.selected) key a
+
+lasting : (m : Blocks) (t : List (Element Value)) → Each (λ e. (entry_of m e.value).deadline ≡ None) t
+lasting m [] = tt
+lasting m (e ∷ t) = (refl, lasting m t)
+
 -- no key has a deadline, so none is gone
 pub live_means : (db : ℕ) (bases : Bases) (m : Blocks) (moment : ℕ) → model.live (means db bases m) moment ≡ means db bases m
 live_means db bases m moment = λ i. record { bases = λ number. each (table_at bases number) i; selected = db }
@@ -194,17 +202,17 @@ live_means db bases m moment = λ i. record { bases = λ number. each (table_at 
     there None h = refl
     there (Some e) h = ap (λ d. cond (model.in_time moment d) (Some e) None) (h e refl)
 
-    lasting : (t : List (Element Value)) → Each (λ e. (entry_of m e.value).deadline ≡ None) t
-    lasting [] = tt
-    lasting (e ∷ t) = (refl, lasting t)
-
     each : (t : List (Element Value)) → model.live_keys (map_of m (entry_of m) t) moment ≡ map_of m (entry_of m) t
     each t =
         let base = map_of m (entry_of m) t in
         let test : List ℕ → Bool = λ q. model.is_there moment (get base q) in
         maps_alike (model.live_keys base moment) base (λ q.
         get-retain_keys base test q (λ x same. ap test (sym (slice_cmp-IsAntisymmetric nat_cmp-IsAntisymmetric q x same)))
-        ∙ there (get base q) (map_of-each m (entry_of m) (λ entry. entry.deadline ≡ None) t (lasting t) q))
+        ∙ there (get base q) (map_of-each m (entry_of m) (λ entry. entry.deadline ≡ None) t (lasting m t) q))
+
+pub no_deadline : (db : ℕ) (bases : Bases) (m : Blocks) (moment : ℕ) (key : List ℕ) (e : Entry) → look (model.live (means db bases m) moment) key ≡ Some e → e.deadline ≡ None
+no_deadline db bases m moment key e is =
+    map_of-each m (entry_of m) (λ entry. entry.deadline ≡ None) (table_at bases db) (lasting m (table_at bases db)) key e (sym (ap (λ w. look w key) (live_means db bases m moment)) ∙ is)
 
 pub look_now : (bases : Bases) (db moment : ℕ) (m : Blocks) (key : List ℕ) (o : Option Entry) → look (means db bases m) key ≡ o → look (model.live (means db bases m) moment) key ≡ o
 look_now bases db moment m key o is = ap (λ w. look w key) (live_means db bases m moment) ∙ is

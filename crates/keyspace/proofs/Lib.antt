@@ -5,3 +5,5 @@ pub mod Edits
 pub mod Bases
 pub mod Calls
 pub mod Uses
+pub mod Running
+pub mod Serving

@@ -1,6 +1,6 @@
 -- For whoever calls a keyspace: what a command function needs to say that the keyspace is sound after it, and which
 -- world it leaves. Each lemma takes the clauses of the calls as they stand.
-use Rattle.std.proofs.Common.{◌≡◌, ℕ, ◌+◌, ◌≤◌, List, [], ◌++◌, Option, sym, ap, ◌∙◌, subst, arith}
+use Rattle.std.proofs.Common.{Some, None, ◌≡◌, ℕ, ◌+◌, ◌≤◌, List, [], ◌++◌, Option, sym, ap, ◌∙◌, subst, arith}
 use Rattle.blocks.specs.declared.BlockRef.{BlockRef}
 use Rattle.blocks.specs.Blocks.{Blocks, times, Changes, Owned}
 use Rattle.blocks.proofs.Times.{times-append}
@@ -19,7 +19,7 @@ use Rattle.keyspace.specs.Databases.{Bases, means}
 use Rattle.keyspace.specs.Sound.{IsIntact, Sound, SoundBeside}
 use Rattle.keyspace.specs.Calls.{IsPlace, IsVacant, Lifts, AreParts}
 use Rattle.keyspace.proofs.Bases.{arranged_out, means_out, kept_inside, sound_intact}
-use Rattle.keyspace.proofs.Calls.{live_means, item_owned}
+use Rattle.keyspace.proofs.Calls.{live_means, item_owned, no_deadline, put_twice, look_put}
 
 -- what each call asks follows from soundness
 pub Sound-intact : (bases : Bases) (m : Blocks) (out : List BlockRef) → SoundBeside bases m out → IsIntact bases m out
@@ -28,6 +28,17 @@ Sound-intact = sound_intact
 -- nothing is gone at any moment, so the live world is the whole one
 pub Live-means : (db : ℕ) (bases : Bases) (m : Blocks) (moment : ℕ) → model.live (means db bases m) moment ≡ means db bases m
 Live-means = live_means
+
+-- what stands at a key has no deadline yet
+pub No-deadline : (db : ℕ) (bases : Bases) (m : Blocks) (moment : ℕ) (key : List ℕ) (e : Entry) → look (model.live (means db bases m) moment) key ≡ Some e → e.deadline ≡ None
+No-deadline = no_deadline
+
+-- what was put at a key stands there, and what is put there next takes its place
+pub Look-put : (w : World) (key : List ℕ) (a : Entry) → look (put w key a) key ≡ Some a
+Look-put = look_put
+
+pub Put-twice : (w : World) (key : List ℕ) (a b : Entry) → put (put w key a) key b ≡ put w key b
+Put-twice = put_twice
 
 -- ---- what is out of the databases changes: a value is made, changed or released
 

@@ -5,3 +5,4 @@ pub mod Databases
 pub mod Sound
 pub mod Worlds
 pub mod Calls
+pub mod Commands

@@ -17,6 +17,7 @@ const COUNT: usize = 16;
 /// The 16 databases, and what every value is made with. The calls of the keyspace alone use it.
 #[derive(Drop)]
 pub struct Databases {
+    alloc: Global,
     tables: Vec<KeyTable<Value>>,
     limits: Limits,
     seed: u64,
@@ -42,10 +43,15 @@ impl Databases {
             tables.push(KeyTable::new(alloc))?;
         }
         Ok(Databases {
+            alloc,
             tables,
             limits,
             seed,
         })
+    }
+
+    pub(crate) fn alloc(&self) -> Global {
+        self.alloc
     }
 
     pub(crate) fn limits(&self) -> Limits

@@ -62,6 +62,11 @@ impl<B: BlockStore> Keyspace<B> {
         Ok(Keyspace { store, bases })
     }
 
+    /// Where memory is taken.
+    pub fn alloc(&self) -> Global {
+        self.bases.alloc()
+    }
+
     /// The limits that `new` was given.
     pub fn limits(&self) -> Limits
         ensures { result ≡ self.now.bases.limits }

@@ -4,16 +4,13 @@ use Rattle.std.specs.Prelude.{MatchResult}
 use Rattle.std.specs.List.{AllByRecursion}
 use Rattle.plain_model.specs.Words.{Words}
 use Rattle.plain_model.specs.Worlds.{World, live}
-use Rattle.plain_model.specs.Meant.{meant}
-use Rattle.plain_model.specs.StringSteps.{may_strings}
+use Rattle.plain_model.specs.Meant.{understood}
 use Rattle.plain_model.specs.Steps.{may, step}
 use Rattle.plain_model.specs.Runs.{Call, run}
 use Rattle.plain_model.specs.Laws.{IsHeld}
 use Rattle.plain_model.specs.Spelling.{spelled}
 use Rattle.plain_model.specs.declared.command.Command.{Command}
 use Rattle.plain_model.specs.declared.command.Command.TheVariants.{Strings}
-use Rattle.plain_model.specs.declared.command.StringCommand.{StringCommand}
-use Rattle.plain_model.specs.declared.command.StringCommand.TheVariants.{Get, Set}
 use Rattle.plain_model.specs.declared.refusal.Refusal.{Refusal}
 use Rattle.plain_model.specs.declared.reply.Part.{Part}
 use Rattle.plain_model.specs.declared.reply.Part.TheVariants.{Refused}
@@ -21,12 +18,8 @@ use Rattle.plain_model.proofs.Apart.{spellings_apart}
 
 -- the new world is fixed by the old one, the moment, the command and the reply
 
-strings_fixed : (old : World) (moment : ℕ) (c : StringCommand) (r : List Part) (new other : World) → may_strings old moment c r new → may_strings old moment c r other → new ≡ other
-strings_fixed old moment (Get key) r new other a b = a.1 ∙ sym b.1
-strings_fixed old moment (Set key value) r new other a b = a.1 ∙ sym b.1
-
 may_fixed : (seed : ℕ) (old : World) (moment : ℕ) (c : Command) (r : List Part) (new other : World) → may seed old moment c r new → may seed old moment c r other → new ≡ other
-may_fixed seed old moment (Strings c) r new other a b = strings_fixed old moment c r new other a b
+may_fixed seed old moment (Strings c) r new other a b = a.1 ∙ sym b.1
 
 abbrev leads : ℕ → World → ℕ → List Part → World → Result Command Refusal → Type 0
 leads seed old moment reply new m =
@@ -37,7 +30,7 @@ meant_fixed seed old moment (Ok c) r new other a b = may_fixed seed (live old mo
 meant_fixed seed old moment (Err e) r new other a b = a.1 ∙ sym b.1
 
 pub step_fixed : (seed : ℕ) (old : World) (moment : ℕ) (words : Words) (r : List Part) (new other : World) → step seed old moment words r new → step seed old moment words r other → new ≡ other
-step_fixed seed old moment words r new other a b = meant_fixed seed old moment (meant words) r new other a b
+step_fixed seed old moment words r new other a b = meant_fixed seed old moment (understood words) r new other a b
 
 pub run_fixed : (seed : ℕ) (old : World) (calls : List Call) (r s : List (List Part)) (new other : World) → AllByRecursion IsHeld r → AllByRecursion IsHeld s → run seed old calls r new → run seed old calls s other → spelled r ≡ spelled s → (r ≡ s) × (new ≡ other)
 run_fixed seed old [] [] [] new other h k a b e = (refl, a ∙ sym b)

@@ -4,7 +4,10 @@ pub mod Parts
 pub mod Refusals
 pub mod Spelling
 pub mod Worlds
+pub mod Numbers
+pub mod Shapes
 pub mod StringWords
+pub mod Outcomes
 pub mod StringSteps
 pub mod Meant
 pub mod Steps

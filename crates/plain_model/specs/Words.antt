@@ -1,10 +1,21 @@
 -- The words of a request (RESP2, "Sending commands to a Redis server").
-use Rattle.std.specs.Prelude.{ℕ, List, map, Bool, bytes_eq}
+use Rattle.std.specs.Prelude.{ℕ, ◌<◌, ◌≤◌, List, map, length, Bool, bytes_eq}
+use Rattle.std.specs.List.{AllByRecursion}
 use Rattle.std.specs.Char.{to_ascii_lowercase}
 
 -- a request is the list of its words; the first names the command
 abbrev pub Words : Type 0
 Words = List (List ℕ)
+
+-- a word has at most 512 MiB
+abbrev pub IsWord : List ℕ → Type 0
+IsWord word = length word ≤ 536870912
+
+-- a request has 1 to 1,048,576 words
+pub record IsRequest (words : Words) : Type 0 where
+  pub some : 0 < length words
+  pub few : length words ≤ 1048576
+  pub each : AllByRecursion IsWord words
 
 -- a word, with ASCII case ignored
 abbrev pub in_lower_case : List ℕ → List ℕ

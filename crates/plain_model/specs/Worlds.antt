@@ -2,6 +2,7 @@
 use Rattle.std.specs.Prelude.{◌≡◌, ◌==◌, ℕ, List, Option, None, Some, Bool, true, false, nat_le, if◌then◌else◌, refl}
 use Rattle.std.specs.Coded.{Coded, code_by, coded×, coded_ℕ, coded_list, coded_option}
 use Rattle.std.specs.FinMap.{FinMap, empty, get, insert, retain_keys}
+use Rattle.std.specs.FinMap as map
 use Rattle.std.specs.Cmp.Lexicographic.{slice_cmp}
 use Rattle.std.specs.Ordering.{nat_cmp}
 
@@ -59,6 +60,10 @@ with_base world base = record { bases = λ number. if number == world.selected t
 -- the world in which this stands at a key of the selected database
 abbrev pub put : World → List ℕ → Entry → World
 put world key entry = with_base world (insert (world.bases world.selected) key entry)
+
+-- the world in which nothing stands at a key of the selected database
+abbrev pub remove : World → List ℕ → World
+remove world key = with_base world (map.remove (world.bases world.selected) key)
 
 -- what stands at a key, as data that can be told apart
 abbrev pub value_bytes : Value → List ℕ

@@ -3,15 +3,19 @@
 
 mod bytes;
 mod command;
+mod ctx;
 mod laws;
+mod lists;
 mod refusal;
 mod reply;
 
 pub use bytes::Bytes;
-pub use command::{Command, StringCommand};
+pub use command::{Command, Condition, StringCommand};
+pub use ctx::Ctx;
 pub use laws::{replies_fix_the_run, spellings_are_apart};
+pub use lists::{PairList, WordList};
 pub use refusal::Refusal;
-pub use reply::{Line, Part, Reply};
+pub use reply::{Line, Part, Parts, Reply};
 use std::alloc::AllocError;
 
 /// Want of memory.

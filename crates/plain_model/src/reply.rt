@@ -1,6 +1,7 @@
 //! Replies, as the lists of their parts (RESP2, "RESP protocol description").
 
-ghost use Rattle.std.specs.Prelude.{◌≡◌, ℕ, List, [], ◌∷◌, IfOk, codes};
+ghost use Rattle.std.specs.Prelude.{◌≡◌, ℕ, List, [], ◌∷◌, ◌++◌, IfOk, OnOk, OnErr, codes};
+ghost use Rattle.plain_model.specs.Parts.{IsReply};
 
 use crate::{Bytes, Refusal};
 use smallvec::SmallVec;
@@ -60,6 +61,49 @@ pub enum Part {
     Array(u64),
 }
 
+/// Parts that are put together into a reply, which contracts see as their list.
+#[derive(Drop)]
+pub struct Parts {
+    parts: SmallVec<Part, 1>,
+}
+
+impl Model for Parts {
+    ghost use Rattle.std.specs.Prelude.{List};
+    ghost use Rattle.plain_model.specs.declared.reply.Part.{Part};
+
+    ghost Value = { List Part };
+
+    ghost view = { λ p. p.parts.items };
+}
+
+impl Parts {
+    /// No parts.
+    pub fn new(alloc: Global) -> Parts
+        ensures { result ≡ [] }
+    {
+        Parts {
+            parts: SmallVec::new(alloc),
+        }
+    }
+
+    /// Adds a part behind the others. `Memory` leaves the parts.
+    pub fn push(&mut self, part: Part) -> Result<(), AllocError>
+        ensures ok { OnOk result (self.new ≡ self.old ++ part ∷ []) }
+        ensures err { OnErr result (self.new ≡ self.old) }
+    {
+        self.parts.push(part)?;
+        Ok(())
+    }
+
+    /// The reply that they are.
+    pub fn into_reply(self) -> Reply
+        requires { IsReply self }
+        ensures { result ≡ self }
+    {
+        Reply { parts: self.parts }
+    }
+}
+
 /// One whole reply, which contracts see as the list of its parts, in the order in which they are spelled.
 #[derive(Drop)]
 pub struct Reply {
@@ -94,6 +138,15 @@ impl Reply {
     {
         let mut parts = SmallVec::new(alloc);
         parts.push(Part::Refused(refusal))?;
+        Ok(Reply { parts })
+    }
+
+    /// An integer.
+    pub fn number(alloc: Global, n: i64) -> Result<Reply, AllocError>
+        ensures { IfOk result (λ r. r ≡ Part.Number n ∷ []) }
+    {
+        let mut parts = SmallVec::new(alloc);
+        parts.push(Part::Number(n))?;
         Ok(Reply { parts })
     }
 

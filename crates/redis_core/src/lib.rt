@@ -11,6 +11,7 @@ ghost use Rattle.rdb_reader.specs.Loads.{Loads};
 ghost use Rattle.plain_model.specs.Worlds.{no_keys};
 ghost use Rattle.plain_model.specs.Steps.{may, step};
 ghost use Rattle.plain_model.specs.declared.command.Command.TheVariants as commands;
+ghost use Rattle.plain_model.specs.declared.command.Condition.TheVariants.{Always};
 ghost use Rattle.plain_model.specs.declared.command.StringCommand.TheVariants as strings;
 ghost use Rattle.rdb_reader.specs.Held.{world_of};
 
@@ -110,7 +111,7 @@ impl Engine {
 
     // SET key value
     fn set(&mut self, key: &[u8], value: &[u8]) -> Result<Reply, Memory>
-        ensures reply { IfOk result (λ reply. may 0 (world_of self.old) 0 (commands.Strings (strings.Set key.now value.now)) reply (world_of self.new)) }
+        ensures reply { IfOk result (λ reply. may 0 (world_of self.old) 0 (commands.Strings (strings.Set key.now value.now Always false)) reply (world_of self.new)) }
         ensures memory { OnErr result (self.new ≡ self.old) }
     {
         let key = Vec::from_slice(self.alloc, key)?;

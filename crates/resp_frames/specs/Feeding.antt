@@ -1,6 +1,6 @@
 -- What a feeder tells.
 use Rattle.std.specs.Prelude.{◌≡◌, ℕ, ◌+◌, ◌≤◌, ◌^◌, ◌⊎◌, List, [], ◌∷◌, length, drop, Option, Some, None, Result, Ok, Err, Bool, true, false}
-use Rattle.plain_model.specs.Words.{Words}
+use Rattle.plain_model.specs.Words.{Words, IsRequest}
 use Rattle.resp_frames.specs.Frames.{Item, Framed, requests}
 use Rattle.resp_frames.specs.Faults.{RequestFault}
 use Rattle.resp_frames.specs.Ends.{IsCut}
@@ -71,9 +71,14 @@ current_words bytes base spans false = None
 abbrev pub feeding : ℕ → List ℕ → ℕ → ℕ → List Span → Bool → Feeding
 feeding gone bytes base at spans ready = record { gone = gone + at; kept = drop at bytes; current = current_words bytes base spans ready }
 
+-- the spans are those of the words of a request, within the bytes
+pub record IsOut (bytes : List ℕ) (spans : List Span) : Type 0 where
+  pub inside : AreWithin bytes spans
+  pub sound : IsRequest (words_at bytes spans)
+
 -- a request is out; or the next one is read so far
 abbrev pub IsState : List ℕ → ℕ → ℕ → List Span → Progress → Bool → Type 0
-IsState bytes base at spans progress true = AreWithin (drop base bytes) spans
+IsState bytes base at spans progress true = IsOut (drop base bytes) spans
 IsState bytes base at spans progress false = (base ≡ at) × Stands (drop at bytes) progress.read spans progress.due
 
 pub record IsFeeder (gone : ℕ) (bytes : List ℕ) (base at : ℕ) (spans : List Span) (progress : Progress) (ready : Bool) : Type 0 where

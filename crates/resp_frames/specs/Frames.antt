@@ -4,6 +4,7 @@ use Rattle.std.specs.List.{AllByRecursion, list_all}
 use Rattle.std.specs.Fmt.{decimal}
 use Rattle.plain_model.specs.Spelling.{line_end}
 use Rattle.plain_model.specs.Words.{Words}
+pub use Rattle.plain_model.specs.Words.{IsWord, IsRequest}
 
 -- a header: its mark, its text, CR LF
 abbrev pub header : ℕ → List ℕ → List ℕ
@@ -16,16 +17,6 @@ bulk word = header 36 (decimal (length word)) ++ (word ++ line_end)
 -- a request: the number of its words behind `*`, and its words
 abbrev pub request_bytes : Words → List ℕ
 request_bytes words = header 42 (decimal (length words)) ++ flat_map bulk words
-
--- a word has at most 512 MiB
-abbrev pub IsWord : List ℕ → Type 0
-IsWord word = length word ≤ 536870912
-
--- a request has 1 to 1,048,576 words
-pub record IsRequest (words : Words) : Type 0 where
-  pub some : 0 < length words
-  pub few : length words ≤ 1048576
-  pub each : AllByRecursion IsWord words
 
 -- no CR
 abbrev pub IsPlainText : List ℕ → Type 0

@@ -1,6 +1,7 @@
 //! Requests out of a stream that comes in pieces.
 
 ghost use Rattle.std.specs.Prelude.{◌≡◌, ◌+◌, ◌++◌, ◌<◌, ◌≤◌, ◌^◌, ℕ, List, [], length, drop, vec_len, IfOk, OnOk, OnErr, IsSome, Some, None, slice_index_or, Ok, true};
+ghost use Rattle.plain_model.specs.Words.{IsRequest};
 ghost use Rattle.resp_frames.specs.Feeding.{NextFound, NextIs, HasFed};
 ghost use Rattle.resp_frames.specs.RequestRead.{word_at, words_at, AreWithin, Stands};
 
@@ -30,19 +31,21 @@ pub struct Request<'a> {
 
 impl<'a> Model for Request<'a> {
     ghost use Rattle.plain_model.specs.Words.{Words};
-    ghost use Rattle.resp_frames.specs.RequestRead.{words_at, AreWithin};
+    ghost use Rattle.resp_frames.specs.RequestRead.{words_at};
+    ghost use Rattle.resp_frames.specs.Feeding.{IsOut};
 
     ghost Value = { Words };
 
     ghost view = { λ r. words_at r.bytes.now r.spans.now };
 
-    ghost invariant = { λ r. AreWithin r.bytes.now r.spans.now };
+    ghost invariant = { λ r. IsOut r.bytes.now r.spans.now };
 }
 
 impl Request<'_> {
-    /// How many words it has.
+    /// How many words it has: 1 to 1,048,576, each of at most 536,870,912 bytes.
     pub fn len(&self) -> usize
-        ensures { result ≡ length self.now }
+        ensures len { result ≡ length self.now }
+        ensures request { IsRequest self.now }
     {
         self.spans.len()
     }

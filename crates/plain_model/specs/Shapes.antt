@@ -1,0 +1,101 @@
+-- How the words behind a command's name are read (Redis command reference, the syntax of each command).
+--
+-- First their number is looked at, then they are read from left to right, and each is refused where it stands. What words
+-- break together comes last. A command is a row: the kinds of its first words, and what may follow them.
+use Rattle.std.specs.Prelude.{ℕ, zero, suc, ◌-◌, ◌%◌, ◌==◌, List, [], ◌∷◌, length, drop, ℤ, pos, negsuc, Option, Some, None, Bool, ◌&&◌, nat_le, nat_lt, bytes_eq, Result, Ok, Err, if◌then◌else◌}
+use Rattle.plain_model.specs.Words.{Words, in_lower_case}
+use Rattle.plain_model.specs.Numbers.{number_of}
+use Rattle.plain_model.specs.declared.refusal.Refusal.{Refusal}
+use Rattle.plain_model.specs.declared.refusal.Refusal.TheVariants.{WrongNumberOfArguments, Syntax, NotAnInteger, IndexOutOfRange}
+
+-- the first one's refusal, or what the rest makes of what it told
+abbrev pub and_then : {A B : Type 0} → Result A Refusal → (A → Result B Refusal) → Result B Refusal
+and_then (Ok a) rest = rest a
+and_then (Err refusal) rest = Err refusal
+
+-- what a word has to be
+pub data Kind : Type 0 where
+  -- any bytes
+  Plain : Kind
+  -- a whole number of 64 bits with a sign
+  Whole : Kind
+  -- such a number from 0 on
+  Offset : Kind
+
+-- what a word of this kind tells
+abbrev pub Told : Kind → Type 0
+Told Plain = List ℕ
+Told Whole = ℤ
+Told Offset = ℕ
+
+abbrev pub whole : Option ℤ → Result ℤ Refusal
+whole None = Err NotAnInteger
+whole (Some n) = Ok n
+
+abbrev pub offset : ℤ → Result ℕ Refusal
+offset (pos n) = Ok n
+offset (negsuc n) = Err IndexOutOfRange
+
+-- a word of this kind
+abbrev pub told : (kind : Kind) → List ℕ → Result (Told kind) Refusal
+told Plain word = Ok word
+told Whole word = whole (number_of word)
+told Offset word = and_then (whole (number_of word)) offset
+
+-- what words of these kinds tell
+abbrev pub AllTold : List Kind → Type 0
+AllTold [] = Unit {0}
+AllTold (kind ∷ kinds) = Told kind × AllTold kinds
+
+-- the first words, of these kinds
+abbrev pub all_told : (kinds : List Kind) → Words → Result (AllTold kinds) Refusal
+all_told [] words = Ok tt
+all_told (kind ∷ kinds) [] = Err WrongNumberOfArguments
+all_told (kind ∷ kinds) (word ∷ words) = and_then (told kind word) (λ a. and_then (all_told kinds words) (λ rest. Ok (a, rest)))
+
+-- a row of just these words
+abbrev pub fixed : {A : Type 0} (kinds : List Kind) → (AllTold kinds → Result A Refusal) → Words → Result A Refusal
+fixed kinds make words = if length words == length kinds then and_then (all_told kinds words) make else Err WrongNumberOfArguments
+
+-- a row of these words, and then one or more groups of so many words
+abbrev pub repeated : {A : Type 0} (kinds : List Kind) (size : ℕ) → (AllTold kinds → Words → Result A Refusal) → Words → Result A Refusal
+repeated kinds size make words =
+    let behind = length words - length kinds in
+    if nat_lt (length kinds) (length words) && (behind % size == 0)
+    then and_then (all_told kinds words) (λ first. make first (drop (length kinds) words))
+    else Err WrongNumberOfArguments
+
+-- an option: its name in lower case, its own words, and what it sets
+pub record Choice (A : Type 0) : Type 0 where
+  pub name : List ℕ
+  pub kinds : List Kind
+  pub sets : AllTold kinds → A → A
+
+module _ {A : Type 0} where
+  -- the option of this name
+  abbrev pub choice_of : List (Choice A) → List ℕ → Option (Choice A)
+  choice_of [] name = None
+  choice_of (choice ∷ choices) name = if bytes_eq name choice.name then Some choice else choice_of choices name
+
+  -- an option is read: what is set then, and how many words are its own
+  abbrev pub choose : A → Option (Choice A) → Words → Result (A × ℕ) Refusal
+  choose before None words = Err Syntax
+  choose before (Some choice) words =
+      if nat_le (length choice.kinds) (length words)
+      then and_then (all_told choice.kinds words) (λ own. Ok (choice.sets own before, length choice.kinds))
+      else Err Syntax
+
+  -- Options in any order, where so many words are still those of the one before. Of a repeated one the last counts; an
+  -- unknown one, and one without all its words, breaks the syntax.
+  abbrev pub chosen : List (Choice A) → A → ℕ → Words → Result A Refusal
+  chosen choices before skip [] = Ok before
+  chosen choices before (suc skip) (word ∷ words) = chosen choices before skip words
+  chosen choices before zero (word ∷ words) =
+      and_then (choose before (choice_of choices (in_lower_case word)) words) (λ read. chosen choices read.0 read.1 words)
+
+  -- a row of these words, and then options
+  abbrev pub with_choices : {B : Type 0} (kinds : List Kind) → List (Choice A) → A → (AllTold kinds → A → Result B Refusal) → Words → Result B Refusal
+  with_choices kinds choices none make words =
+      if nat_le (length kinds) (length words)
+      then and_then (all_told kinds words) (λ first. and_then (chosen choices none 0 (drop (length kinds) words)) (make first))
+      else Err WrongNumberOfArguments
