@@ -1,0 +1,94 @@
+-- The code's table against the rows of the definition.
+use Rattle.std.proofs.Common.{◌≡◌, ℕ, List, [], ◌∷◌, length, map, Bool, true, false, Result, Ok, Err, Option, Some, None, bytes_eq, refl, sym, ap, subst, ◌∙◌}
+use Rattle.std.proofs.lemmas.List.{length-map}
+use Rattle.std.specs.Prelude.{if◌then◌else◌, ◌&&◌, ◌||◌, ◌==◌}
+use Rattle.std.specs.List.{AllByRecursion}
+use Rattle.std.specs.Char.{to_ascii_lowercase}
+use Rattle.std.proofs.lemmas.Bool.{eq-eqb}
+use Rattle.std.proofs.lemmas.Slice.Eq.{bytes_eq-Decides}
+use Rattle.plain_model.specs.Words.{Words, in_lower_case}
+use Rattle.plain_model.specs.StringWords.{string_rows, Row as Definition}
+use Rattle.plain_model.specs.Shapes.{and_then}
+use Rattle.plain_model.specs.Meant.{string_command}
+use Rattle.plain_model.specs.declared.command.Command.{Command}
+use Rattle.plain_model.specs.declared.command.Command.TheVariants.{Strings}
+use Rattle.plain_model.specs.declared.refusal.Refusal.{Refusal}
+use Rattle.plain_model.specs.declared.refusal.Refusal.TheVariants.{UnknownCommand}
+use Rattle.command_table.specs.declared.table.Row.{Row}
+use Rattle.command_table.specs.declared.table.Name.{Name}
+use Rattle.command_table.specs.declared.table.Shape.{Shape}
+use Rattle.command_table.specs.Rows.{names, is_among, covered, told_by, IsTable, row_of, found_in, Finds}
+
+-- no name is the word
+abbrev IsNone : List ℕ → List (List ℕ) → Type 0
+IsNone lower ns = AllByRecursion (λ n. bytes_eq lower n ≡ false) ns
+
+-- a word that is no name means no command
+unknown : (rows : List Definition) (lower : List ℕ) (words : Words) (otherwise : Result Command Refusal) → IsNone lower (map (λ row. row.name) rows) → string_command rows lower words otherwise ≡ otherwise
+unknown [] lower words otherwise h = refl
+unknown (row ∷ rows) lower words otherwise h = ap (λ b. if b then and_then (row.read words) (λ command. Ok (Strings command)) else string_command rows lower words otherwise) h.0 ∙ unknown rows lower words otherwise h.1
+
+both : (a b : Bool) → (a && b) ≡ true → (a ≡ true) × (b ≡ true)
+both true b e = (refl, e)
+both false b e = cc
+
+among_none : (lower n : List ℕ) (others : List (List ℕ)) → IsNone lower others → is_among others n ≡ true → bytes_eq lower n ≡ false
+among_none lower n [] h e = cc
+among_none lower n (other ∷ others) h e =
+    elim (bytes_eq n other) as (λ b. bytes_eq n other ≡ b → (b || is_among others n) ≡ true → bytes_eq lower n ≡ false) [
+      | true ↦ λ s e. ap (bytes_eq lower) ((bytes_eq-Decides n other).0 s) ∙ h.0
+      | false ↦ λ s e. among_none lower n others h.1 e
+    ] refl e
+
+none_of_length : (lower : List ℕ) (ns others : List (List ℕ)) → IsNone lower others → covered (length lower) ns others ≡ true → IsNone lower ns
+none_of_length lower [] others h e = tt
+none_of_length lower (n ∷ ns) others h e =
+    let parts = both (if length n == length lower then is_among others n else true) (covered (length lower) ns others) e in
+    let here : bytes_eq lower n ≡ false =
+    elim (bytes_eq lower n) as (λ b. bytes_eq lower n ≡ b → b ≡ false) [
+      | false ↦ λ s. refl
+      | true ↦ λ s.
+          let same : lower ≡ n = (bytes_eq-Decides lower n).0 s in
+          let lengths : (length n == length lower) ≡ true = eq-eqb (length n) (length lower) (ap length (sym same)) in
+          let among : is_among others n ≡ true = sym (ap (λ b. if b then is_among others n else true) lengths) ∙ parts.0 in
+          sym s ∙ among_none lower n others h among
+    ] refl in
+    (here, none_of_length lower ns others h parts.1)
+
+-- what the look-up among some rows tells
+abbrev FindsIn : List Row → List ℕ → Option (Name × Shape) → Type 0
+FindsIn rows lower None = IsNone lower (map (λ row. in_lower_case row.0.now) rows)
+FindsIn rows lower (Some found) = (lower ≡ (row_of found.0).0) × (found.1 ≡ (row_of found.0).1)
+
+abbrev pub IsRow : Row → Type 0
+IsRow row = (in_lower_case row.0.now ≡ (row_of row.1).0) × (row.2 ≡ (row_of row.1).1)
+
+one_more : (row : Row) (rows : List Row) (lower : List ℕ) (answer : Option (Name × Shape)) → bytes_eq lower (in_lower_case row.0.now) ≡ false → FindsIn rows lower answer → FindsIn (row ∷ rows) lower answer
+one_more row rows lower None e h = (e, h)
+one_more row rows lower (Some found) e h = h
+
+finds_in : (rows : List Row) (word : List ℕ) → AllByRecursion IsRow rows → FindsIn rows (in_lower_case word) (found_in rows word)
+finds_in [] word h = tt
+finds_in (row ∷ rows) word h =
+    let lower = in_lower_case word in
+    elim (bytes_eq lower (in_lower_case row.0.now)) as (λ b. bytes_eq lower (in_lower_case row.0.now) ≡ b → FindsIn (row ∷ rows) lower (if b then Some (row.1, row.2) else found_in rows word)) [
+      | true ↦ λ e. ((bytes_eq-Decides lower (in_lower_case row.0.now)).0 e ∙ h.0.0, h.0.1)
+      | false ↦ λ e. one_more row rows lower (found_in rows word) e (finds_in rows word h.1)
+    ] refl
+
+finds_all : (rows : List Row) (word : List ℕ) (answer : Option (Name × Shape)) → covered (length (in_lower_case word)) names (map (λ row. in_lower_case row.0.now) rows) ≡ true → FindsIn rows (in_lower_case word) answer → Finds word answer
+finds_all rows word None covers h = λ words. unknown string_rows (in_lower_case word) words (Err UnknownCommand) (none_of_length (in_lower_case word) names _ h covers)
+finds_all rows word (Some found) covers h = h
+
+each_row : (rows : List Row) → map told_by rows ≡ map (λ row. row_of row.1) rows → AllByRecursion IsRow rows
+each_row [] e = tt
+each_row (row ∷ rows) e =
+    let here : told_by row ≡ row_of row.1 = cc in
+    let behind : map told_by rows ≡ map (λ row. row_of row.1) rows = cc in
+    ((ap (λ p. p.0) here, ap (λ p. p.1) here), each_row rows behind)
+
+pub finds : (rows : List Row) (word : List ℕ) (answer : Option (Name × Shape)) → IsTable rows (length word) → answer ≡ found_in rows word → Finds word answer
+finds rows word answer table e =
+    let lengths : length word ≡ length (in_lower_case word) = sym (length-map word to_ascii_lowercase) in
+    let C : ℕ → Type 0 = λ n. covered n names (map (λ row. in_lower_case row.0.now) rows) ≡ true in
+    subst (Finds word) (sym e) (finds_all rows word (found_in rows word) (subst C lengths table.whole) (finds_in rows word (each_row rows table.right)))
