@@ -1,0 +1,54 @@
+-- A string is lifted, changed and lowered again.
+use Rattle.std.proofs.Common.{◌≡◌, ℕ, List, [], ◌++◌, length, Option, Some, None, refl, sym, ap, subst, ◌∙◌}
+use Rattle.blocks.specs.declared.BlockRef.{BlockRef}
+use Rattle.blocks.specs.Blocks.{Blocks, Changes}
+use Rattle.string_object.specs.declared.text.Text.{Text}
+use Rattle.string_object.specs.Text.{text_bytes, text_refs}
+use Rattle.plain_model.specs.Worlds.{Str, Entry, look, put}
+use Rattle.plain_model.specs.Worlds as model
+use Rattle.plain_model.specs.StringSteps.{change, deadline_of}
+use Rattle.plain_model.specs.declared.ctx.Ctx.{Ctx}
+use Rattle.keyspace.specs.declared.value.Value.{Value}
+use Rattle.keyspace.specs.declared.value.Value.TheVariants as values
+use Rattle.keyspace.specs.declared.keyspace.Lifted.{Lifted}
+use Rattle.keyspace.specs.Values.{value_of, value_refs}
+use Rattle.keyspace.specs.Databases.{Bases, means}
+use Rattle.keyspace.specs.Sound.{IsIntact, Sound, SoundBeside}
+use Rattle.keyspace.specs.Calls.{Lifts, IsPlace, AreParts}
+use Rattle.keyspace.specs.Commands.{seen}
+use Rattle.keyspace.proofs.Uses.{Live-means, Lower-intact, Lower-sound, Lower-means}
+use Rattle.cmd_values.specs.Found.{IsThere, Becomes}
+
+-- the string of a value, and of what stands at a key
+abbrev value_string : model.Value → List ℕ
+value_string (Str bytes) = bytes
+
+abbrev string_of : Option Entry → List ℕ
+string_of None = []
+string_of (Some entry) = value_string entry.value
+
+module _ (at : Ctx) (old mid : Bases) (m own after : Blocks) (key : List ℕ) (lifted : Lifted) (text changed : Text) (is : lifted.value ≡ values.Text text) (same : own ≡ m)
+    (lifts : Lifts old mid m at.db key at.moment lifted) (sound : SoundBeside mid m (value_refs lifted.value ++ [])) (p : Changes own after (text_refs text) (text_refs changed)) where
+  abbrev lowered : Lifted
+  lowered = record { db = lifted.db; item = lifted.item; value = values.Text changed }
+
+  changes : Changes m after (value_refs lifted.value) (value_refs lowered.value)
+  changes = subst (λ b. Changes b after (value_refs lifted.value) (text_refs changed)) same (subst (λ v. Changes own after (value_refs v) (text_refs changed)) (sym is) p)
+
+  pub text_intact : IsIntact mid after (text_refs changed)
+  text_intact = Lower-intact old mid m after at.db at.moment key lifted lowered [] lifts sound changes refl refl
+
+  module _ (new : Bases) (later : Blocks) (stays : later ≡ after) where
+    pub text_sound : ((all out : List BlockRef) → SoundBeside mid after all → AreParts all (text_refs changed) out → SoundBeside new after out) → Sound new later
+    text_sound clause = subst (λ b. Sound new b) (sym stays) (Lower-sound old mid m after at.db at.moment key lifted lowered [] lifts sound changes refl refl new clause)
+
+    pub text_becomes : ((k : List ℕ) (deadline : Option ℕ) → IsPlace mid after lifted.db lifted.item k deadline → means lifted.db new after ≡ put (means lifted.db mid after) k (record { value = value_of after (values.Text changed); deadline = deadline }))
+        → (next : List ℕ → List ℕ) → text_bytes after changed ≡ next (text_bytes own text)
+        → Becomes (seen at old m) key next (seen at new later)
+    text_becomes clause next e bytes there =
+        let world = Lower-means old mid m after at.db at.moment key lifted lowered [] lifts sound changes refl refl new clause in
+        let deadline : lifts.deadline ≡ deadline_of (look (seen at old m) key) = sym (ap deadline_of lifts.stands) in
+        let was : text_bytes own text ≡ bytes = ap (λ b. text_bytes b text) same ∙ ap (λ v. value_string (value_of m v)) (sym is) ∙ sym (ap string_of lifts.stands) ∙ ap string_of there.stands in
+        Live-means at.db new later at.moment ∙ ap (means at.db new) stays ∙ world
+        ∙ ap (λ d. put (seen at old m) key (record { value = Str (text_bytes after changed); deadline = d })) deadline
+        ∙ ap (λ b. change (seen at old m) key b) (e ∙ ap next was)

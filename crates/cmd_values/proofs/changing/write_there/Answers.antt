@@ -1,0 +1,26 @@
+use Rattle.std.proofs.Common.{[], ◌++◌, ap, ◌∙◌}
+use Rattle.plain_model.specs.StringSteps.{written_over}
+use Rattle.cmd_values.proofs.Ranges.{ranged_over}
+use Rattle.cmd_values.proofs.Lowering.{text_intact, text_sound, text_becomes}
+use Rattle.cmd_values.proofs.changing.write_there.Goals as goal
+
+pub lower-requires-clause-intact : goal.lower-requires-clause-intact
+lower-requires-clause-intact g c =
+    text_intact c.args.at.now _ _ _ _ _ c.args.key.now c.in-Some.lifted c.into_text-text.result c.set_range-written.new.self c.into_text-text.ensures (ap g.B.BlockStore.blocks c.in-Some.ensures.store)
+    c.in-Some.ensures.lifts (c.in-Some.ensures.sound [] c.requires.sound) c.set_range-written.ensures.changes
+
+pub returns-in-Ok-clause-sound : goal.returns-in-Ok-clause-sound
+returns-in-Ok-clause-sound g c =
+    text_sound c.args.at.now _ _ _ _ _ c.args.key.now c.in-Some.lifted c.into_text-text.result c.set_range-written.new.self c.into_text-text.ensures (ap g.B.BlockStore.blocks c.in-Some.ensures.store)
+    c.in-Some.ensures.lifts (c.in-Some.ensures.sound [] c.requires.sound) c.set_range-written.ensures.changes _ _ (ap g.B.BlockStore.blocks c.lower.ensures.store) c.lower.ensures.sound
+
+pub returns-in-Err-clause-sound : goal.returns-in-Err-clause-sound
+returns-in-Err-clause-sound g c =
+    text_sound c.args.at.now _ _ _ _ _ c.args.key.now c.in-Some.lifted c.into_text-text.result c.set_range-written.new.self c.into_text-text.ensures (ap g.B.BlockStore.blocks c.in-Some.ensures.store)
+    c.in-Some.ensures.lifts (c.in-Some.ensures.sound [] c.requires.sound) c.set_range-written.ensures.changes _ _ (ap g.B.BlockStore.blocks c.lower.ensures.store) c.lower.ensures.sound
+
+pub returns-in-Ok-clause-becomes : goal.returns-in-Ok-clause-becomes
+returns-in-Ok-clause-becomes g c =
+    text_becomes c.args.at.now c.args.keyspace.now.bases c.lift.new.self.bases _ _ _ c.args.key.now c.in-Some.lifted c.into_text-text.result c.set_range-written.new.self c.into_text-text.ensures (ap g.B.BlockStore.blocks c.in-Some.ensures.store)
+    c.in-Some.ensures.lifts (c.in-Some.ensures.sound [] c.requires.sound) c.set_range-written.ensures.changes c.lower.new.self.bases _ (ap g.B.BlockStore.blocks c.lower.ensures.store) c.lower.ensures.means
+    (λ bytes. written_over bytes c.args.place c.args.piece.now) (c.in-Ok.ensures.bytes ∙ ranged_over _ c.args.place c.args.piece.now c.requires.some)

@@ -1,0 +1,68 @@
+-- The string at a key, and what a command on strings gives.
+use Rattle.std.specs.Prelude.{◌≡◌, ◌<◌, ◌^◌, ℕ, ℤ, List, [], ◌∷◌, length, map, Result, Option, Some, None, IfOk, Bool, true, false, if◌then◌else◌}
+use Rattle.blocks.specs.Blocks.{Blocks, Owned}
+use Rattle.string_object.specs.declared.text.Text.{Text}
+use Rattle.string_object.specs.Text.{text_bytes, text_refs}
+use Rattle.plain_model.specs.Worlds.{Str, Entry, World, look}
+use Rattle.plain_model.specs.Outcomes.{Outcome, IsRefusal, leaves}
+use Rattle.plain_model.specs.StringSteps.{string_outcome, on_string, or_null, string_or_null, number_at, change, ok}
+use Rattle.plain_model.specs.declared.command.StringCommand.{StringCommand}
+use Rattle.plain_model.specs.declared.reply.Part.{Part}
+use Rattle.plain_model.specs.declared.reply.Part.TheVariants.{Null}
+
+-- the string stands at the key, and its blocks are live
+pub record FoundText (world : World) (blocks : Blocks) (key : List ℕ) (text : Text) : Type 0 where
+  pub deadline : Option ℕ
+  pub stands : look world key ≡ Some (record { value = Str (text_bytes blocks text); deadline = deadline })
+  pub owned : Owned (text_refs text) blocks
+
+-- these bytes are the string at the key
+pub record IsThere (world : World) (key bytes : List ℕ) : Type 0 where
+  pub deadline : Option ℕ
+  pub stands : look world key ≡ Some (record { value = Str bytes; deadline = deadline })
+
+-- the string at the key has this length, or there is none
+abbrev pub HasLength : World → List ℕ → Option ℕ → Type 0
+HasLength world key None = look world key ≡ None
+HasLength world key (Some n) = (bytes : List ℕ) × IsThere world key bytes × (n ≡ length bytes) × (n < 2 ^ 63)
+
+-- the string at the key is changed
+abbrev pub Becomes : World → List ℕ → (List ℕ → List ℕ) → World → Type 0
+Becomes old key next new = (bytes : List ℕ) → IsThere old key bytes → new ≡ change old key (next bytes)
+
+-- whatever is made of the string at the key is made of this one, or of none
+abbrev pub IsBefore : World → List ℕ → Option (List ℕ) → Type 0
+IsBefore world key before = (answer : Option (List ℕ) → Outcome) → on_string world (look world key) answer ≡ answer before
+
+-- the reply is the string at the key, or null
+pub record OldValue (world : World) (key : List ℕ) (reply : List Part) : Type 0 where
+  pub before : Option (List ℕ)
+  pub is : IsBefore world key before
+  pub reply_is : reply ≡ or_null before ∷ []
+
+-- the number that the string at the key is, where it is one
+pub record NumberAt (world : World) (key : List ℕ) (number : Option ℤ) : Type 0 where
+  pub before : Option (List ℕ)
+  pub is : IsBefore world key before
+  pub number_is : number_at before ≡ number
+
+-- the string at a key, or null where none stands
+abbrev pub value_at : World → List ℕ → Part
+value_at world key = string_or_null (look world key)
+
+-- the string at each key, or null
+abbrev pub values_at : World → List (List ℕ) → List Part
+values_at world keys = map (value_at world) keys
+
+-- from the old world the command gives this reply, and leaves the new one
+abbrev pub Gives : {E : Type 0} → World → StringCommand → World → Result (List Part) E → Type 0
+Gives old command new result = IfOk result (λ reply. string_outcome old command ≡ leaves reply new)
+
+-- the reply is no error
+abbrev pub NoRefusal : {E : Type 0} → Result (List Part) E → Type 0
+NoRefusal result = IfOk result (λ reply. IsRefusal reply → ⊥)
+
+-- the reply of SET: the old value where it is asked for, else OK, or null where nothing is written
+abbrev pub IsSetReply : World → List ℕ → Bool → Bool → List Part → Type 0
+IsSetReply world key true written reply = OldValue world key reply
+IsSetReply world key false written reply = reply ≡ (if written then ok else Null) ∷ []
