@@ -14,23 +14,38 @@ def request(*words):
     return b"".join(parts)
 
 
-def main():
-    sizes = [int(word) for word in sys.argv[1:]]
-    count, keys, length = (sizes + [1_000_000, 100_000, 16][len(sizes):])[:3]
-    dice = random.Random(1)
+def write(requests):
+    """Writes requests to standard output, many at once."""
     out = sys.stdout.buffer
+    batch = []
+    for bytes_of_one in requests:
+        batch.append(bytes_of_one)
+        if len(batch) == 10_000:
+            out.write(b"".join(batch))
+            batch.clear()
+    out.write(b"".join(batch))
+
+
+def sizes(words, defaults):
+    """The numbers that are given, and the defaults of those that aren't."""
+    given = [int(word) for word in words]
+    return (given + defaults[len(given):])[: len(defaults)]
+
+
+def requests_of(kind, count, keys, length, dice):
+    for i in range(count):
+        key = b"key:%d" % dice.randrange(keys)
+        if kind == "set":
+            yield request(b"SET", key, (b"value:%d" % i).ljust(length, b"."))
+        else:
+            yield request(b"GET", key)
+
+
+def main():
+    count, keys, length = sizes(sys.argv[1:], [1_000_000, 1_000, 16])
+    dice = random.Random(1)
     for kind in ("set", "get"):
-        batch = []
-        for i in range(count):
-            key = b"key:%d" % dice.randrange(keys)
-            if kind == "set":
-                batch.append(request(b"SET", key, (b"value:%d" % i).ljust(length, b".")))
-            else:
-                batch.append(request(b"GET", key))
-            if len(batch) == 10_000:
-                out.write(b"".join(batch))
-                batch.clear()
-        out.write(b"".join(batch))
+        write(requests_of(kind, count, keys, length, dice))
 
 
 if __name__ == "__main__":
