@@ -1,5 +1,5 @@
 -- A string is lifted, changed and lowered again.
-use Rattle.std.proofs.Common.{◌≡◌, ℕ, List, [], ◌++◌, length, Option, Some, None, refl, sym, ap, subst, ◌∙◌}
+use Rattle.std.proofs.Common.{◌≡◌, ℕ, List, [], ◌++◌, Option, Some, None, refl, sym, ap, subst, ◌∙◌}
 use Rattle.blocks.specs.declared.BlockRef.{BlockRef}
 use Rattle.blocks.specs.Blocks.{Blocks, Changes}
 use Rattle.string_object.specs.declared.text.Text.{Text}
@@ -8,7 +8,6 @@ use Rattle.plain_model.specs.Worlds.{Str, Entry, look, put}
 use Rattle.plain_model.specs.Worlds as model
 use Rattle.plain_model.specs.StringSteps.{change, deadline_of}
 use Rattle.plain_model.specs.declared.ctx.Ctx.{Ctx}
-use Rattle.keyspace.specs.declared.value.Value.{Value}
 use Rattle.keyspace.specs.declared.value.Value.TheVariants as values
 use Rattle.keyspace.specs.declared.keyspace.Lifted.{Lifted}
 use Rattle.keyspace.specs.Values.{value_of, value_refs}
@@ -17,7 +16,7 @@ use Rattle.keyspace.specs.Sound.{IsIntact, Sound, SoundBeside}
 use Rattle.keyspace.specs.Calls.{Lifts, IsPlace, AreParts}
 use Rattle.keyspace.specs.Commands.{seen}
 use Rattle.keyspace.proofs.Uses.{Live-means, Lower-intact, Lower-sound, Lower-means}
-use Rattle.cmd_values.specs.Found.{IsThere, Becomes}
+use Rattle.cmd_values.specs.Found.{Becomes}
 
 -- the string of a value, and of what stands at a key
 abbrev value_string : model.Value → List ℕ

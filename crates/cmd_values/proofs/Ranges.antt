@@ -1,7 +1,7 @@
 -- Writing over a part of a string.
-use Rattle.std.proofs.Common.{◌≡◌, ℕ, ◌+◌, ◌-◌, ◌<◌, ◌≤◌, ◌==◌, List, [], ◌++◌, length, take, drop, replicate, false, refl, sym, ap, ◌∙◌, arith, length-append, length-drop, cond, inl, inr}
+use Rattle.std.proofs.Common.{◌≡◌, ℕ, ◌+◌, ◌-◌, ◌<◌, ◌≤◌, ◌==◌, List, ◌++◌, length, take, drop, replicate, false, sym, ap, ◌∙◌, arith, length-append, length-drop, cond, inl, inr}
 use Rattle.std.specs.Prelude.{max}
-use Rattle.std.proofs.lemmas.List.{take-append-le, take-replicate, append_assoc, append-nil, take_all, length-take-le, length-replicate}
+use Rattle.std.proofs.lemmas.List.{take-append-le, take-replicate, append-nil, take_all, length-take-le, length-replicate}
 use Rattle.std.proofs.Math.Seq.{take-append-add}
 use Rattle.std.proofs.lemmas.Bool.{ne_eqb, cases_lt}
 use Rattle.string_object.specs.Range.{ranged}

@@ -3,7 +3,7 @@ use Rattle.std.specs.Prelude.{◌≡◌, ◌<◌, ◌^◌, ℕ, ℤ, List, [], �
 use Rattle.blocks.specs.Blocks.{Blocks, Owned}
 use Rattle.string_object.specs.declared.text.Text.{Text}
 use Rattle.string_object.specs.Text.{text_bytes, text_refs}
-use Rattle.plain_model.specs.Worlds.{Str, Entry, World, look}
+use Rattle.plain_model.specs.Worlds.{Str, World, look}
 use Rattle.plain_model.specs.Outcomes.{Outcome, IsRefusal, leaves}
 use Rattle.plain_model.specs.StringSteps.{string_outcome, on_string, or_null, string_or_null, number_at, change, ok}
 use Rattle.plain_model.specs.declared.command.StringCommand.{StringCommand}

@@ -46,14 +46,16 @@ fn is_there<B: BlockStore>(keyspace: &Keyspace<B>, at: &Ctx, key: &[u8]) -> bool
     keyspace.look(at.db, key, at.moment).is_some()
 }
 
-// Whether SET writes.
-fn writes(condition: Condition, there: bool) -> bool
-    ensures { result ≡ allows condition there }
+// Whether SET writes. Only NX and XX look for the key.
+fn writes<B: BlockStore>(keyspace: &Keyspace<B>, at: &Ctx, key: &[u8], condition: Condition) -> bool
+    requires db { at.now.db < 16 }
+    requires sound { Sound keyspace.now.bases (B.blocks keyspace.now.store) }
+    ensures { result ≡ allows condition (is_some (look (seen at.now keyspace.now.bases (B.blocks keyspace.now.store)) key.now)) }
 {
     match condition {
         Condition::Always => true,
-        Condition::IfMissing => !there,
-        Condition::IfThere => there,
+        Condition::IfMissing => !is_there(keyspace, at, key),
+        Condition::IfThere => is_there(keyspace, at, key),
     }
 }
 
@@ -96,7 +98,7 @@ fn set_string<B: BlockStore>(
     ensures served { Served B.step keyspace.old.store keyspace.new.store }
     ensures settings { SameSettings keyspace.old.bases keyspace.new.bases }
 {
-    let written = writes(condition, is_there(keyspace, at, key));
+    let written = writes(keyspace, at, key, condition);
     let reply = set_reply(keyspace, at, key, get, written)?;
     if written {
         put_string(keyspace, at, key, value)?;

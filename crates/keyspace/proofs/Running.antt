@@ -15,7 +15,7 @@ use Rattle.keyspace.specs.Commands.{seen, Runs}
 pub outcome_is : (outcome : Outcome) (reply : List Part) (new : World) → outcome ≡ leaves reply new → IsOutcome outcome reply new
 outcome_is outcome reply new e = (sym (ap (λ o. o.reply) e), sym (ap (λ o. o.world) e))
 
-unchanged : {S E : Type 0} (old : S) (bases : Bases) (result : Result (List Part) E) → IfOk result (λ reply. IsRefusal reply → (old ≡ old) × (bases ≡ bases))
+pub unchanged : {S E : Type 0} (old : S) (bases : Bases) (result : Result (List Part) E) → IfOk result (λ reply. IsRefusal reply → (old ≡ old) × (bases ≡ bases))
 unchanged old bases (Ok reply) = λ refused. (refl, refl)
 unchanged old bases (Err e) = tt
 

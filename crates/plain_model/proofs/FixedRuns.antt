@@ -4,7 +4,7 @@ use Rattle.std.specs.Prelude.{MatchResult}
 use Rattle.std.specs.List.{AllByRecursion}
 use Rattle.plain_model.specs.Words.{Words}
 use Rattle.plain_model.specs.Worlds.{World, live}
-use Rattle.plain_model.specs.Meant.{understood}
+use Rattle.plain_model.specs.Meant.{meant}
 use Rattle.plain_model.specs.Steps.{may, step}
 use Rattle.plain_model.specs.Runs.{Call, run}
 use Rattle.plain_model.specs.Laws.{IsHeld}
@@ -30,7 +30,7 @@ meant_fixed seed old moment (Ok c) r new other a b = may_fixed seed (live old mo
 meant_fixed seed old moment (Err e) r new other a b = a.1 ∙ sym b.1
 
 pub step_fixed : (seed : ℕ) (old : World) (moment : ℕ) (words : Words) (r : List Part) (new other : World) → step seed old moment words r new → step seed old moment words r other → new ≡ other
-step_fixed seed old moment words r new other a b = meant_fixed seed old moment (understood words) r new other a b
+step_fixed seed old moment words r new other a b = meant_fixed seed old moment (meant words) r new other a b
 
 pub run_fixed : (seed : ℕ) (old : World) (calls : List Call) (r s : List (List Part)) (new other : World) → AllByRecursion IsHeld r → AllByRecursion IsHeld s → run seed old calls r new → run seed old calls s other → spelled r ≡ spelled s → (r ≡ s) × (new ≡ other)
 run_fixed seed old [] [] [] new other h k a b e = (refl, a ∙ sym b)

@@ -2,7 +2,7 @@
 use Rattle.std.specs.Prelude.{◌≡◌, ℕ, List, [], ◌∷◌, MatchResult}
 use Rattle.plain_model.specs.Words.{Words}
 use Rattle.plain_model.specs.Worlds.{World, live}
-use Rattle.plain_model.specs.Meant.{understood}
+use Rattle.plain_model.specs.Meant.{meant}
 use Rattle.plain_model.specs.StringSteps.{may_strings}
 use Rattle.plain_model.specs.declared.command.Command.{Command}
 use Rattle.plain_model.specs.declared.command.Command.TheVariants.{Strings}
@@ -16,4 +16,4 @@ may seed old moment (Strings command) reply new = may_strings old command reply 
 -- the same of a request and any world: what is gone at the moment is not seen, and a request that is refused changes nothing
 abbrev pub step : ℕ → World → ℕ → Words → List Part → World → Type 0
 step seed old moment words reply new =
-    MatchResult (understood words) (λ command. may seed (live old moment) moment command reply new) (λ refusal. (reply ≡ Refused refusal ∷ []) × (new ≡ live old moment))
+    MatchResult (meant words) (λ command. may seed (live old moment) moment command reply new) (λ refusal. (reply ≡ Refused refusal ∷ []) × (new ≡ live old moment))

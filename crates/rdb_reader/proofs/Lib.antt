@@ -1,4 +1,4 @@
-pub mod Maps
-pub mod Worlds
 pub mod Fetched
 pub mod Read
+pub mod Entries
+pub mod Clears

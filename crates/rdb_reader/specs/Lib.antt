@@ -1,3 +1,2 @@
-pub mod Held
 pub mod Fetching
 pub mod Loads

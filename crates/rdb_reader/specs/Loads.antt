@@ -1,12 +1,11 @@
 -- What loading does: the file's world or its first fault.
 use Rattle.std.specs.Prelude.{◌≡◌, ℕ, ◌+◌, ◌<◌, ◌≤◌, List, length, Option, None, Result, Ok, Err, Bool, true, false}
-use Rattle.std.specs.FinMap.{get, insert, len}
-use Rattle.plain_model.specs.Worlds.{Database, Value, no_keys}
+use Rattle.std.specs.FinMap.{len}
+use Rattle.plain_model.specs.Worlds.{World, Value, new_world, look, put}
 use Rattle.rdb_grammar.specs.declared.fault.LoadKind.{LoadKind}
 use Rattle.rdb_grammar.specs.declared.fault.ItemFault.{ItemFault}
 use Rattle.rdb_grammar.specs.declared.fault.ItemFault.TheVariants as items
 use Rattle.rdb_grammar.specs.Files.{State, Reached, IsFile, IsFault}
-use Rattle.rdb_reader.specs.Held.{world_of}
 use Rattle.rdb_reader.specs.Fetching.{IsFileOf, IsLongFile}
 use Rattle.rdb_reader.specs.declared.fault.LoadFault.{LoadFault}
 use Rattle.rdb_reader.specs.declared.fault.LoadFault.TheVariants as faults
@@ -15,15 +14,15 @@ use Rattle.rdb_reader.specs.declared.items.Read.TheVariants as read
 use Rattle.rdb_reader.specs.declared.loading.Loaded.{Loaded}
 
 -- a key was put, which wasn't there; or it was there, and nothing is put
-abbrev pub Puts : Database → Database → List ℕ → Value → Bool → Type 0
-Puts old new key value true = (get old key ≡ None) × (new ≡ insert old key (record { value = value; deadline = None }))
-Puts old new key value false = ((get old key ≡ None) → ⊥) × (new ≡ old)
+abbrev pub Puts : World → World → List ℕ → Value → Bool → Type 0
+Puts old new key value true = (look old key ≡ None) × (new ≡ put old key (record { value = value; deadline = None }))
+Puts old new key value false = ((look old key ≡ None) → ⊥) × (new ≡ old)
 
--- up to this place the bytes are a header and whole items, which lead to these keys
-pub record Holds (bytes : List ℕ) (at : ℕ) (base : Database) : Type 0 where
+-- up to this place the bytes are a header and whole items, which lead to this world
+pub record Holds (bytes : List ℕ) (moment at : ℕ) (world : World) : Type 0 where
   pub state : State
-  pub reached : Reached bytes 0 at state
-  pub world : state.world ≡ world_of base
+  pub reached : Reached bytes moment at state
+  pub leads : state.world ≡ world
   pub deadline : state.deadline ≡ None
 
 -- the fault of an item, as one of loading
@@ -32,49 +31,49 @@ load_fault items.Memory = faults.Memory
 load_fault (items.Refused what place) = faults.Refused what place
 
 -- an item is read, and the next one begins there
-pub record Advances (bytes : List ℕ) (at next : ℕ) (new : Database) : Type 0 where
-  pub holds : Holds bytes next new
+pub record Advances (bytes : List ℕ) (moment at next : ℕ) (new : World) : Type 0 where
+  pub holds : Holds bytes moment next new
   pub further : at < next
   pub within : next ≤ length bytes
 
 -- the next item is read
-abbrev pub Reads : List ℕ → ℕ → Database → Database → Result Read LoadFault → Type 0
-Reads bytes at old new (Ok (read.Key next)) = Advances bytes at next new × (len new ≡ len old + 1)
-Reads bytes at old new (Ok (read.Other next)) = Advances bytes at next new × (new ≡ old)
-Reads bytes at old new (Ok read.End) = IsFile bytes 0 (world_of new) × (new ≡ old)
-Reads bytes at old new (Err (faults.Refused what place)) = IsFault bytes 0 what place
-Reads bytes at old new (Err faults.Host) = ⊥
-Reads bytes at old new (Err faults.Limit) = ⊥
-Reads bytes at old new (Err faults.Memory) = Unit {0}
+abbrev pub Reads : List ℕ → ℕ → ℕ → World → World → Result Read LoadFault → Type 0
+Reads bytes moment at old new (Ok (read.Key next)) = Advances bytes moment at next new × (len (new.bases 0) ≡ len (old.bases 0) + 1)
+Reads bytes moment at old new (Ok (read.Other next)) = Advances bytes moment at next new × (new ≡ old)
+Reads bytes moment at old new (Ok read.End) = IsFile bytes moment new × (new ≡ old)
+Reads bytes moment at old new (Err (faults.Refused what place)) = IsFault bytes moment what place
+Reads bytes moment at old new (Err faults.Host) = ⊥
+Reads bytes moment at old new (Err faults.Limit) = ⊥
+Reads bytes moment at old new (Err faults.Memory) = Unit {0}
 
 -- all items are read, and so many keys
-abbrev pub ReadsAll : List ℕ → Database → Result ℕ LoadFault → Type 0
-ReadsAll bytes new (Ok keys) = IsFile bytes 0 (world_of new) × (keys ≡ len new)
-ReadsAll bytes new (Err (faults.Refused what place)) = IsFault bytes 0 what place
-ReadsAll bytes new (Err faults.Host) = ⊥
-ReadsAll bytes new (Err faults.Limit) = ⊥
-ReadsAll bytes new (Err faults.Memory) = Unit {0}
+abbrev pub ReadsAll : List ℕ → ℕ → World → Result ℕ LoadFault → Type 0
+ReadsAll bytes moment new (Ok keys) = IsFile bytes moment new × (keys ≡ len (new.bases 0))
+ReadsAll bytes moment new (Err (faults.Refused what place)) = IsFault bytes moment what place
+ReadsAll bytes moment new (Err faults.Host) = ⊥
+ReadsAll bytes moment new (Err faults.Limit) = ⊥
+ReadsAll bytes moment new (Err faults.Memory) = Unit {0}
 
 -- the file's world is loaded: its keys are all kept, and none is passed over
-pub record LoadsFile (files : Option (List ℕ → Option (List ℕ))) (name : List ℕ) (limit : ℕ) (base : Database) (loaded : Loaded) : Type 0 where
+pub record LoadsFile (files : Option (List ℕ → Option (List ℕ))) (name : List ℕ) (limit moment : ℕ) (world : World) (loaded : Loaded) : Type 0 where
   pub bytes : List ℕ
   pub is : IsFileOf files name bytes
   pub few : length bytes ≤ limit
-  pub file : IsFile bytes 0 (world_of base)
-  pub keys : loaded.keys ≡ len base
+  pub file : IsFile bytes moment world
+  pub keys : loaded.keys ≡ len (world.bases 0)
   pub passed : loaded.passed ≡ 0
 
 -- the file has this first fault
-pub record RefusesFile (files : Option (List ℕ → Option (List ℕ))) (name : List ℕ) (limit : ℕ) (what : LoadKind) (at : ℕ) : Type 0 where
+pub record RefusesFile (files : Option (List ℕ → Option (List ℕ))) (name : List ℕ) (limit moment : ℕ) (what : LoadKind) (at : ℕ) : Type 0 where
   pub bytes : List ℕ
   pub is : IsFileOf files name bytes
   pub few : length bytes ≤ limit
-  pub fault : IsFault bytes 0 what at
+  pub fault : IsFault bytes moment what at
 
--- what `load` answers
-abbrev pub Loads : Option (List ℕ → Option (List ℕ)) → List ℕ → ℕ → Type 0 → Database → Result Loaded LoadFault → Type 0
-Loads files name limit rose base (Ok loaded) = LoadsFile files name limit base loaded
-Loads files name limit rose base (Err (faults.Refused what at)) = RefusesFile files name limit what at × (base ≡ no_keys)
-Loads files name limit rose base (Err faults.Host) = rose × (base ≡ no_keys)
-Loads files name limit rose base (Err faults.Limit) = IsLongFile files name limit × (base ≡ no_keys)
-Loads files name limit rose base (Err faults.Memory) = base ≡ no_keys
+-- what `load` answers, and the world that it leaves: after a fault the new one
+abbrev pub Loads : Option (List ℕ → Option (List ℕ)) → List ℕ → ℕ → ℕ → Type 0 → World → Result Loaded LoadFault → Type 0
+Loads files name limit moment rose world (Ok loaded) = LoadsFile files name limit moment world loaded
+Loads files name limit moment rose world (Err (faults.Refused what at)) = RefusesFile files name limit moment what at × (world ≡ new_world)
+Loads files name limit moment rose world (Err faults.Host) = rose × (world ≡ new_world)
+Loads files name limit moment rose world (Err faults.Limit) = IsLongFile files name limit × (world ≡ new_world)
+Loads files name limit moment rose world (Err faults.Memory) = world ≡ new_world

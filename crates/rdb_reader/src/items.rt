@@ -1,49 +1,18 @@
 //! The items of a file, one by one.
 
-ghost use Rattle.std.specs.Prelude.{◌≡◌, ◌≤◌, ◌++◌, length, IfOk, OnOk, OnErr, [], is_some};
-ghost use Rattle.std.specs.FinMap as map;
-ghost use Rattle.plain_model.specs.Worlds.{no_keys};
-ghost use Rattle.rdb_grammar.specs.Views.{text_of, value_of};
-ghost use Rattle.rdb_reader.specs.Held.{base_of};
-ghost use Rattle.rdb_reader.specs.Loads.{Puts, Holds, Reads, ReadsAll, load_fault};
+ghost use Rattle.std.specs.Prelude.{◌≡◌};
+ghost use Rattle.blocks.specs.Blocks.{Served};
+ghost use Rattle.plain_model.specs.Worlds.{new_world};
+ghost use Rattle.keyspace.specs.Databases.{means, SameSettings};
+ghost use Rattle.keyspace.specs.Sound.{Sound};
+ghost use Rattle.rdb_reader.specs.Loads.{Holds, Reads, ReadsAll, load_fault};
 
-use crate::Memory;
 use crate::fault::LoadFault;
-use crate::values::{put_value, value_at};
-use rdb_grammar::{
-    Chunk, FileFault, FileValue, ItemFault, LoadKind, Meaning, check_header, check_sum, next_item,
-};
+use crate::keys::put_key;
+use blocks::BlockStore;
+use keyspace::Keyspace;
+use rdb_grammar::{FileFault, ItemFault, LoadKind, Meaning, check_header, check_sum, next_item};
 use std::alloc::Global;
-use std::collections::BTreeMap;
-
-// The text of a string, on its own.
-fn own_text(alloc: Global, chunk: &Chunk<'_>) -> Result<Vec<u8>, Memory>
-    ensures { IfOk result (λ v. v.items ≡ text_of chunk.now) }
-{
-    let mut text = Vec::new(alloc);
-    chunk.append_to(&mut text)?;
-    Ok(text)
-}
-
-// Puts a key with its value, and says whether it wasn't there.
-fn put_key(
-    alloc: Global,
-    name: &Chunk<'_>,
-    value: &FileValue<'_>,
-    map: &mut BTreeMap<Vec<u8>, Vec<u8>>,
-) -> Result<bool, Memory>
-    ensures { IfOk result (λ fresh. Puts (base_of map.old.entries) (base_of map.new.entries) (text_of name.now) (value_of value.now) fresh) }
-{
-    let name = own_text(alloc, name)?;
-    if value_at(map, name.as_slice()).is_some() {
-        return Ok(false);
-    }
-    let value = match value {
-        FileValue::Text(text) => own_text(alloc, text)?,
-    };
-    put_value(map, name, value)?;
-    Ok(true)
-}
 
 /// What the reading of an item led to.
 #[derive(Clone, Copy)]
@@ -77,14 +46,20 @@ fn not_read(fault: ItemFault) -> LoadFault
 }
 
 // Reads the item at an offset.
-fn read_item(
+#[tactic(auto, using(keyspace::proofs::Serving::nothing, keyspace::proofs::Serving::both))]
+fn read_item<B: BlockStore>(
     alloc: Global,
     bytes: &[u8],
     at: usize,
-    map: &mut BTreeMap<Vec<u8>, Vec<u8>>,
+    keyspace: &mut Keyspace<B>,
+    moment: u64,
 ) -> Result<Read, LoadFault>
-    requires { Holds bytes.now at (base_of map.old.entries) }
-    ensures { Reads bytes.now at (base_of map.old.entries) (base_of map.new.entries) result }
+    requires held { Holds bytes.now moment at (means 0 keyspace.old.bases (B.blocks keyspace.old.store)) }
+    requires sound { Sound keyspace.old.bases (B.blocks keyspace.old.store) }
+    ensures reads { Reads bytes.now moment at (means 0 keyspace.old.bases (B.blocks keyspace.old.store)) (means 0 keyspace.new.bases (B.blocks keyspace.new.store)) result }
+    ensures sound { Sound keyspace.new.bases (B.blocks keyspace.new.store) }
+    ensures served { Served B.step keyspace.old.store keyspace.new.store }
+    ensures settings { SameSettings keyspace.old.bases keyspace.new.bases }
 {
     let item = match next_item(alloc, bytes, at) {
         Ok(item) => item,
@@ -95,7 +70,7 @@ fn read_item(
             Ok(_) => Ok(Read::End),
             Err(fault) => Err(refused(fault)),
         },
-        Meaning::Key { name, value } => match put_key(alloc, &name, &value, map) {
+        Meaning::Key { name, value } => match put_key(keyspace, &name, &value, moment) {
             Ok(true) => Ok(Read::Key(item.next)),
             Ok(false) => Err(LoadFault::Refused {
                 kind: LoadKind::DuplicateKey,
@@ -109,14 +84,22 @@ fn read_item(
     }
 }
 
-/// Reads the items of a file, and says how many keys it has.
-pub fn read_items(
+/// Reads the items of a file into a keyspace without a key at a moment, in milliseconds, and says how many keys it has.
+///
+/// `Refused` comes exactly by the file's first fault, and `Memory` for want of memory. Some keys may stand after a fault.
+#[tactic(auto, using(keyspace::proofs::Serving::nothing, keyspace::proofs::Serving::both))]
+pub fn read_items<B: BlockStore>(
     alloc: Global,
     bytes: &[u8],
-    map: &mut BTreeMap<Vec<u8>, Vec<u8>>,
+    keyspace: &mut Keyspace<B>,
+    moment: u64,
 ) -> Result<u64, LoadFault>
-    requires { base_of map.old.entries ≡ no_keys }
-    ensures { ReadsAll bytes.now (base_of map.new.entries) result }
+    requires empty { means 0 keyspace.old.bases (B.blocks keyspace.old.store) ≡ new_world }
+    requires sound { Sound keyspace.old.bases (B.blocks keyspace.old.store) }
+    ensures reads { ReadsAll bytes.now moment (means 0 keyspace.new.bases (B.blocks keyspace.new.store)) result }
+    ensures sound { Sound keyspace.new.bases (B.blocks keyspace.new.store) }
+    ensures served { Served B.step keyspace.old.store keyspace.new.store }
+    ensures settings { SameSettings keyspace.old.bases keyspace.new.bases }
 {
     let mut at = match check_header(bytes) {
         Ok(at) => at,
@@ -124,7 +107,7 @@ pub fn read_items(
     };
     let mut keys: u64 = 0;
     'items: loop {
-        match read_item(alloc, bytes, at, map) {
+        match read_item(alloc, bytes, at, keyspace, moment) {
             Ok(Read::Key(next)) => {
                 keys += 1;
                 at = next;

@@ -1,17 +1,20 @@
-//! Loading a file into a map.
+//! Loading a file into a keyspace.
 
-ghost use Rattle.std.specs.Prelude.{◌≡◌, ◌≤◌};
+ghost use Rattle.std.specs.Prelude.{◌≡◌};
 ghost use Rattle.outside.specs.Counts.{Rose};
-ghost use Rattle.plain_model.specs.Worlds.{no_keys};
-ghost use Rattle.rdb_reader.specs.Held.{base_of};
+ghost use Rattle.blocks.specs.Blocks.{Served};
+ghost use Rattle.plain_model.specs.Worlds.{new_world};
+ghost use Rattle.keyspace.specs.Databases.{means, SameSettings};
+ghost use Rattle.keyspace.specs.Sound.{Sound};
 ghost use Rattle.rdb_reader.specs.Loads.{Loads};
 
 use crate::fault::LoadFault;
 use crate::fetch::fetch;
 use crate::items::read_items;
+use blocks::BlockStore;
+use keyspace::Keyspace;
 use outside::Host;
 use std::alloc::Global;
-use std::collections::BTreeMap;
 
 /// What a file held.
 #[derive(Clone, Copy, Debug, PartialEq, Eq)]
@@ -22,28 +25,48 @@ pub struct Loaded {
     pub passed: u64,
 }
 
-/// Loads the host's file of this name, of at most so many bytes, into a map without a key.
+// Removes all keys of all databases with all their blocks, without memory.
+fn clear_all<B: BlockStore>(keyspace: &mut Keyspace<B>)
+    requires { Sound keyspace.old.bases (B.blocks keyspace.old.store) }
+    ensures empty { means 0 keyspace.new.bases (B.blocks keyspace.new.store) ≡ new_world }
+    ensures sound { Sound keyspace.new.bases (B.blocks keyspace.new.store) }
+    ensures served { Served B.step keyspace.old.store keyspace.new.store }
+    ensures settings { SameSettings keyspace.old.bases keyspace.new.bases }
+{
+    'databases: for db in 0..16 {
+        keyspace.clear(db);
+    }
+}
+
+/// Loads the host's file of this name, of at most so many bytes, into a keyspace without a key. A key whose deadline the
+/// moment is past is passed over; the moment is in milliseconds.
 ///
 /// `Refused` comes exactly where the format excludes the file, with its first fault; `Host` only where the host's count
-/// of faults rose; `Limit` exactly where the file has more bytes than the limit. After each fault the map has no key.
-pub fn load<H: Host>(
+/// of faults rose; `Limit` exactly where the file has more bytes than the limit. After each fault the keyspace has no key.
+#[tactic(auto, using(keyspace::proofs::Serving::nothing, keyspace::proofs::Serving::both))]
+pub fn load<H: Host, B: BlockStore>(
     alloc: Global,
     host: &mut H,
     name: &str,
     limit: u64,
-    map: &mut BTreeMap<Vec<u8>, Vec<u8>>,
+    keyspace: &mut Keyspace<B>,
+    moment: u64,
 ) -> Result<Loaded, LoadFault>
-    requires empty { base_of map.old.entries ≡ no_keys }
-    ensures { Loads (H.files host.old) name.now limit (Rose (H.faults host.old) (H.faults host.new)) (base_of map.new.entries) result }
+    requires empty { means 0 keyspace.old.bases (B.blocks keyspace.old.store) ≡ new_world }
+    requires sound { Sound keyspace.old.bases (B.blocks keyspace.old.store) }
+    ensures loads { Loads (H.files host.old) name.now limit moment (Rose (H.faults host.old) (H.faults host.new)) (means 0 keyspace.new.bases (B.blocks keyspace.new.store)) result }
+    ensures sound { Sound keyspace.new.bases (B.blocks keyspace.new.store) }
+    ensures served { Served B.step keyspace.old.store keyspace.new.store }
+    ensures settings { SameSettings keyspace.old.bases keyspace.new.bases }
 {
     let bytes = match fetch(alloc, host, name, limit) {
         Ok(bytes) => bytes,
         Err(fault) => return Err(fault),
     };
-    match read_items(alloc, bytes.as_slice(), map) {
+    match read_items(alloc, bytes.as_slice(), keyspace, moment) {
         Ok(keys) => Ok(Loaded { keys, passed: 0 }),
         Err(fault) => {
-            map.clear();
+            clear_all(keyspace);
             Err(fault)
         }
     }

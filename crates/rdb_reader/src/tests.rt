@@ -1,16 +1,71 @@
 //! Files of strings, loaded from a host in memory. The expected answers are worked out from the format.
 
+ghost use Rattle.std.specs.Prelude.{◌<◌};
+
 use crate::{LoadFault, Loaded, load};
+use blocks::PlainStore;
+use keyspace::{Keyspace, Value};
+use object_codec::Limits;
 use outside::MemHost;
 use rdb_grammar::LoadKind;
 use std::alloc::{AllocError, Global};
-use std::collections::BTreeMap;
+use std::marker::Model;
 use std::test::Fail;
+use string_object::Text;
 
 // The key `a` with the number 5.
 const NUMBER: &[u8] = b"REDIS0011\xfe\x00\x00\x01a\xc0\x05\xff\0\0\0\0\0\0\0\0";
 
-type Map = BTreeMap<Vec<u8>, Vec<u8>>;
+const ONE: Loaded = Loaded { keys: 1, passed: 0 };
+
+// A keyspace over a plain store that is sound from call to call.
+#[derive(Drop)]
+struct Held {
+    keyspace: Keyspace<PlainStore>,
+}
+
+impl Model for Held {
+    ghost use Rattle.std.specs.Prelude.{ℕ};
+    ghost use Rattle.blocks.specs.Plain.{plain_blocks};
+    ghost use Rattle.keyspace.specs.Sound.{Sound};
+
+    ghost Value = { ℕ };
+
+    ghost view = { λ held. 0 };
+
+    ghost invariant = { λ held. Sound held.keyspace.bases (plain_blocks held.keyspace.store) };
+}
+
+impl Held {
+    fn count(&self, db: usize) -> u64
+        requires { db < 16 }
+    {
+        self.keyspace.count(db)
+    }
+
+    fn is_empty(&self) -> bool {
+        for db in 0..16 {
+            if self.count(db) > 0 {
+                return false;
+            }
+        }
+        true
+    }
+
+    // Whether these bytes stand at the key.
+    fn has(&self, key: &[u8], bytes: &[u8]) -> bool {
+        let mut room = [0; 20];
+        match self.keyspace.look(0, key, 0) {
+            None => false,
+            Some(value) => value.as_text().bytes(&self.keyspace.store, &mut room) == bytes,
+        }
+    }
+
+    fn set(&mut self, key: &[u8], bytes: &[u8]) -> Result<(), AllocError> {
+        let text = Text::make(&mut self.keyspace.store, bytes)?;
+        self.keyspace.put(0, key, Value::Text(text), None)
+    }
+}
 
 // Loads the file `f` of these bytes, where the calls of these numbers fail.
 fn loaded(
@@ -19,25 +74,54 @@ fn loaded(
     name: &str,
     failing: &[u64],
     limit: u64,
-) -> Result<(Map, Result<Loaded, LoadFault>), AllocError> {
+) -> Result<(Held, Result<Loaded, LoadFault>), AllocError> {
     let names = vec![in alloc; String::from_str(alloc, "f")?]?;
     let files = vec![in alloc; Vec::from_slice(alloc, bytes)?]?;
     let mut host = MemHost::new(names, files, Vec::from_slice(alloc, failing)?);
-    let mut map: Map = BTreeMap::new(alloc);
-    let answer = load(alloc, &mut host, name, limit, &mut map);
-    Ok((map, answer))
+    let mut keyspace = Keyspace::new(alloc, PlainStore::new(alloc), Limits::default(), 0)?;
+    let answer = load(alloc, &mut host, name, limit, &mut keyspace, 0);
+    Ok((Held { keyspace }, answer))
 }
 
 const MANY: u64 = 1_000_000;
 
 #[test]
 fn a_number_is_its_text(rt: HostRuntime) -> Result<(), Fail> {
-    let (map, answer) = loaded(rt.alloc(), NUMBER, "f", &[], MANY)?;
-    assert_eq!(rt; answer, Ok(Loaded { keys: 1, passed: 0 }));
-    assert_eq!(rt;
-        map.get(b"a".as_slice()).map(|v| v.as_slice()),
-        Some(b"5".as_slice())
-    );
+    let (held, answer) = loaded(rt.alloc(), NUMBER, "f", &[], MANY)?;
+    assert_eq!(rt; answer, Ok(ONE));
+    assert_eq!(rt; held.count(0), 1);
+    assert!(rt; held.has(b"a", b"5"));
+    Ok(())
+}
+
+#[test]
+fn strings_of_each_form(rt: HostRuntime) -> Result<(), Fail> {
+    let bytes =
+        b"REDIS0011\xfe\x00\x00\x01t\x04text\x00\xc1\x39\x30\xc2\x15\xcd\x5b\x07\x00\x00\xc0\x80\xff\0\0\0\0\0\0\0\0";
+    let (held, answer) = loaded(rt.alloc(), bytes, "f", &[], MANY)?;
+    assert_eq!(rt; answer, Ok(Loaded { keys: 3, passed: 0 }));
+    assert_eq!(rt; held.count(0), 3);
+    assert!(rt; held.has(b"t", b"text"));
+    assert!(rt; held.has(b"12345", b"123456789"));
+    assert!(rt; held.has(b"", b"-128"));
+    Ok(())
+}
+
+#[test]
+fn a_key_is_put_after_a_fault(rt: HostRuntime) -> Result<(), Fail> {
+    // the key `a` stands before the fault
+    let bytes = b"REDIS0011\x00\x01a\x04text\x00\x01b";
+    let (mut held, answer) = loaded(rt.alloc(), bytes, "f", &[], MANY)?;
+    let due = LoadFault::Refused {
+        kind: LoadKind::Ended,
+        at: 20,
+    };
+    assert_eq!(rt; answer, Err(due));
+    assert!(rt; held.is_empty());
+    assert!(rt; !held.has(b"a", b"text"));
+    held.set(b"a", b"other")?;
+    assert!(rt; held.has(b"a", b"other"));
+    assert_eq!(rt; held.count(0), 1);
     Ok(())
 }
 
@@ -89,13 +173,13 @@ const ROWS: [Row; 9] = [
 #[test]
 fn refused_files(rt: HostRuntime) -> Result<(), Fail> {
     for Row(bytes, kind, at) in &ROWS {
-        let (map, answer) = loaded(rt.alloc(), bytes, "f", &[], MANY)?;
+        let (held, answer) = loaded(rt.alloc(), bytes, "f", &[], MANY)?;
         let due = LoadFault::Refused {
             kind: *kind,
             at: *at,
         };
         assert_eq!(rt; answer, Err(due));
-        assert!(rt; map.is_empty());
+        assert!(rt; held.is_empty());
     }
     Ok(())
 }
@@ -103,13 +187,13 @@ fn refused_files(rt: HostRuntime) -> Result<(), Fail> {
 #[test]
 fn files_cut_short(rt: HostRuntime) -> Result<(), Fail> {
     for k in 0..NUMBER.len() {
-        let (map, answer) = loaded(rt.alloc(), &NUMBER[..k], "f", &[], MANY)?;
+        let (held, answer) = loaded(rt.alloc(), &NUMBER[..k], "f", &[], MANY)?;
         let due = LoadFault::Refused {
             kind: LoadKind::Ended,
             at: k as u64,
         };
         assert_eq!(rt; answer, Err(due));
-        assert!(rt; map.is_empty());
+        assert!(rt; held.is_empty());
     }
     Ok(())
 }
@@ -119,14 +203,14 @@ fn hosts_and_limits(rt: HostRuntime) -> Result<(), Fail> {
     let (_, answer) = loaded(rt.alloc(), NUMBER, "g", &[], MANY)?;
     assert_eq!(rt; answer, Err(LoadFault::Host));
     for call in 0..3 {
-        let (map, answer) = loaded(rt.alloc(), NUMBER, "f", &[call], MANY)?;
+        let (held, answer) = loaded(rt.alloc(), NUMBER, "f", &[call], MANY)?;
         assert_eq!(rt; answer, Err(LoadFault::Host));
-        assert!(rt; map.is_empty());
+        assert!(rt; held.is_empty());
     }
     let (_, answer) = loaded(rt.alloc(), NUMBER, "f", &[3], MANY)?;
-    assert_eq!(rt; answer, Ok(Loaded { keys: 1, passed: 0 }));
+    assert_eq!(rt; answer, Ok(ONE));
     let (_, answer) = loaded(rt.alloc(), NUMBER, "f", &[], 25)?;
-    assert_eq!(rt; answer, Ok(Loaded { keys: 1, passed: 0 }));
+    assert_eq!(rt; answer, Ok(ONE));
     let (_, answer) = loaded(rt.alloc(), NUMBER, "f", &[], 24)?;
     assert_eq!(rt; answer, Err(LoadFault::Limit));
     Ok(())
@@ -176,13 +260,13 @@ fn each_byte_changed(rt: HostRuntime) -> Result<(), Fail> {
     for Flip(bits, from, to, kind, at) in &FLIPS {
         for place in *from..*to {
             let bytes = flipped(rt.alloc(), *bits, place)?;
-            let (map, answer) = loaded(rt.alloc(), bytes.as_slice(), "f", &[], MANY)?;
+            let (held, answer) = loaded(rt.alloc(), bytes.as_slice(), "f", &[], MANY)?;
             let due = LoadFault::Refused {
                 kind: *kind,
                 at: *at,
             };
             assert_eq!(rt; answer, Err(due));
-            assert!(rt; map.is_empty());
+            assert!(rt; held.is_empty());
         }
     }
     Ok(())
@@ -202,9 +286,9 @@ const KEPT: [Kept; 4] = [
 fn bytes_of_keys_and_values_changed(rt: HostRuntime) -> Result<(), Fail> {
     for Kept(bits, place, key, value) in &KEPT {
         let bytes = flipped(rt.alloc(), *bits, *place)?;
-        let (map, answer) = loaded(rt.alloc(), bytes.as_slice(), "f", &[], MANY)?;
-        assert_eq!(rt; answer, Ok(Loaded { keys: 1, passed: 0 }));
-        assert_eq!(rt; map.get(*key).map(|v| v.as_slice()), Some(*value));
+        let (held, answer) = loaded(rt.alloc(), bytes.as_slice(), "f", &[], MANY)?;
+        assert_eq!(rt; answer, Ok(ONE));
+        assert!(rt; held.has(key, value));
     }
     Ok(())
 }

@@ -1,55 +1,68 @@
--- Steps at the moment 0, at which nothing is gone, in worlds with one database.
-use Rattle.std.proofs.Common.{◌≡◌, ℕ, List, [], ◌∷◌, Option, Some, None, Bool, true, cond, Result, Ok, Err, IfOk, refl, sym, ap, subst, ◌∙◌, arith, Equal}
+-- Requests as steps of the model.
+use Rattle.std.proofs.Common.{◌≡◌, ℕ, List, [], ◌∷◌, Result, Ok, Err, IfOk, refl, sym, subst}
 use Rattle.std.specs.Prelude.{MatchResult}
-use Rattle.std.specs.FinMap.{get, same_map, get-retain_keys, nat_cmp-IsAntisymmetric, slice_cmp-IsAntisymmetric}
-use Rattle.std.specs.Ordering.{nat_cmp}
-use Rattle.std.specs.Cmp.Lexicographic.{slice_cmp, nat_list_cmp_total}
-use Rattle.std.proofs.lemmas.Bool.{le-leb}
+use Rattle.blocks.specs.Blocks.{Blocks, no_step}
 use Rattle.plain_model.specs.Words.{Words}
-use Rattle.plain_model.specs.Worlds.{Entry, Database, World, in_time, is_there, live_keys, live}
-use Rattle.plain_model.specs.Meant.{understood}
+use Rattle.plain_model.specs.Worlds.{World, live}
+use Rattle.plain_model.specs.Meant.{meant}
 use Rattle.plain_model.specs.Steps.{may, step}
 use Rattle.plain_model.specs.declared.command.Command.{Command}
+use Rattle.plain_model.specs.declared.ctx.Ctx.{Ctx}
 use Rattle.plain_model.specs.declared.refusal.Refusal.{Refusal}
 use Rattle.plain_model.specs.declared.reply.Part.{Part}
 use Rattle.plain_model.specs.declared.reply.Part.TheVariants.{Refused}
+use Rattle.keyspace.specs.Databases.{Bases, means}
+use Rattle.keyspace.specs.Sound.{Sound}
+use Rattle.keyspace.specs.Commands.{seen, Runs}
+use Rattle.keyspace.proofs.Running.{same_settings, unchanged}
+use Rattle.keyspace.proofs.Uses.{Live-means}
+use Rattle.redis_core.specs.Engines.{State, world_of, Answers}
 
-same_bytes : (x y : List ℕ) → slice_cmp nat_cmp x y ≡ Equal → x ≡ y
-same_bytes = slice_cmp-IsAntisymmetric nat_cmp-IsAntisymmetric
+module _ (at : Ctx) (words : Words) where
+  -- what a request may be answered, from what its words mean
+  abbrev leads : ℕ → World → Result Command Refusal → List Part → World → Type 0
+  leads seed old m reply new = MatchResult m (λ command. may seed (live old at.moment) at.moment command reply new) (λ refusal. (reply ≡ Refused refusal ∷ []) × (new ≡ live old at.moment))
 
-in_time_at_first : (d : Option ℕ) → in_time 0 d ≡ true
-in_time_at_first None = refl
-in_time_at_first (Some d) = le-leb 0 d (omega arith)
+  step_is : {E : Type 0} (seed : ℕ) (old new : World) (command : Command) (result : Result (List Part) E) → meant words ≡ Ok command
+      → IfOk result (λ reply. may seed (live old at.moment) at.moment command reply new) → IfOk result (λ reply. step seed old at.moment words reply new)
+  step_is seed old new command (Ok reply) e h = subst (λ m. leads seed old m reply new) (sym e) h
+  step_is seed old new command (Err x) e h = tt
 
-there_at_first : (o : Option Entry) → cond (is_there 0 o) o None ≡ o
-there_at_first None = refl
-there_at_first (Some e) = ap (λ b. cond b (Some e) None) (in_time_at_first e.deadline)
+  refusal_is : {E : Type 0} (seed : ℕ) (old : World) (refusal : Refusal) (result : Result (List Part) E) → meant words ≡ Err refusal
+      → IfOk result (λ reply. reply ≡ Refused refusal ∷ []) → IfOk result (λ reply. step seed old at.moment words reply (live old at.moment))
+  refusal_is seed old refusal (Ok reply) e h = subst (λ m. leads seed old m reply (live old at.moment)) (sym e) (h, refl)
+  refusal_is seed old refusal (Err x) e h = tt
 
-live_keys_at_first : (base : Database) → live_keys base 0 ≡ base
-live_keys_at_first base =
-    let there : List ℕ → Bool = λ key. is_there 0 (get base key) in
-    same_map nat_list_cmp_total same_bytes (live_keys base 0) base
-    (λ q. get-retain_keys base there q (λ x e. ap there (sym (same_bytes q x e))) ∙ there_at_first (get base q))
+module _ {S E : Type 0} (blocks : S → Blocks) (step_of : S → S → Type 0) (at : Ctx) (words : Words) where
+  -- the command of a request ran
+  pub ran : (old new : S) (before after : Bases) (command : Command) (result : Result (List Part) E) → meant words ≡ Ok command
+      → Runs blocks step_of old new before after at command result → Answers blocks step_of old new before after at words result
+  ran old new before after command result e r = record {
+    answers = step_is at words before.seed (means at.db before (blocks old)) (seen at after (blocks new)) command result e r.answers;
+    refusals = r.refusals;
+    sound = r.sound;
+    served = r.served;
+    settings = r.settings;
+  }
 
-pub live_at_first : (world : World) → live world 0 ≡ world
-live_at_first world = λ i. record { bases = λ number. live_keys_at_first (world.bases number) i; selected = world.selected }
+  -- the words of a request are refused
+  pub refused : (store : S) (bases : Bases) (refusal : Refusal) (result : Result (List Part) E) → Sound bases (blocks store) → meant words ≡ Err refusal
+      → IfOk result (λ reply. reply ≡ Refused refusal ∷ []) → Answers blocks step_of store store bases bases at words result
+  refused store bases refusal result sound e h = record {
+    answers = refusal_is at words bases.seed (means at.db bases (blocks store)) refusal result e h;
+    refusals = unchanged store bases result;
+    sound = sound;
+    served = no_step;
+    settings = same_settings bases;
+  }
 
-module _ (old new : World) (words : Words) where
-  pub step_of : (c : Command) (reply : List Part) → understood words ≡ Ok c → may 0 old 0 c reply new → step 0 old 0 words reply new
-  step_of c reply e h =
-      let M : World → Type 0 = λ w. may 0 w 0 c reply new in
-      let P : Result Command Refusal → Type 0 = λ m. MatchResult m (λ command. may 0 (live old 0) 0 command reply new) (λ refusal. (reply ≡ Refused refusal ∷ []) × (new ≡ live old 0)) in
-      subst P (sym e) (subst M (sym (live_at_first old)) h)
+  -- memory was refused before anything changed
+  pub not_read : (store : S) (bases : Bases) (e : E) → Sound bases (blocks store) → Answers blocks step_of store store bases bases at words (Err e)
+  not_read store bases e sound = record { answers = tt; refusals = tt; sound = sound; served = no_step; settings = same_settings bases }
 
-  pub step_refused : (r : Refusal) (reply : List Part) → understood words ≡ Err r → reply ≡ Refused r ∷ [] → new ≡ old → step 0 old 0 words reply new
-  step_refused r reply e h same =
-      let P : Result Command Refusal → Type 0 = λ m. MatchResult m (λ command. may 0 (live old 0) 0 command reply new) (λ refusal. (reply ≡ Refused refusal ∷ []) × (new ≡ live old 0)) in
-      subst P (sym e) (h, same ∙ sym (live_at_first old))
-
-  pub answers : {E : Type 0} (c : Command) (r : Result (List Part) E) → understood words ≡ Ok c → IfOk r (λ reply. may 0 old 0 c reply new) → IfOk r (λ reply. step 0 old 0 words reply new)
-  answers c (Ok reply) e h = step_of c reply e h
-  answers c (Err x) e h = tt
-
-  pub refuses : {E : Type 0} (refusal : Refusal) (r : Result (List Part) E) → understood words ≡ Err refusal → new ≡ old → IfOk r (λ reply. reply ≡ Refused refusal ∷ []) → IfOk r (λ reply. step 0 old 0 words reply new)
-  refuses refusal (Ok reply) e same h = step_refused refusal reply e h same
-  refuses refusal (Err x) e same h = tt
+-- a step from what the keyspace means is one from the world that the engine holds: nothing is gone yet
+pub from_held : {S : Type 0} (blocks : S → Blocks) (engine inside : State S) → inside ≡ engine → (moment : ℕ) (words : Words) (reply : List Part) (new : World)
+    → step inside.bases.seed (means inside.selected inside.bases (blocks inside.store)) moment words reply new → step engine.bases.seed (world_of blocks engine) moment words reply new
+from_held blocks engine inside e moment words reply new s =
+    subst (λ x. step x.bases.seed (world_of blocks x) moment words reply new) e
+    (subst (λ w. step inside.bases.seed w moment words reply new) (sym (Live-means inside.selected inside.bases (blocks inside.store) inside.last)) s)

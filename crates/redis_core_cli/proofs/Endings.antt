@@ -4,15 +4,15 @@ use Rattle.std.specs.Prelude.{◌⊎◌, if◌then◌else◌}
 use Rattle.std.specs.Io.KnownBytes.{Consumes, IsAtEnd}
 use Rattle.std.proofs.lemmas.List.{append_assoc, append-nil, append_cancel_right, nil_from_length}
 use Rattle.plain_model.specs.Words.{Words}
-use Rattle.plain_model.specs.Worlds.{World}
 use Rattle.resp_frames.specs.Frames.{requests}
 use Rattle.resp_frames.specs.Ends.{End, Whole, Cut, Fault, EndsAs, IsCut, Frames}
 use Rattle.resp_frames.specs.Feeding.{Feeding, SameFed}
 use Rattle.resp_frames.proofs.Streams.{frames_there, requests_first, one_frames, fault_frames}
+use Rattle.redis_core_cli.specs.Engines.{Engine}
 use Rattle.redis_core_cli.specs.Answering.{Serves, Breaks, IsFaulty}
 use Rattle.redis_core_cli.specs.Serving.{IsFresh, TakesPiece}
 use Rattle.redis_core_cli.specs.Served.{AnswersAllOf, EndsOpen, at_limit, take_fails, finds_end, EndsBy, answered, write_fault, no_memory, Served, ServesExactly, ServesWhole}
-use Rattle.redis_core_cli.proofs.Runs.{serves_nothing, serves_then, serves_more, breaks_then}
+use Rattle.redis_core_cli.proofs.Runs.{path_runs, serves_nothing, serves_then, serves_more, breaks_then}
 
 pub consumes_then : (a b c : Option (List ℕ)) (x y : List ℕ) → Consumes a b x → Consumes b c y → Consumes a c (x ++ y)
 consumes_then None b c x y p q = tt
@@ -25,14 +25,14 @@ consumes_nothing None = tt
 consumes_nothing (Some xs) = refl
 
 -- what serving keeps from piece to piece
-pub record Serving (first : World) (left left' : Option (List ℕ)) (count : ℕ) (feeder : Feeding) (after : World) (written written' : Option (List ℕ)) : Type 0 where
+pub record Serving (first : Engine) (left left' : Option (List ℕ)) (count : ℕ) (feeder : Feeding) (after : Engine) (written written' : Option (List ℕ)) : Type 0 where
   pub taken : List ℕ
   pub took : Consumes left left' taken
   pub counted : length taken ≡ count
   pub fed : feeder.gone + length feeder.kept ≡ count
   pub serves : Serves taken feeder.kept first after written written'
 
-pub serving_starts : (first : World) (l o : Option (List ℕ)) (feeder : Feeding) → IsFresh feeder → Serving first l l 0 feeder first o o
+pub serving_starts : (first : Engine) (l o : Option (List ℕ)) (feeder : Feeding) → IsFresh feeder → Serving first l l 0 feeder first o o
 serving_starts first l o feeder fresh =
     let S : List ℕ → Type 0 = λ r. Serves [] r first first o o in
     record {
@@ -46,15 +46,15 @@ serving_starts first l o feeder fresh =
 -- ---- what is served at each ending
 
 -- the frames of bytes whose requests are all answered
-frames_of : (bytes rest : List ℕ) (w0 w1 : World) (o0 o1 : Option (List ℕ)) (s : Serves bytes rest w0 w1 o0 o1) (end : End) → EndsAs bytes rest end → Frames bytes (requests s.items) end
-frames_of bytes rest w0 w1 o0 o1 s end e = record { items = s.items; rest = rest; framed = s.framed; are = refl; ends = e }
+frames_of : (bytes rest : List ℕ) (e0 e1 : Engine) (o0 o1 : Option (List ℕ)) (s : Serves bytes rest e0 e1 o0 o1) (end : End) → EndsAs bytes rest end → Frames bytes (requests s.items) end
+frames_of bytes rest e0 e1 o0 o1 s end e = record { items = s.items; rest = rest; framed = s.framed; are = refl; ends = e }
 
-answers_of : (first : World) (bytes rest : List ℕ) (w : World) (o0 o1 : Option (List ℕ)) (s : Serves bytes rest first w o0 o1) → AnswersAllOf first (requests s.items) o0 o1
-answers_of first bytes rest w o0 o1 s = record { replies = s.replies; may = record { world = w; ran = s.ran }; wrote = s.wrote }
+answers_of : (first : Engine) (bytes rest : List ℕ) (w : Engine) (o0 o1 : Option (List ℕ)) (s : Serves bytes rest first w o0 o1) → AnswersAllOf first (requests s.items) o0 o1
+answers_of first bytes rest w o0 o1 s = record { replies = s.replies; may = record { last = w; ran = path_runs first w (requests s.items) s.replies s.went; went = s.went }; wrote = s.wrote }
 
-module _ (first : World) (limit : ℕ) (l l1 : Option (List ℕ)) (o o1 : Option (List ℕ)) (in_rose out_rose : Type 0) (taken : List ℕ) (took : Consumes l l1 taken) where
+module _ (first : Engine) (limit : ℕ) (l l1 : Option (List ℕ)) (o o1 : Option (List ℕ)) (in_rose out_rose : Type 0) (taken : List ℕ) (took : Consumes l l1 taken) where
   -- all requests are answered
-  concludes : (rest : List ℕ) (w : World) (s : Serves taken rest first w o o1) (end : End) → EndsAs taken rest end → (status : ℕ) → EndsBy limit taken end l1 in_rose status → Served first limit l l1 o o1 in_rose out_rose status
+  concludes : (rest : List ℕ) (w : Engine) (s : Serves taken rest first w o o1) (end : End) → EndsAs taken rest end → (status : ℕ) → EndsBy limit taken end l1 in_rose status → Served first limit l l1 o o1 in_rose out_rose status
   concludes rest w s end e status by = record {
     taken = taken;
     took = took;
@@ -64,7 +64,7 @@ module _ (first : World) (limit : ℕ) (l l1 : Option (List ℕ)) (o o1 : Option
     ends = answered (answers_of first taken rest w o o1 s) by;
   }
 
-  concludes_memory : (rest : List ℕ) (w : World) → Serves taken rest first w o o1 → Served first limit l l1 o o1 in_rose out_rose 8
+  concludes_memory : (rest : List ℕ) (w : Engine) → Serves taken rest first w o o1 → Served first limit l l1 o o1 in_rose out_rose 8
   concludes_memory rest w s =
       let f = frames_there taken in
       let r = requests_first taken s.items rest f.0 f.1 s.framed f.2 in
@@ -87,25 +87,25 @@ module _ (first : World) (limit : ℕ) (l l1 : Option (List ℕ)) (o o1 : Option
         asked = f.0;
         end = f.1;
         frames = f.2;
-        ends = write_fault (record { some = requests s.items; others = r.0; split = r.1; replies = s.replies; may = record { world = s.after; ran = s.ran }; wrote = s.wrote }) refl rose;
+        ends = write_fault (record { some = requests s.items; others = r.0; split = r.1; replies = s.replies; may = record { last = s.after; ran = path_runs first s.after (requests s.items) s.replies s.went; went = s.went }; wrote = s.wrote }) refl rose;
       }
 
-module _ (first : World) (limit : ℕ) (l l1 l2 o o0 o1 : Option (List ℕ)) (in_rose out_rose : Type 0) (n : ℕ) (old new : Feeding) (w0 w1 : World) (s : Serving first l l1 n old w0 o o0) (f : Serves old.kept new.kept w0 w1 o0 o1) where
+module _ (first : Engine) (limit : ℕ) (l l1 l2 o o0 o1 : Option (List ℕ)) (in_rose out_rose : Type 0) (n : ℕ) (old new : Feeding) (e0 e1 : Engine) (s : Serving first l l1 n old e0 o o0) (f : Serves old.kept new.kept e0 e1 o0 o1) where
   -- the requests that are whole are answered
-  all_served : Serves s.taken new.kept first w1 o o1
-  all_served = serves_then s.taken old.kept first w0 o o0 s.serves new.kept w1 o1 f
+  all_served : Serves s.taken new.kept first e1 o o1
+  all_served = serves_then s.taken old.kept first e0 o o0 s.serves new.kept e1 o1 f
 
   fed_as : SameFed old new → new.gone + length new.kept ≡ length s.taken
   fed_as e = e ∙ s.fed ∙ sym s.counted
 
   pub ends_protocol : IsFaulty new → SameFed old new → Served first limit l l1 o o1 in_rose out_rose 2
-  ends_protocol e fed = concludes first limit l l1 o o1 in_rose out_rose s.taken s.took new.kept w1 all_served (Fault e.0 e.1) (e.2, e.3, e.4 ∙ fed_as fed) 2 refl
+  ends_protocol e fed = concludes first limit l l1 o o1 in_rose out_rose s.taken s.took new.kept e1 all_served (Fault e.0 e.1) (e.2, e.3, e.4 ∙ fed_as fed) 2 refl
 
   -- what is left is nothing, or cut
   ends_open : (l' : Option (List ℕ)) (took : Consumes l l' s.taken) → (new.kept ≡ []) ⊎ IsCut new.kept → (status : ℕ) → ((at_end : ℕ) → EndsOpen limit s.taken l' in_rose at_end status) → Served first limit l l' o o1 in_rose out_rose status
   ends_open l' took e status by = elim e [
-    | inl none ↦ concludes first limit l l' o o1 in_rose out_rose s.taken took new.kept w1 all_served Whole none status (by 0)
-    | inr cut ↦ concludes first limit l l' o o1 in_rose out_rose s.taken took new.kept w1 all_served Cut cut status (by 3)
+    | inl none ↦ concludes first limit l l' o o1 in_rose out_rose s.taken took new.kept e1 all_served Whole none status (by 0)
+    | inr cut ↦ concludes first limit l l' o o1 in_rose out_rose s.taken took new.kept e1 all_served Cut cut status (by 3)
   ]
 
   pub ends_limit : n ≡ limit → (new.kept ≡ []) ⊎ IsCut new.kept → Served first limit l l1 o o1 in_rose out_rose 9
@@ -121,40 +121,40 @@ module _ (first : World) (limit : ℕ) (l l1 l2 o o0 o1 : Option (List ℕ)) (in
   ends_read_fault not e k rose = ends_open l2 (took_none k) e 4 (λ at_end. take_fails (below not) rose refl)
 
   pub ends_whole : (n ≡ limit → ⊥) → Consumes l1 l2 [] → IsAtEnd l2 → length new.kept ≡ 0 → Served first limit l l2 o o1 in_rose out_rose 0
-  ends_whole not k end none = concludes first limit l l2 o o1 in_rose out_rose s.taken (took_none k) new.kept w1 all_served Whole (nil_from_length new.kept none) 0 (finds_end (below not) end refl)
+  ends_whole not k end none = concludes first limit l l2 o o1 in_rose out_rose s.taken (took_none k) new.kept e1 all_served Whole (nil_from_length new.kept none) 0 (finds_end (below not) end refl)
 
   is_cut : (new.kept ≡ []) ⊎ IsCut new.kept → (length new.kept ≡ 0 → ⊥) → IsCut new.kept
   is_cut e some = elim e [ inl none ↦ absurd (some (ap length none)) | inr begun ↦ begun ]
 
   pub ends_cut : (n ≡ limit → ⊥) → (new.kept ≡ []) ⊎ IsCut new.kept → Consumes l1 l2 [] → IsAtEnd l2 → (length new.kept ≡ 0 → ⊥) → Served first limit l l2 o o1 in_rose out_rose 3
-  ends_cut not e k end some = concludes first limit l l2 o o1 in_rose out_rose s.taken (took_none k) new.kept w1 all_served Cut (is_cut e some) 3 (finds_end (below not) end refl)
+  ends_cut not e k end some = concludes first limit l l2 o o1 in_rose out_rose s.taken (took_none k) new.kept e1 all_served Cut (is_cut e some) 3 (finds_end (below not) end refl)
 
   -- want of memory, when a piece was taken
   pub ends_taken : (piece : List ℕ) → Consumes l1 l2 piece → Served first limit l l2 o o1 in_rose out_rose 8
   ends_taken piece k =
-      concludes_memory first limit l l2 o o1 in_rose out_rose (s.taken ++ piece) (consumes_then l l1 l2 s.taken piece s.took k) (new.kept ++ piece) w1 (serves_more s.taken new.kept first w1 o o1 all_served piece)
+      concludes_memory first limit l l2 o o1 in_rose out_rose (s.taken ++ piece) (consumes_then l l1 l2 s.taken piece s.took k) (new.kept ++ piece) e1 (serves_more s.taken new.kept first e1 o o1 all_served piece)
 
   -- a piece was taken and fed
-  pub serving_on : SameFed old new → (most count : ℕ) (fed : Feeding) → TakesPiece l1 l2 most count new fed → Serving first l l2 (n + count) fed w1 o o1
+  pub serving_on : SameFed old new → (most count : ℕ) (fed : Feeding) → TakesPiece l1 l2 most count new fed → Serving first l l2 (n + count) fed e1 o o1
   serving_on same most count fed t =
-      let P : List ℕ → Type 0 = λ r. Serves (s.taken ++ t.piece) r first w1 o o1 in
+      let P : List ℕ → Type 0 = λ r. Serves (s.taken ++ t.piece) r first e1 o o1 in
       record {
         taken = s.taken ++ t.piece;
         took = consumes_then l l1 l2 s.taken t.piece s.took t.took;
         counted = length-append s.taken t.piece ∙ ap (λ x. x + length t.piece) s.counted ∙ ap (λ x. n + x) t.long;
         fed = let a : new.gone + length new.kept ≡ n = same ∙ s.fed in omega (arith, t.gone, ap length t.kept, length-append new.kept t.piece, t.long);
-        serves = subst P (sym t.kept) (serves_more s.taken new.kept first w1 o o1 all_served t.piece);
+        serves = subst P (sym t.kept) (serves_more s.taken new.kept first e1 o o1 all_served t.piece);
       }
 
-module _ (first : World) (limit : ℕ) (l l1 o o0 o1 : Option (List ℕ)) (in_rose out_rose : Type 0) (n : ℕ) (old : Feeding) (w0 : World) (s : Serving first l l1 n old w0 o o0) where
-  pub ends_fault : Breaks old.kept w0 o0 o1 → out_rose → Served first limit l l1 o o1 in_rose out_rose 5
-  ends_fault f rose = concludes_fault first limit l l1 o o1 in_rose out_rose s.taken s.took (breaks_then s.taken old.kept first w0 o o0 s.serves o1 f) rose
+module _ (first : Engine) (limit : ℕ) (l l1 o o0 o1 : Option (List ℕ)) (in_rose out_rose : Type 0) (n : ℕ) (old : Feeding) (e0 : Engine) (s : Serving first l l1 n old e0 o o0) where
+  pub ends_fault : Breaks old.kept e0 o0 o1 → out_rose → Served first limit l l1 o o1 in_rose out_rose 5
+  ends_fault f rose = concludes_fault first limit l l1 o o1 in_rose out_rose s.taken s.took (breaks_then s.taken old.kept first e0 o o0 s.serves o1 f) rose
 
-  pub ends_memory : (rest : List ℕ) (w : World) → Serves old.kept rest w0 w o0 o1 → Served first limit l l1 o o1 in_rose out_rose 8
-  ends_memory rest w f = concludes_memory first limit l l1 o o1 in_rose out_rose s.taken s.took rest w (serves_then s.taken old.kept first w0 o o0 s.serves rest w o1 f)
+  pub ends_memory : (rest : List ℕ) (w : Engine) → Serves old.kept rest e0 w o0 o1 → Served first limit l l1 o o1 in_rose out_rose 8
+  ends_memory rest w f = concludes_memory first limit l l1 o o1 in_rose out_rose s.taken s.took rest w (serves_then s.taken old.kept first e0 o o0 s.serves rest w o1 f)
 
 -- want of memory before anything is taken
-pub ends_at_once : (first : World) (limit : ℕ) (l o : Option (List ℕ)) (in_rose out_rose : Type 0) → Served first limit l l o o in_rose out_rose 8
+pub ends_at_once : (first : Engine) (limit : ℕ) (l o : Option (List ℕ)) (in_rose out_rose : Type 0) → Served first limit l l o o in_rose out_rose 8
 ends_at_once first limit l o in_rose out_rose = concludes_memory first limit l l o o in_rose out_rose [] (consumes_nothing l) [] first (serves_nothing [] first o)
 
 -- ---- what is said of the status
@@ -179,7 +179,7 @@ by_no_write limit taken Whole left in_rose status e h = open_no_write limit take
 by_no_write limit taken Cut left in_rose status e h = open_no_write limit taken left in_rose 3 status e (λ k. omega arith) h
 by_no_write limit taken (Fault rule at) left in_rose status e h = omega (arith, e, h)
 
-module _ (first : World) (limit : ℕ) (l l1 o o1 : Option (List ℕ)) (in_rose out_rose : Type 0) (status : ℕ) (c : Served first limit l l1 o o1 in_rose out_rose status) where
+module _ (first : Engine) (limit : ℕ) (l l1 o o1 : Option (List ℕ)) (in_rose out_rose : Type 0) (status : ℕ) (c : Served first limit l l1 o o1 in_rose out_rose status) where
   pub read_cause : status ≡ 4 → in_rose
   read_cause h = elim c.ends [
     | answered a by ↦ by_causes limit c.taken c.end l1 in_rose status by h
@@ -208,7 +208,7 @@ by_served limit taken Whole left in_rose status e = open_served limit taken left
 by_served limit taken Cut left in_rose status e = open_served limit taken left in_rose 3 status e refl
 by_served limit taken (Fault rule at) left in_rose status e = ap is_served e
 
-pub served_status : (first : World) (limit : ℕ) (l l1 o o1 : Option (List ℕ)) (in_rose out_rose : Type 0) (status : ℕ) → Served first limit l l1 o o1 in_rose out_rose status → is_served status ≡ true
+pub served_status : (first : Engine) (limit : ℕ) (l l1 o o1 : Option (List ℕ)) (in_rose out_rose : Type 0) (status : ℕ) → Served first limit l l1 o o1 in_rose out_rose status → is_served status ≡ true
 served_status first limit l l1 o o1 in_rose out_rose status c = elim c.ends [
   | answered a by ↦ by_served limit c.taken c.end l1 in_rose status by
   | write_fault a is rose ↦ ap is_served is
@@ -224,7 +224,7 @@ same_taken (Some xs) (Some ys) bytes rest taken taken' e f k h =
     let b : ys ≡ rest = cc in
     append_cancel_right taken taken' rest (ap (λ l. taken ++ l) (sym b) ∙ sym k ∙ a ∙ h)
 
-pub ends_exactly : (first : World) (limit : ℕ) (l l1 o o1 : Option (List ℕ)) (in_rose out_rose : Type 0) (status : ℕ) → Served first limit l l1 o o1 in_rose out_rose status → ServesExactly limit l l1 in_rose out_rose status
+pub ends_exactly : (first : Engine) (limit : ℕ) (l l1 o o1 : Option (List ℕ)) (in_rose out_rose : Type 0) (status : ℕ) → Served first limit l l1 o o1 in_rose out_rose status → ServesExactly limit l l1 in_rose out_rose status
 ends_exactly first limit l l1 o o1 in_rose out_rose status c bytes rest taken asked end e f whole frames =
     let same : c.taken ≡ taken = same_taken l l1 bytes rest c.taken taken e f c.took whole in
     let F : List ℕ → Type 0 = λ t. Frames t c.asked c.end in
@@ -280,7 +280,7 @@ module _ (limit : ℕ) (l1 : Option (List ℕ)) (in_rose out_rose : Type 0) (byt
       let P : List ℕ → Type 0 = λ t. Frames t asked' (Fault rule at) in
       absurd (whole_not_fault bytes asked asked' rule at frames (subst P (sym left.whole) (fault_frames taken left.rest asked' rule at f)))
 
-pub completes : (first : World) (limit : ℕ) (l l1 o o1 : Option (List ℕ)) (in_rose out_rose : Type 0) (status : ℕ) → Served first limit l l1 o o1 in_rose out_rose status → ServesWhole limit l l1 in_rose out_rose status
+pub completes : (first : Engine) (limit : ℕ) (l l1 o o1 : Option (List ℕ)) (in_rose out_rose : Type 0) (status : ℕ) → Served first limit l l1 o o1 in_rose out_rose status → ServesWhole limit l l1 in_rose out_rose status
 completes first limit l l1 o o1 in_rose out_rose status c bytes asked e frames few no_read no_write =
     let left = left_of l l1 bytes c.taken e c.took in
     elim c.ends [

@@ -3,8 +3,6 @@ use Rattle.std.proofs.Common.{◌≡◌, ℕ, List, [], ◌∷◌, ◌++◌, Opt
 use Rattle.std.specs.Io.KnownBytes.{Appends, Keeps, append_known}
 use Rattle.std.proofs.lemmas.List.{append-nil, append_assoc, append_cancel_left}
 use Rattle.plain_model.specs.Words.{Words}
-use Rattle.plain_model.specs.Worlds.{World}
-use Rattle.plain_model.specs.Steps.{step}
 use Rattle.plain_model.specs.Spelling.{spelling, spelled}
 use Rattle.plain_model.specs.declared.reply.Part.{Part}
 use Rattle.resp_frames.specs.Puts.{Puts, PutsFront}
@@ -12,6 +10,7 @@ use Rattle.resp_frames.specs.Feeding.{Feeding, Gives, GivesOut, GivesNone, Gives
 use Rattle.resp_frames.specs.declared.feeder.FrameFault.{FrameFault}
 use Rattle.resp_frames.specs.declared.feeder.FrameFault.TheVariants as faults
 use Rattle.resp_frames.proofs.Putting.{appends_nothing, appends_then}
+use Rattle.redis_core_cli.specs.Engines.{Engine, Executes}
 use Rattle.redis_core_cli.specs.Answering.{Grows, Gathers, PutsLarge, Writes, Relieved, Relieves, Replied, RepliedPart, AnswersOne, Serves, Breaks, AnswersAll, AllPut, Finishes}
 use Rattle.redis_core_cli.specs.declared.answering.Answer.{Answer}
 use Rattle.redis_core_cli.specs.declared.answering.Answer.TheVariants as one
@@ -65,10 +64,10 @@ writes_gathered p p' o x rose one.Written h = record { put = grows_nothing o; al
 writes_gathered p p' o x rose one.Fault h = absurd h
 writes_gathered p p' o x rose one.Memory h = (keeps_same o, h)
 
-pub answers_written : (w0 w1 : World) (words : Words) (reply : List Part) (p p' : List ℕ) (o o1 : Option (List ℕ)) (rose : Type 0) (r : Answer) → step 0 w0 0 words reply w1 → Writes p p' o o1 (spelling reply) rose r → AnswersOne w0 w1 words p p' o o1 rose r
-answers_written w0 w1 words reply p p' o o1 rose one.Written s h = record { reply = reply; may = s; wrote = h }
-answers_written w0 w1 words reply p p' o o1 rose one.Fault s h = (record { reply = reply; may = s; put = h.0 }, h.1)
-answers_written w0 w1 words reply p p' o o1 rose one.Memory s h = h
+pub answers_written : (e0 e1 : Engine) (words : Words) (reply : List Part) (p p' : List ℕ) (o o1 : Option (List ℕ)) (rose : Type 0) (r : Answer) → Executes e0 words reply e1 → Writes p p' o o1 (spelling reply) rose r → AnswersOne e0 e1 words p p' o o1 rose r
+answers_written e0 e1 words reply p p' o o1 rose one.Written s h = record { reply = reply; may = s; wrote = h }
+answers_written e0 e1 words reply p p' o o1 rose one.Fault s h = (record { reply = reply; may = s; put = h.0 }, h.1)
+answers_written e0 e1 words reply p p' o o1 rose one.Memory s h = h
 
 pub relieved_nothing : (p : List ℕ) (o : Option (List ℕ)) → Relieved p p o o
 relieved_nothing p o = record { put = grows_nothing o; all = keeps_same (append_known o p) }
@@ -78,33 +77,33 @@ relieves_put p p' o o1 (Ok x) h e = record { put = (p, h); all = pending_put o o
 relieves_put p p' o o1 (Err x) h e = h
 
 -- the state of a run: all replies so far are put or pending
-pub record Gathered (a b : List ℕ) (w0 w1 : World) (o0 o : Option (List ℕ)) (p : List ℕ) : Type 0 where
+pub record Gathered (a b : List ℕ) (e0 e1 : Engine) (o0 o : Option (List ℕ)) (p : List ℕ) : Type 0 where
   pub put : Grows o0 o
-  pub all : Serves a b w0 w1 o0 (append_known o p)
+  pub all : Serves a b e0 e1 o0 (append_known o p)
 
-pub gathered_starts : (a : List ℕ) (w : World) (o : Option (List ℕ)) (p : List ℕ) → p ≡ [] → Gathered a a w w o o p
+pub gathered_starts : (a : List ℕ) (w : Engine) (o : Option (List ℕ)) (p : List ℕ) → p ≡ [] → Gathered a a w w o o p
 gathered_starts a w o p e =
     let S : Option (List ℕ) → Type 0 = λ x. Serves a a w w o x in
     record { put = grows_nothing o; all = subst S (sym (none_pending o p e)) (serves_none a a w o (record { items = []; framed = record { whole = refl; each = tt }; are = refl })) }
 
-module _ (a b : List ℕ) (w0 w1 : World) (o0 o : Option (List ℕ)) (p : List ℕ) (s : Gathered a b w0 w1 o0 o p) where
+module _ (a b : List ℕ) (e0 e1 : Engine) (o0 o : Option (List ℕ)) (p : List ℕ) (s : Gathered a b e0 e1 o0 o p) where
   -- a request is given out and answered
-  pub gathered_reply : (c : List ℕ) (words : Words) (w2 : World) (o1 : Option (List ℕ)) (p' : List ℕ) → Gives b c (words ∷ []) → Replied w1 w2 words p p' o o1 → Gathered a c w0 w2 o0 o1 p'
-  gathered_reply c words w2 o1 p' g r = record {
+  pub gathered_reply : (c : List ℕ) (words : Words) (e2 : Engine) (o1 : Option (List ℕ)) (p' : List ℕ) → Gives b c (words ∷ []) → Replied e1 e2 words p p' o o1 → Gathered a c e0 e2 o0 o1 p'
+  gathered_reply c words e2 o1 p' g r = record {
     put = grows_then o0 o o1 s.put r.wrote.put;
-    all = serves_then a b w0 w1 o0 (append_known o p) s.all c w2 (append_known o1 p') (serves_one b c words w1 w2 (append_known o p) (append_known o1 p') r.reply g r.may r.wrote.all);
+    all = serves_then a b e0 e1 o0 (append_known o p) s.all c e2 (append_known o1 p') (serves_one b c words e1 e2 (append_known o p) (append_known o1 p') r.reply g r.may r.wrote.all);
   }
 
   -- what is passed over
-  pub gathered_passed : (c : List ℕ) → Gives b c [] → Gathered a c w0 w1 o0 o p
-  gathered_passed c g = record { put = s.put; all = serves_then a b w0 w1 o0 (append_known o p) s.all c w1 (append_known o p) (serves_none b c w1 (append_known o p) g) }
+  pub gathered_passed : (c : List ℕ) → Gives b c [] → Gathered a c e0 e1 o0 o p
+  gathered_passed c g = record { put = s.put; all = serves_then a b e0 e1 o0 (append_known o p) s.all c e1 (append_known o p) (serves_none b c e1 (append_known o p) g) }
 
-  pub gathered_relieved : (o1 : Option (List ℕ)) (p' : List ℕ) → Relieved p p' o o1 → Gathered a b w0 w1 o0 o1 p'
-  gathered_relieved o1 p' r = record { put = grows_then o0 o o1 s.put r.put; all = serves_kept a b w0 w1 o0 (append_known o p) s.all (append_known o1 p') r.all }
+  pub gathered_relieved : (o1 : Option (List ℕ)) (p' : List ℕ) → Relieved p p' o o1 → Gathered a b e0 e1 o0 o1 p'
+  gathered_relieved o1 p' r = record { put = grows_then o0 o o1 s.put r.put; all = serves_kept a b e0 e1 o0 (append_known o p) s.all (append_known o1 p') r.all }
 
   -- all is put
-  pub gathered_put : (o1 : Option (List ℕ)) → Appends o o1 p → Serves a b w0 w1 o0 o1
-  gathered_put o1 k = let S : Option (List ℕ) → Type 0 = λ x. Serves a b w0 w1 o0 x in subst S (none_pending o1 [] refl) (serves_kept a b w0 w1 o0 (append_known o p) s.all (append_known o1 []) (pending_put o o1 p [] refl k))
+  pub gathered_put : (o1 : Option (List ℕ)) → Appends o o1 p → Serves a b e0 e1 o0 o1
+  gathered_put o1 k = let S : Option (List ℕ) → Type 0 = λ x. Serves a b e0 e1 o0 x in subst S (none_pending o1 [] refl) (serves_kept a b e0 e1 o0 (append_known o p) s.all (append_known o1 []) (pending_put o o1 p [] refl k))
 
 -- a front of what was pending is put, after what was put before
 front_pending : (o0 o o1 : Option (List ℕ)) (p w : List ℕ) → Grows o0 o → Appends o0 (append_known o p) w → PutsFront o o1 p → PutsFront o0 o1 w
@@ -121,61 +120,61 @@ front_pending (Some xs) (Some ys) (Some zs) p w before a f =
 appends_more : (o : Option (List ℕ)) (p x : List ℕ) → Appends (append_known o p) (append_known o (p ++ x)) x
 appends_more o p x = more_pending o p (p ++ x) x refl
 
-module _ (a b : List ℕ) (w0 w1 : World) (o0 o o1 : Option (List ℕ)) (p : List ℕ) (s : Gathered a b w0 w1 o0 o p) where
+module _ (a b : List ℕ) (e0 e1 : Engine) (o0 o o1 : Option (List ℕ)) (p : List ℕ) (s : Gathered a b e0 e1 o0 o p) where
   -- a front of what was pending is put
-  pub gathered_breaks : PutsFront o o1 p → Breaks a w0 o0 o1
+  pub gathered_breaks : PutsFront o o1 p → Breaks a e0 o0 o1
   gathered_breaks f = record {
     items = s.all.items;
     replies = s.all.replies;
     rest = b;
-    after = w1;
+    after = e1;
     framed = s.all.framed;
-    ran = s.all.ran;
+    went = s.all.went;
     wrote = front_pending o0 o o1 p (spelled s.all.replies) s.put s.all.wrote f;
   }
 
-  pub gathered_fault : (c : List ℕ) (words : Words) (w2 : World) → Gives b c (words ∷ []) → RepliedPart w1 w2 words p o o1 → Breaks a w0 o0 o1
-  gathered_fault c words w2 g r =
+  pub gathered_fault : (c : List ℕ) (words : Words) (e2 : Engine) → Gives b c (words ∷ []) → RepliedPart e1 e2 words p o o1 → Breaks a e0 o0 o1
+  gathered_fault c words e2 g r =
       let q = p ++ spelling r.reply in
-      let one = serves_one b c words w1 w2 (append_known o p) (append_known o q) r.reply g r.may (appends_more o p (spelling r.reply)) in
-      let all = serves_then a b w0 w1 o0 (append_known o p) s.all c w2 (append_known o q) one in
+      let one = serves_one b c words e1 e2 (append_known o p) (append_known o q) r.reply g r.may (appends_more o p (spelling r.reply)) in
+      let all = serves_then a b e0 e1 o0 (append_known o p) s.all c e2 (append_known o q) one in
       record {
         items = all.items;
         replies = all.replies;
         rest = c;
-        after = w2;
+        after = e2;
         framed = all.framed;
-        ran = all.ran;
+        went = all.went;
         wrote = front_pending o0 o o1 q (spelled all.replies) s.put all.wrote r.put;
       }
 
 -- what `finish` makes of it
 
-finished : (old new : Feeding) (b : List ℕ) (w0 w1 w : World) (o0 o o1 : Option (List ℕ)) (p p' : List ℕ) (rose rose' : Type 0) (wanted result : Answered) → Gathered old.kept b w0 w1 o0 o p → (rose → rose')
-    → (Serves old.kept b w0 w1 o0 o1 → AnswersAll old new w0 w o0 o1 rose' wanted) → Finishes p p' o o1 rose wanted result → AnswersAll old new w0 w o0 o1 rose' result
-finished old new b w0 w1 w o0 o o1 p p' rose rose' wanted result s still after f =
-    let P : Answered → Type 0 = λ x. AnswersAll old new w0 w o0 o1 rose' x in
+finished : (old new : Feeding) (b : List ℕ) (e0 e1 w : Engine) (o0 o o1 : Option (List ℕ)) (p p' : List ℕ) (rose rose' : Type 0) (wanted result : Answered) → Gathered old.kept b e0 e1 o0 o p → (rose → rose')
+    → (Serves old.kept b e0 e1 o0 o1 → AnswersAll old new e0 w o0 o1 rose' wanted) → Finishes p p' o o1 rose wanted result → AnswersAll old new e0 w o0 o1 rose' result
+finished old new b e0 e1 w o0 o o1 p p' rose rose' wanted result s still after f =
+    let P : Answered → Type 0 = λ x. AnswersAll old new e0 w o0 o1 rose' x in
     elim f [
-      | inl g ↦ subst P (sym g.0) (after (gathered_put old.kept b w0 w1 o0 o p s o1 g.1))
-      | inr g ↦ subst P (sym g.0) (gathered_breaks old.kept b w0 w1 o0 o o1 p s g.1, still g.2)
+      | inl g ↦ subst P (sym g.0) (after (gathered_put old.kept b e0 e1 o0 o p s o1 g.1))
+      | inr g ↦ subst P (sym g.0) (gathered_breaks old.kept b e0 e1 o0 o o1 p s g.1, still g.2)
     ]
 
 pub fed_then : (a b c : Feeding) → SameFed a b → SameFed b c → SameFed a c
 fed_then a b c p q = q ∙ p
 
-module _ (old mid new : Feeding) (w0 w1 : World) (o0 o o1 : Option (List ℕ)) (p p' : List ℕ) (rose rose' : Type 0) (s : Gathered old.kept mid.kept w0 w1 o0 o p) (fed : SameFed old mid) (still : rose → rose') where
-  pub finish_protocol : (result : Answered) (rule at : ℕ) → GivesFault mid new rule at → Finishes p p' o o1 rose answered.Protocol result → AnswersAll old new w0 w1 o0 o1 rose' result
+module _ (old mid new : Feeding) (e0 e1 : Engine) (o0 o o1 : Option (List ℕ)) (p p' : List ℕ) (rose rose' : Type 0) (s : Gathered old.kept mid.kept e0 e1 o0 o p) (fed : SameFed old mid) (still : rose → rose') where
+  pub finish_protocol : (result : Answered) (rule at : ℕ) → GivesFault mid new rule at → Finishes p p' o o1 rose answered.Protocol result → AnswersAll old new e0 e1 o0 o1 rose' result
   finish_protocol result rule at g f =
-      finished old new new.kept w0 w1 w1 o0 o o1 p p' rose rose' answered.Protocol result (gathered_passed old.kept mid.kept w0 w1 o0 o p s new.kept g.gives) still
+      finished old new new.kept e0 e1 e1 o0 o o1 p p' rose rose' answered.Protocol result (gathered_passed old.kept mid.kept e0 e1 o0 o p s new.kept g.gives) still
       (λ all. (all, (rule, at, g.from, g.fault, g.place), fed_then old mid new fed g.fed)) f
 
-  pub finish_all : (result : Answered) → GivesNone mid new → Finishes p p' o o1 rose answered.All result → AnswersAll old new w0 w1 o0 o1 rose' result
+  pub finish_all : (result : Answered) → GivesNone mid new → Finishes p p' o o1 rose answered.All result → AnswersAll old new e0 e1 o0 o1 rose' result
   finish_all result g f =
-      finished old new new.kept w0 w1 w1 o0 o o1 p p' rose rose' answered.All result (gathered_passed old.kept mid.kept w0 w1 o0 o p s new.kept g.gives) still
+      finished old new new.kept e0 e1 e1 o0 o o1 p p' rose rose' answered.All result (gathered_passed old.kept mid.kept e0 e1 o0 o p s new.kept g.gives) still
       (λ all. (all, g.rest, fed_then old mid new fed g.fed)) f
 
-  pub finish_memory : (w : World) (result : Answered) → Finishes p p' o o1 rose answered.Memory result → AnswersAll old new w0 w o0 o1 rose' result
-  finish_memory w result f = finished old new mid.kept w0 w1 w o0 o o1 p p' rose rose' answered.Memory result s still (λ all. (mid.kept, w1, all)) f
+  pub finish_memory : (w : Engine) (result : Answered) → Finishes p p' o o1 rose answered.Memory result → AnswersAll old new e0 w o0 o1 rose' result
+  finish_memory w result f = finished old new mid.kept e0 e1 w o0 o o1 p p' rose rose' answered.Memory result s still (λ all. (mid.kept, e1, all)) f
 
 -- nothing is written, and as much is pending as before
 pub relieved_kept : (p p' : List ℕ) (o o1 : Option (List ℕ)) → Keeps o o1 → p' ≡ p → Relieved p p' o o1

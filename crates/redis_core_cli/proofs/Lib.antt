@@ -1,3 +1,4 @@
+pub mod Zeros
 pub mod Runs
 pub mod Gathering
 pub mod Endings

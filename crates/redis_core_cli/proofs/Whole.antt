@@ -2,6 +2,7 @@
 use Rattle.std.proofs.Common.{◌≡◌, ◌<◌, ◌≤◌, ℕ, List, Option, Some, None, true, false, length, refl, sym, ap, subst, ◌∙◌, inl, inr, arith}
 use Rattle.std.specs.Prelude.{◌⊎◌, IsSome}
 use Rattle.plain_model.specs.Worlds.{World}
+use Rattle.redis_core_cli.specs.Engines.{Engine, world_of}
 use Rattle.rdb_grammar.specs.Files.{IsFile, IsFault}
 use Rattle.rdb_grammar.specs.declared.fault.LoadKind.{LoadKind}
 use Rattle.rdb_grammar.proofs.OneWorld.{exactly_one}
@@ -95,7 +96,7 @@ module _ (files : Files) (limit : ℕ) (rose : Type 0) (name : List ℕ) where
     refused_ends bytes what at t few fault endings.WriteFault n w = absurd n
 
     -- the file that a refusal is of
-    loaded_refused : (ending : Ending) → NotLoaded files limit rose name ending → status_of ending ≡ 7 → Notes noted noted' note_rose (line_of ending) → (what : LoadKind) × (at : ℕ) × RefusesFile files name limit what at × Notes noted noted' note_rose (refused_line what at)
+    loaded_refused : (ending : Ending) → NotLoaded files limit rose name ending → status_of ending ≡ 7 → Notes noted noted' note_rose (line_of ending) → (what : LoadKind) × (at : ℕ) × RefusesFile files name limit 0 what at × Notes noted noted' note_rose (refused_line what at)
     loaded_refused (endings.Refused what at) n e w = (what, at, n, w)
     loaded_refused endings.Host n e w = absurd (omega (arith, e))
     loaded_refused endings.Limit n e w = absurd (omega (arith, e))
@@ -135,28 +136,28 @@ module _ (files : Files) (limit : ℕ) (rose : Type 0) (name : List ℕ) where
 
 module _ (files : Files) (limit : ℕ) (rose : Type 0) (ending : Ending) where
   not_begun_usage : (usage : Usage) → NotBegun files limit rose usage ending → status_of ending ≡ 1 → usage ≡ Wrong
-  not_begun_usage Fresh n e = absurd n
+  not_begun_usage Fresh n e = absurd (omega (arith, ap status_of n, e))
   not_begun_usage (Loading name) n e = absurd (omega (arith, e, loaded_status files limit rose name ending n))
   not_begun_usage Wrong n e = refl
 
   not_begun_status : (usage : Usage) → NotBegun files limit rose usage ending → (status_of ending ≡ 1) ⊎ (5 < status_of ending)
-  not_begun_status Fresh n = absurd n
+  not_begun_status Fresh n = inr (omega (arith, ap status_of n))
   not_begun_status (Loading name) n = inr (loaded_status files limit rose name ending n)
   not_begun_status Wrong n = inl (ap status_of n)
 
   not_begun_host : (usage : Usage) → NotBegun files limit rose usage ending → status_of ending ≡ 6 → rose
-  not_begun_host Fresh n e = absurd n
+  not_begun_host Fresh n e = absurd (omega (arith, ap status_of n, e))
   not_begun_host (Loading name) n e = loaded_host files limit rose name ending n e
   not_begun_host Wrong n e = absurd (omega (arith, ap status_of n, e))
 
   not_begun_refused : (usage : Usage) (noted noted' : Option (List ℕ)) (note_rose : Type 0) → NotBegun files limit rose usage ending → status_of ending ≡ 7 → Notes noted noted' note_rose (line_of ending)
-      → (name : List ℕ) × (what : LoadKind) × (at : ℕ) × (usage ≡ Loading name) × RefusesFile files name limit what at × Notes noted noted' note_rose (refused_line what at)
-  not_begun_refused Fresh noted noted' note_rose n e w = absurd n
+      → (name : List ℕ) × (what : LoadKind) × (at : ℕ) × (usage ≡ Loading name) × RefusesFile files name limit 0 what at × Notes noted noted' note_rose (refused_line what at)
+  not_begun_refused Fresh noted noted' note_rose n e w = absurd (omega (arith, ap status_of n, e))
   not_begun_refused (Loading name) noted noted' note_rose n e w = let r = loaded_refused files limit rose name noted noted' note_rose ending n e w in (name, r.0, r.1, refl, r.2, r.3)
   not_begun_refused Wrong noted noted' note_rose n e w = absurd (omega (arith, ap status_of n, e))
 
   not_begun_excused : (usage : Usage) (first : World) → Begins files limit usage first → (usage ≡ Fresh) ⊎ IsSome files → NotBegun files limit rose usage ending → Excused rose (status_of ending)
-  not_begun_excused Fresh first b k n = absurd n
+  not_begun_excused Fresh first b k n = inr (ap status_of n)
   not_begun_excused (Loading name) first b k n = elim k [ inl e ↦ cc | inr some ↦ loaded_excused files limit rose name some first b ending n ]
   not_begun_excused Wrong first b k n = absurd b
 
@@ -165,7 +166,7 @@ module _ (files : Files) (limit : ℕ) (rose : Type 0) (ending : Ending) where
 module _ (usage : Usage) (files : Files) (limit : ℕ) (left left' written written' noted noted' : Option (List ℕ)) (host_rose in_rose out_rose note_rose : Type 0) (ending : Ending)
     (f : Finishes usage files limit left left' written written' noted noted' host_rose in_rose out_rose note_rose ending) where
   -- serving has another status
-  not_served : (first : World) → Served first limit left left' written written' in_rose out_rose (status_of ending) → (n : ℕ) → is_served n ≡ false → status_of ending ≡ n → ⊥
+  not_served : (first : Engine) → Served first limit left left' written written' in_rose out_rose (status_of ending) → (n : ℕ) → is_served n ≡ false → status_of ending ≡ n → ⊥
   not_served first s n is e =
       let a : is_served (status_of ending) ≡ true = served_status first limit left left' written written' in_rose out_rose (status_of ending) s in
       let b : is_served (status_of ending) ≡ false = ap is_served e ∙ is in
@@ -180,59 +181,59 @@ module _ (usage : Usage) (files : Files) (limit : ℕ) (left left' written writt
   causes_of : Causes host_rose in_rose out_rose (status_of ending)
   causes_of = record {
     read = λ h. elim f.run [
-      | begun first b s ↦ read_cause first limit left left' written written' in_rose out_rose (status_of ending) s h
+      | begun first b i s ↦ read_cause first limit left left' written written' in_rose out_rose (status_of ending) s h
       | not_begun n p q ↦ absurd (elim (not_begun_status files limit host_rose ending usage n) [ inl a ↦ omega (arith, a, h) | inr a ↦ omega (arith, a, h) ])
     ];
     write = λ h. elim f.run [
-      | begun first b s ↦ write_cause first limit left left' written written' in_rose out_rose (status_of ending) s h
+      | begun first b i s ↦ write_cause first limit left left' written written' in_rose out_rose (status_of ending) s h
       | not_begun n p q ↦ absurd (elim (not_begun_status files limit host_rose ending usage n) [ inl a ↦ omega (arith, a, h) | inr a ↦ omega (arith, a, h) ])
     ];
     host = λ h. elim f.run [
-      | begun first b s ↦ absurd (not_served first s 6 refl h)
+      | begun first b i s ↦ absurd (not_served first s 6 refl h)
       | not_begun n p q ↦ not_begun_host files limit host_rose ending usage n h
     ];
   }
 
   wrong_ends : usage ≡ Wrong → status_of ending ≡ 1
   wrong_ends e = elim f.run [
-    | begun first b s ↦ absurd (begun_as Wrong first e b)
+    | begun first b i s ↦ absurd (begun_as Wrong (world_of first) e b)
     | not_begun n p q ↦ ap status_of (not_begun_as Wrong e n)
   ]
 
   wrong_alone : status_of ending ≡ 1 → usage ≡ Wrong
   wrong_alone h = elim f.run [
-    | begun first b s ↦ absurd (not_served first s 1 refl h)
+    | begun first b i s ↦ absurd (not_served first s 1 refl h)
     | not_begun n p q ↦ not_begun_usage files limit host_rose ending usage n h
   ]
 
   refused : (name bytes : List ℕ) (what : LoadKind) (at : ℕ) → usage ≡ Loading name → Tells files name bytes → length bytes ≤ limit → IsFault bytes 0 what at
       → Excused host_rose (status_of ending) ⊎ ((status_of ending ≡ 7) × Notes noted noted' note_rose (refused_line what at))
   refused name bytes what at e t few fault = elim f.run [
-    | begun first b s ↦ let l = begun_as (Loading name) first e b in absurd (not_both l.bytes bytes first what at (told_file files name bytes l.bytes t l.is) l.file fault)
+    | begun first b i s ↦ let l = begun_as (Loading name) (world_of first) e b in absurd (not_both l.bytes bytes (world_of first) what at (told_file files name bytes l.bytes t l.is) l.file fault)
     | not_begun n p q ↦ refused_ends files limit host_rose name noted noted' note_rose bytes what at t few fault ending (not_begun_as (Loading name) e n) f.line
   ]
 
-  refused_alone : status_of ending ≡ 7 → (name : List ℕ) × (what : LoadKind) × (at : ℕ) × (usage ≡ Loading name) × RefusesFile files name limit what at × Notes noted noted' note_rose (refused_line what at)
+  refused_alone : status_of ending ≡ 7 → (name : List ℕ) × (what : LoadKind) × (at : ℕ) × (usage ≡ Loading name) × RefusesFile files name limit 0 what at × Notes noted noted' note_rose (refused_line what at)
   refused_alone h = elim f.run [
-    | begun first b s ↦ absurd (not_served first s 7 refl h)
+    | begun first b i s ↦ absurd (not_served first s 7 refl h)
     | not_begun n p q ↦ not_begun_refused files limit host_rose ending usage noted noted' note_rose n h f.line
   ]
 
   long : (name bytes : List ℕ) → usage ≡ Loading name → Tells files name bytes → limit < length bytes → Excused host_rose (status_of ending) ⊎ (status_of ending ≡ 9)
   long name bytes e t h = elim f.run [
-    | begun first b s ↦ let l = begun_as (Loading name) first e b in absurd (omega (arith, ap length (told_file files name bytes l.bytes t l.is), l.few))
+    | begun first b i s ↦ let l = begun_as (Loading name) (world_of first) e b in absurd (omega (arith, ap length (told_file files name bytes l.bytes t l.is), l.few))
     | not_begun n p q ↦ long_ends files limit host_rose name bytes t h ending (not_begun_as (Loading name) e n)
   ]
 
   absent : (name : List ℕ) (known : List ℕ → Option (List ℕ)) → usage ≡ Loading name → files ≡ Some known → known name ≡ None → Excused host_rose (status_of ending)
   absent name known e told none = elim f.run [
-    | begun first b s ↦ let l = begun_as (Loading name) first e b in absurd (no_file files known name l.bytes told none l.is)
+    | begun first b i s ↦ let l = begun_as (Loading name) (world_of first) e b in absurd (no_file files known name l.bytes told none l.is)
     | not_begun n p q ↦ absent_excused files limit host_rose name known told none ending (not_begun_as (Loading name) e n)
   ]
 
   served : (first : World) → Begins files limit usage first → (usage ≡ Fresh) ⊎ IsSome files → Excused host_rose (status_of ending) ⊎ ServesExactly limit left left' in_rose out_rose (status_of ending)
   served first b k = elim f.run [
-    | begun other c s ↦ inr (ends_exactly other limit left left' written written' in_rose out_rose (status_of ending) s)
+    | begun other c i s ↦ inr (ends_exactly other limit left left' written written' in_rose out_rose (status_of ending) s)
     | not_begun n p q ↦ inl (not_begun_excused files limit host_rose ending usage first b k n)
   ]
 
@@ -253,7 +254,7 @@ module _ (usage : Usage) (files : Files) (limit : ℕ) (left left' written writt
 
   completes_of : Completes usage files limit left left' host_rose in_rose out_rose (status_of ending)
   completes_of first b k no_host = elim f.run [
-    | begun other c s ↦ completes other limit left left' written written' in_rose out_rose (status_of ending) s
+    | begun other c i s ↦ completes other limit left left' written written' in_rose out_rose (status_of ending) s
     | not_begun n p q ↦ λ bytes asked e frames few no_read no_write. inr (memory_alone no_host (not_begun_excused files limit host_rose ending usage first b k n))
   ]
 

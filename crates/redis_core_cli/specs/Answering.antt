@@ -2,9 +2,7 @@
 use Rattle.std.specs.Prelude.{◌≡◌, ℕ, ◌+◌, List, [], ◌⊎◌, ◌++◌, length, Option, Result, Ok, Err}
 use Rattle.std.specs.Io.KnownBytes.{Appends, Keeps, append_known}
 use Rattle.plain_model.specs.Words.{Words}
-use Rattle.plain_model.specs.Worlds.{World}
-use Rattle.plain_model.specs.Steps.{step}
-use Rattle.plain_model.specs.Runs.{run, at_moment}
+use Rattle.redis_core_cli.specs.Engines.{Engine, Executes, path}
 use Rattle.plain_model.specs.Spelling.{spelling, spelled}
 use Rattle.plain_model.specs.declared.reply.Part.{Part}
 use Rattle.resp_frames.specs.Frames.{Item, Framed, requests}
@@ -55,39 +53,39 @@ Relieves pending pending' written written' (Ok x) = Relieved pending pending' wr
 Relieves pending pending' written written' (Err e) = PutsFront written written' pending
 
 -- a reply is written, or pending
-pub record Replied (before after : World) (words : Words) (pending pending' : List ℕ) (written written' : Option (List ℕ)) : Type 0 where
+pub record Replied (before after : Engine) (words : Words) (pending pending' : List ℕ) (written written' : Option (List ℕ)) : Type 0 where
   pub reply : List Part
-  pub may : step 0 before 0 words reply after
+  pub may : Executes before words reply after
   pub wrote : Written pending pending' written written' (spelling reply)
 
 -- a front of a reply is written, behind what was pending
-pub record RepliedPart (before after : World) (words : Words) (pending : List ℕ) (written written' : Option (List ℕ)) : Type 0 where
+pub record RepliedPart (before after : Engine) (words : Words) (pending : List ℕ) (written written' : Option (List ℕ)) : Type 0 where
   pub reply : List Part
-  pub may : step 0 before 0 words reply after
+  pub may : Executes before words reply after
   pub put : PutsFront written written' (pending ++ spelling reply)
 
 -- what `answer_one` does
-abbrev pub AnswersOne : World → World → Words → List ℕ → List ℕ → Option (List ℕ) → Option (List ℕ) → Type 0 → Answer → Type 0
+abbrev pub AnswersOne : Engine → Engine → Words → List ℕ → List ℕ → Option (List ℕ) → Option (List ℕ) → Type 0 → Answer → Type 0
 AnswersOne before after words pending pending' written written' rose one.Written = Replied before after words pending pending' written written'
 AnswersOne before after words pending pending' written written' rose one.Fault = RepliedPart before after words pending written written' × rose
 AnswersOne before after words pending pending' written written' rose one.Memory = Keeps written written' × (pending' ≡ pending)
 
--- the requests that stand before the rest of the bytes are answered by a run from one world to another, and the replies are written
-pub record Serves (bytes rest : List ℕ) (before after : World) (written written' : Option (List ℕ)) : Type 0 where
+-- the requests that stand before the rest of the bytes are answered by the engine on its way from one state to another, and the replies are written
+pub record Serves (bytes rest : List ℕ) (before after : Engine) (written written' : Option (List ℕ)) : Type 0 where
   pub items : List Item
   pub replies : List (List Part)
   pub framed : Framed bytes items rest
-  pub ran : run 0 before (at_moment 0 (requests items)) replies after
+  pub went : path before (requests items) replies after
   pub wrote : Appends written written' (spelled replies)
 
 -- the same, but of the replies only a front is written
-pub record Breaks (bytes : List ℕ) (before : World) (written written' : Option (List ℕ)) : Type 0 where
+pub record Breaks (bytes : List ℕ) (before : Engine) (written written' : Option (List ℕ)) : Type 0 where
   pub items : List Item
   pub replies : List (List Part)
   pub rest : List ℕ
-  pub after : World
+  pub after : Engine
   pub framed : Framed bytes items rest
-  pub ran : run 0 before (at_moment 0 (requests items)) replies after
+  pub went : path before (requests items) replies after
   pub wrote : PutsFront written written' (spelled replies)
 
 -- a rule is broken in the rest of a stream, at the byte of this number
@@ -95,11 +93,11 @@ abbrev pub IsFaulty : Feeding → Type 0
 IsFaulty feeder = (rule at : ℕ) × (from : List ℕ) × RequestFault feeder.kept rule from × (at + length from ≡ feeder.gone + length feeder.kept)
 
 -- what `answer_all` answers
-abbrev pub AnswersAll : Feeding → Feeding → World → World → Option (List ℕ) → Option (List ℕ) → Type 0 → Answered → Type 0
+abbrev pub AnswersAll : Feeding → Feeding → Engine → Engine → Option (List ℕ) → Option (List ℕ) → Type 0 → Answered → Type 0
 AnswersAll old new before after written written' rose all.All = Serves old.kept new.kept before after written written' × ((new.kept ≡ []) ⊎ IsCut new.kept) × SameFed old new
 AnswersAll old new before after written written' rose all.Protocol = Serves old.kept new.kept before after written written' × IsFaulty new × SameFed old new
 AnswersAll old new before after written written' rose all.Fault = Breaks old.kept before written written' × rose
-AnswersAll old new before after written written' rose all.Memory = (rest : List ℕ) × (after' : World) × Serves old.kept rest before after' written written'
+AnswersAll old new before after written written' rose all.Memory = (rest : List ℕ) × (after' : Engine) × Serves old.kept rest before after' written written'
 
 -- nothing is pending where the run goes on
 abbrev pub AllPut : List ℕ → Answered → Type 0

@@ -1,6 +1,7 @@
 -- What the top call answers: from words, a file and bytes in to bytes out, a status and a line.
 use Rattle.std.specs.Prelude.{◌≡◌, ℕ, ◌≤◌, ◌<◌, List, ◌⊎◌, length, Option, Some, None, IsSome}
 use Rattle.plain_model.specs.Worlds.{World}
+use Rattle.redis_core_cli.specs.Engines.{Engine, world_of, IsFirst}
 use Rattle.rdb_grammar.specs.Files.{IsFault}
 use Rattle.rdb_grammar.specs.declared.fault.LoadKind.{LoadKind}
 use Rattle.rdb_reader.specs.Loads.{RefusesFile}
@@ -10,9 +11,10 @@ use Rattle.redis_core_cli.specs.Starting.{Usage, Fresh, Loading, Wrong, Files, B
 use Rattle.redis_core_cli.specs.Statuses.{status_of}
 use Rattle.redis_core_cli.specs.declared.ending.Ending.{Ending}
 
--- a run: it begins, and is served from the world that it begins with; or nothing is taken and nothing written
+-- a run: it begins, and is served by an engine that holds the world that it begins with; or nothing is taken and nothing
+-- written
 pub data Runs (usage : Usage) (files : Files) (limit : ℕ) (left left' written written' : Option (List ℕ)) (host_rose in_rose out_rose : Type 0) (ending : Ending) : Type 0 where
-  begun : (first : World) → Begins files limit usage first → Served first limit left left' written written' in_rose out_rose (status_of ending) → Runs usage files limit left left' written written' host_rose in_rose out_rose ending
+  begun : (first : Engine) → Begins files limit usage (world_of first) → IsFirst first → Served first limit left left' written written' in_rose out_rose (status_of ending) → Runs usage files limit left left' written written' host_rose in_rose out_rose ending
   not_begun : NotBegun files limit host_rose usage ending → left' ≡ left → written' ≡ written → Runs usage files limit left left' written written' host_rose in_rose out_rose ending
 
 -- a run, with its line in the notes
@@ -54,7 +56,7 @@ pub record Exactly (usage : Usage) (files : Files) (limit : ℕ) (left left' not
   -- a file of at most the limit's bytes with this first fault
   pub refused : (name bytes : List ℕ) (what : LoadKind) (at : ℕ) → usage ≡ Loading name → Tells files name bytes → length bytes ≤ limit → IsFault bytes 0 what at
       → Excused host_rose status ⊎ ((status ≡ 7) × Notes noted noted' note_rose (refused_line what at))
-  pub refused_alone : status ≡ 7 → (name : List ℕ) × (what : LoadKind) × (at : ℕ) × (usage ≡ Loading name) × RefusesFile files name limit what at × Notes noted noted' note_rose (refused_line what at)
+  pub refused_alone : status ≡ 7 → (name : List ℕ) × (what : LoadKind) × (at : ℕ) × (usage ≡ Loading name) × RefusesFile files name limit 0 what at × Notes noted noted' note_rose (refused_line what at)
   -- a file of more bytes than the limit
   pub long : (name bytes : List ℕ) → usage ≡ Loading name → Tells files name bytes → limit < length bytes → Excused host_rose status ⊎ (status ≡ 9)
   -- a name that the host has no file of

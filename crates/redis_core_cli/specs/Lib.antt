@@ -1,4 +1,5 @@
 pub mod Statuses
+pub mod Engines
 pub mod Answering
 pub mod Serving
 pub mod Served

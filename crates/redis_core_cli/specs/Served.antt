@@ -2,33 +2,35 @@
 use Rattle.std.specs.Prelude.{◌≡◌, ◌≢◌, ℕ, ◌<◌, List, ◌⊎◌, ◌++◌, length, Option, Some}
 use Rattle.std.specs.Io.KnownBytes.{Appends, Consumes, IsAtEnd}
 use Rattle.plain_model.specs.Words.{Words}
-use Rattle.plain_model.specs.Worlds.{World}
+use Rattle.redis_core_cli.specs.Engines.{Engine, world_of, path}
 use Rattle.plain_model.specs.Runs.{run, at_moment}
 use Rattle.plain_model.specs.Spelling.{spelled}
 use Rattle.plain_model.specs.declared.reply.Part.{Part}
 use Rattle.resp_frames.specs.Ends.{End, Whole, Cut, Fault, Frames}
 use Rattle.resp_frames.specs.Puts.{PutsFront}
 
--- from the first world, all at moment 0, the requests may be answered by these replies
-pub record Replies (first : World) (asked : List Words) (replies : List (List Part)) : Type 0 where
-  pub world : World
-  pub ran : run 0 first (at_moment 0 asked) replies world
+-- From the world of the first engine, all at moment 0, the requests may be answered by these replies; and the engine
+-- answered them so, request by request.
+pub record Replies (first : Engine) (asked : List Words) (replies : List (List Part)) : Type 0 where
+  pub last : Engine
+  pub ran : run 0 (world_of first) (at_moment 0 asked) replies (world_of last)
+  pub went : path first asked replies last
 
 -- the replies to the requests are written: replies that a plain map may give to them, in order
-pub record AnswersAllOf (first : World) (asked : List Words) (written written' : Option (List ℕ)) : Type 0 where
+pub record AnswersAllOf (first : Engine) (asked : List Words) (written written' : Option (List ℕ)) : Type 0 where
   pub replies : List (List Part)
   pub may : Replies first asked replies
   pub wrote : Appends written written' (spelled replies)
 
 -- the replies to the first of the requests are written
-pub record AnswersFirst (first : World) (asked : List Words) (written written' : Option (List ℕ)) : Type 0 where
+pub record AnswersFirst (first : Engine) (asked : List Words) (written written' : Option (List ℕ)) : Type 0 where
   pub some : List Words
   pub others : List Words
   pub split : asked ≡ some ++ others
   pub answers : AnswersAllOf first some written written'
 
 -- a front of the bytes of replies to the first of the requests is written
-pub record AnswersPart (first : World) (asked : List Words) (written written' : Option (List ℕ)) : Type 0 where
+pub record AnswersPart (first : Engine) (asked : List Words) (written written' : Option (List ℕ)) : Type 0 where
   pub some : List Words
   pub others : List Words
   pub split : asked ≡ some ++ others
@@ -51,13 +53,14 @@ EndsBy limit taken Whole left in_rose status = EndsOpen limit taken left in_rose
 EndsBy limit taken Cut left in_rose status = EndsOpen limit taken left in_rose 3 status
 
 -- how the serving ends, and its status
-pub data Ends (first : World) (limit : ℕ) (taken : List ℕ) (asked : List Words) (end : End) (left written written' : Option (List ℕ)) (in_rose out_rose : Type 0) (status : ℕ) : Type 0 where
+pub data Ends (first : Engine) (limit : ℕ) (taken : List ℕ) (asked : List Words) (end : End) (left written written' : Option (List ℕ)) (in_rose out_rose : Type 0) (status : ℕ) : Type 0 where
   answered : AnswersAllOf first asked written written' → EndsBy limit taken end left in_rose status → Ends first limit taken asked end left written written' in_rose out_rose status
   write_fault : AnswersPart first asked written written' → status ≡ 5 → out_rose → Ends first limit taken asked end left written written' in_rose out_rose status
   no_memory : AnswersFirst first asked written written' → status ≡ 8 → Ends first limit taken asked end left written written' in_rose out_rose status
 
--- the bytes answered are the spelling of replies that a plain map, begun as the first world, may give to the requests framed in the bytes taken
-pub record Served (first : World) (limit : ℕ) (left left' written written' : Option (List ℕ)) (in_rose out_rose : Type 0) (status : ℕ) : Type 0 where
+-- the bytes answered are the spelling of replies that a plain map, begun as the first engine's world, may give to the
+-- requests framed in the bytes taken
+pub record Served (first : Engine) (limit : ℕ) (left left' written written' : Option (List ℕ)) (in_rose out_rose : Type 0) (status : ℕ) : Type 0 where
   pub taken : List ℕ
   pub took : Consumes left left' taken
   pub asked : List Words

@@ -6,6 +6,7 @@ use Rattle.rdb_reader.specs.Fetching.{IsFileOf, IsLongFile}
 use Rattle.rdb_reader.specs.Loads.{RefusesFile}
 use Rattle.rdb_reader.specs.declared.fault.LoadFault.{LoadFault}
 use Rattle.rdb_reader.specs.declared.fault.LoadFault.TheVariants as faults
+use Rattle.redis_core_cli.specs.Engines.{Engine, world_of, IsFirst, IsAtZero}
 use Rattle.redis_core_cli.specs.declared.words.Asked.{Asked}
 use Rattle.redis_core_cli.specs.declared.words.Asked.TheVariants as asked
 use Rattle.redis_core_cli.specs.declared.ending.Ending.{Ending}
@@ -50,7 +51,7 @@ Begins files limit Wrong world = ⊥
 -- why the file of a name is not loaded: a fault of the host, the file's first fault, more bytes than the limit, or want of memory
 abbrev pub NotLoaded : Files → ℕ → Type 0 → List ℕ → Ending → Type 0
 NotLoaded files limit rose name endings.Host = rose
-NotLoaded files limit rose name (endings.Refused what at) = RefusesFile files name limit what at
+NotLoaded files limit rose name (endings.Refused what at) = RefusesFile files name limit 0 what at
 NotLoaded files limit rose name endings.Limit = IsLongFile files name limit
 NotLoaded files limit rose name endings.Memory = Unit {0}
 NotLoaded files limit rose name endings.Whole = ⊥
@@ -60,9 +61,9 @@ NotLoaded files limit rose name endings.Cut = ⊥
 NotLoaded files limit rose name endings.ReadFault = ⊥
 NotLoaded files limit rose name endings.WriteFault = ⊥
 
--- why a run doesn't begin
+-- why a run doesn't begin: want of memory, or what else keeps its file from being loaded, or wrong words
 abbrev pub NotBegun : Files → ℕ → Type 0 → Usage → Ending → Type 0
-NotBegun files limit rose Fresh ending = ⊥
+NotBegun files limit rose Fresh ending = ending ≡ endings.Memory
 NotBegun files limit rose (Loading name) ending = NotLoaded files limit rose name ending
 NotBegun files limit rose Wrong ending = ending ≡ endings.Usage
 
@@ -74,9 +75,9 @@ ending_by faults.Limit = endings.Limit
 ending_by faults.Memory = endings.Memory
 
 -- what `start` answers
-abbrev pub Starts : Files → ℕ → Type 0 → Usage → World → Result (Unit {0}) Ending → Type 0
-Starts files limit rose usage world (Ok x) = Begins files limit usage world
-Starts files limit rose usage world (Err ending) = NotBegun files limit rose usage ending
+abbrev pub Starts : Files → ℕ → Type 0 → Usage → Result Engine Ending → Type 0
+Starts files limit rose usage (Ok engine) = Begins files limit usage (world_of engine) × IsFirst engine × IsAtZero engine
+Starts files limit rose usage (Err ending) = NotBegun files limit rose usage ending
 
 -- what `load_file` answers
 abbrev pub LoadsNamed : Files → ℕ → Type 0 → List ℕ → World → Result (Unit {0}) Ending → Type 0

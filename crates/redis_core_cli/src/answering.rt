@@ -1,16 +1,17 @@
 //! Requests are answered. Replies of a few bytes are gathered, and put when they are many.
 
-ghost use Rattle.std.specs.Prelude.{◌≡◌, ◌≤◌, [], OnErr};
+ghost use Rattle.std.specs.Prelude.{◌≡◌, ◌≤◌, [], IfOk, OnErr};
 ghost use Rattle.outside.specs.Counts.{Rose};
 ghost use Rattle.plain_model.specs.Spelling.{spelling};
 ghost use Rattle.resp_frames.specs.Feeding.{SameFed};
-ghost use Rattle.rdb_reader.specs.Held.{world_of};
+ghost use Rattle.redis_core_cli.specs.Engines.{IsAtZero, Executes};
 ghost use Rattle.redis_core_cli.specs.Answering.{Gathers, PutsLarge, Writes, Relieves, AnswersOne, AnswersAll, Finishes, AllPut};
 
 use crate::pending::{Pending, flush};
+use blocks::PlainStore;
 use outside::{Sink, WriteFault};
-use plain_model::{Part, Reply};
-use redis_core::Engine;
+use plain_model::{Memory, Part, Reply};
+use redis_core::{Done, Engine};
 use resp_frames::{Feeder, FrameFault, Request, spell};
 
 /// Replies of so many bytes are put.
@@ -90,17 +91,28 @@ fn write_reply<O: Sink>(reply: &Reply, pending: &mut Pending, output: &mut O) ->
     gather(reply, pending)
 }
 
+// Runs one request. There is no clock yet: the moment of each is 0.
+fn execute(engine: &mut Engine<PlainStore>, request: &Request<'_>) -> Result<Done, Memory>
+    requires { IsAtZero engine.old }
+    ensures executes { IfOk result (λ done. Executes engine.old request.now done.reply engine.new) }
+    ensures zero { IsAtZero engine.new }
+{
+    engine.execute(request, 0)
+}
+
 // Answers one request.
 fn answer_one<O: Sink>(
-    engine: &mut Engine,
+    engine: &mut Engine<PlainStore>,
     request: &Request<'_>,
     pending: &mut Pending,
     output: &mut O,
 ) -> Answer
-    ensures answers { AnswersOne (world_of engine.old) (world_of engine.new) request.now pending.old.bytes.items pending.new.bytes.items (O.told output.old) (O.told output.new) (Rose (O.faults output.old) (O.faults output.new)) result }
+    requires { IsAtZero engine.old }
+    ensures answers { AnswersOne engine.old engine.new request.now pending.old.bytes.items pending.new.bytes.items (O.told output.old) (O.told output.new) (Rose (O.faults output.old) (O.faults output.new)) result }
+    ensures zero { IsAtZero engine.new }
     ensures counted { O.faults output.old ≤ O.faults output.new }
 {
-    match engine.execute(request) {
+    match execute(engine, request) {
         Err(_) => Answer::Memory,
         Ok(done) => write_reply(&done.reply, pending, output),
     }
@@ -131,14 +143,16 @@ fn finish<O: Sink>(pending: &mut Pending, output: &mut O, answered: Answered) ->
 
 /// Answers each request that is whole, and puts the replies.
 pub fn answer_all<O: Sink>(
-    engine: &mut Engine,
+    engine: &mut Engine<PlainStore>,
     feeder: &mut Feeder,
     pending: &mut Pending,
     output: &mut O,
 ) -> Answered
-    requires { pending.old.bytes.items ≡ [] }
-    ensures answers { AnswersAll feeder.old feeder.new (world_of engine.old) (world_of engine.new) (O.told output.old) (O.told output.new) (Rose (O.faults output.old) (O.faults output.new)) result }
+    requires none { pending.old.bytes.items ≡ [] }
+    requires zero { IsAtZero engine.old }
+    ensures answers { AnswersAll feeder.old feeder.new engine.old engine.new (O.told output.old) (O.told output.new) (Rose (O.faults output.old) (O.faults output.new)) result }
     ensures none { AllPut pending.new.bytes.items result }
+    ensures zero { IsAtZero engine.new }
     ensures counted { O.faults output.old ≤ O.faults output.new }
 {
     'requests: loop {

@@ -11,6 +11,8 @@ mod pending;
 mod serving;
 mod starting;
 #[cfg(test)]
+mod string_tests;
+#[cfg(test)]
 mod tests;
 mod top_call;
 mod words;

@@ -2,7 +2,7 @@
 
 ghost use Rattle.std.specs.Prelude.{◌≡◌, ◌^◌, ◌≤◌, ◌<◌, ◌+◌, [], length};
 ghost use Rattle.outside.specs.Counts.{Rose};
-ghost use Rattle.rdb_reader.specs.Held.{world_of};
+ghost use Rattle.redis_core_cli.specs.Engines.{IsAtZero};
 ghost use Rattle.redis_core_cli.specs.Served.{Served};
 ghost use Rattle.redis_core_cli.specs.Serving.{Takes, IsFresh};
 ghost use Rattle.redis_core_cli.specs.Statuses.{status_of};
@@ -10,6 +10,7 @@ ghost use Rattle.redis_core_cli.specs.Statuses.{status_of};
 use crate::answering::{Answered, answer_all};
 use crate::ending::Ending;
 use crate::pending::Pending;
+use blocks::PlainStore;
 use outside::{Sink, Source};
 use redis_core::Engine;
 use resp_frames::Feeder;
@@ -50,7 +51,7 @@ fn take_piece<I: Source>(input: &mut I, room: &mut [u8], feeder: &mut Feeder) ->
 // Serves the requests of the input, of which at most so many bytes are taken, with a feeder and a sink in memory that are new.
 #[tactic(none)]
 fn serve<I: Source, O: Sink>(
-    engine: &mut Engine,
+    engine: &mut Engine<PlainStore>,
     feeder: &mut Feeder,
     pending: &mut Pending,
     input: &mut I,
@@ -58,11 +59,12 @@ fn serve<I: Source, O: Sink>(
     room: &mut [u8],
     limit: u64,
 ) -> Ending
+    requires zero { IsAtZero engine.old }
     requires feeder { IsFresh feeder.old }
     requires pending { pending.old.bytes.items ≡ [] }
     requires room { length room.old ≡ 65536 }
     requires limit { limit ≤ 2 ^ 61 }
-    ensures { Served (world_of engine.old) limit (I.told input.old) (I.told input.new) (O.told output.old) (O.told output.new)
+    ensures { Served engine.old limit (I.told input.old) (I.told input.new) (O.told output.old) (O.told output.new)
         (Rose (I.faults input.old) (I.faults input.new)) (Rose (O.faults output.old) (O.faults output.new)) (status_of result) }
 {
     let mut taken: u64 = 0;
@@ -93,13 +95,14 @@ fn serve<I: Source, O: Sink>(
 /// Serves the requests of the input with this engine. At most so many bytes are taken.
 pub fn serve_input<I: Source, O: Sink>(
     alloc: Global,
-    engine: &mut Engine,
+    engine: &mut Engine<PlainStore>,
     input: &mut I,
     output: &mut O,
     limit: u64,
 ) -> Ending
-    requires { limit ≤ 2 ^ 61 }
-    ensures { Served (world_of engine.old) limit (I.told input.old) (I.told input.new) (O.told output.old) (O.told output.new)
+    requires zero { IsAtZero engine.old }
+    requires limit { limit ≤ 2 ^ 61 }
+    ensures { Served engine.old limit (I.told input.old) (I.told input.new) (O.told output.old) (O.told output.new)
         (Rose (I.faults input.old) (I.faults input.new)) (Rose (O.faults output.old) (O.faults output.new)) (status_of result) }
 {
     let mut feeder = Feeder::new(alloc);

@@ -39,7 +39,7 @@ const ROWS: [Row; 22] = [
         0,
     ),
     Row(
-        b"*4\r\n$3\r\nsEt\r\n$1\r\na\r\n$1\r\nb\r\n$2\r\nNX\r\n*2\r\n$3\r\nGET\r\n$1\r\na\r\n",
+        b"*4\r\n$3\r\nsEt\r\n$1\r\na\r\n$1\r\nb\r\n$2\r\nEX\r\n*2\r\n$3\r\nGET\r\n$1\r\na\r\n",
         b"-ERR syntax error\r\n$-1\r\n",
         0,
     ),

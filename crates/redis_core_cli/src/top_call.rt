@@ -2,7 +2,6 @@
 
 ghost use Rattle.std.specs.Prelude.{◌≡◌, ◌^◌, ◌≤◌, map, string_bytes};
 ghost use Rattle.outside.specs.Counts.{Rose};
-ghost use Rattle.plain_model.specs.Worlds.{no_keys};
 ghost use Rattle.redis_core_cli.specs.Headline.{Runs, Finishes, Concludes, Causes, Exactly, Completes, NotesStatus};
 ghost use Rattle.redis_core_cli.specs.Starting.{usage_of};
 
@@ -11,7 +10,6 @@ use crate::notes::note;
 use crate::serving::serve_input;
 use crate::starting::start;
 use outside::{Host, Sink, Source};
-use redis_core::Engine;
 use std::alloc::Global;
 
 /// At most so many bytes are taken from the input, and from a file.
@@ -21,20 +19,18 @@ const LIMIT: u64 = 1_099_511_627_776;
 #[tactic(none)]
 fn run<H: Host, I: Source, O: Sink>(
     alloc: Global,
-    engine: &mut Engine,
     words: &[String],
     host: &mut H,
     input: &mut I,
     output: &mut O,
     limit: u64,
 ) -> Ending
-    requires engine { engine.old ≡ no_keys }
-    requires limit { limit ≤ 2 ^ 61 }
+    requires { limit ≤ 2 ^ 61 }
     ensures { Runs (usage_of (map string_bytes words.now)) (H.files host.old) limit (I.told input.old) (I.told input.new) (O.told output.old) (O.told output.new)
         (Rose (H.faults host.old) (H.faults host.new)) (Rose (I.faults input.old) (I.faults input.new)) (Rose (O.faults output.old) (O.faults output.new)) result }
 {
-    match start(engine, words, host, limit) {
-        Ok(()) => serve_input(alloc, engine, input, output, limit),
+    match start(alloc, words, host, limit) {
+        Ok(mut engine) => serve_input(alloc, &mut engine, input, output, limit),
         Err(ending) => ending,
     }
 }
@@ -54,8 +50,7 @@ pub fn redis_core_up_to<H: Host, I: Source, O: Sink, N: Sink>(
     ensures { Finishes (usage_of (map string_bytes words.now)) (H.files host.old) limit (I.told input.old) (I.told input.new) (O.told output.old) (O.told output.new) (N.told notes.old) (N.told notes.new)
         (Rose (H.faults host.old) (H.faults host.new)) (Rose (I.faults input.old) (I.faults input.new)) (Rose (O.faults output.old) (O.faults output.new)) (Rose (N.faults notes.old) (N.faults notes.new)) result }
 {
-    let mut engine = Engine::new(alloc);
-    let ending = run(alloc, &mut engine, words, host, input, output, limit);
+    let ending = run(alloc, words, host, input, output, limit);
     note(notes, ending);
     ending
 }

@@ -1,5 +1,4 @@
-use Rattle.std.proofs.Common.{[], ◌++◌, ap, ◌∙◌}
-use Rattle.plain_model.specs.StringSteps.{written_over}
+use Rattle.std.proofs.Common.{[], ◌++◌, ap}
 use Rattle.cmd_values.proofs.Lowering.{text_intact, text_sound, text_becomes}
 use Rattle.cmd_values.proofs.changing.append_there.Goals as goal
 

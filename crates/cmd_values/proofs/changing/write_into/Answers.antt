@@ -1,4 +1,4 @@
-use Rattle.std.proofs.Common.{refl, rules, arith, ap, sym, ◌∙◌}
+use Rattle.std.proofs.Common.{refl, rules, ap, ◌∙◌}
 use Rattle.std.specs.Prelude.{max, ◌+◌, length}
 use Rattle.keyspace.specs.Commands.{seen}
 use Rattle.cmd_values.proofs.Strings.{put_there, range_none, range_some}

@@ -1,4 +1,4 @@
-use Rattle.std.proofs.Common.{[], ◌++◌, ap, ◌∙◌}
+use Rattle.std.proofs.Common.{[], ap, ◌∙◌}
 use Rattle.plain_model.specs.StringSteps.{written_over}
 use Rattle.cmd_values.proofs.Ranges.{ranged_over}
 use Rattle.cmd_values.proofs.Lowering.{text_intact, text_sound, text_becomes}

@@ -1,16 +1,23 @@
 use Rattle.std.proofs.Common.{◌≡◌, ◌≤◌, ◌-◌, length}
 use Rattle.std.specs.FinMap.{len}
-use Rattle.rdb_reader.specs.Held.{base_of}
+use Rattle.blocks.specs.Blocks.{Served}
+use Rattle.keyspace.specs.Databases.{means, SameSettings}
+use Rattle.keyspace.specs.Sound.{Sound}
 use Rattle.rdb_reader.specs.Loads.{Holds}
 use Rattle.rdb_reader.proofs.items.read_items.Given as goal
 
 abbrev pub invariant-items : goal.invariant-items
-invariant-items l = record {
-  holds : Holds l.bytes l.at (base_of l.map.entries);
-  keys : l.keys ≡ len (base_of l.map.entries);
-  few : l.keys ≤ l.at;
-  within : l.at ≤ length l.bytes;
-}
+invariant-items g l =
+    let blocks = g.B.BlockStore.blocks in
+    record {
+      holds : Holds l.bytes l.moment l.at (means 0 l.keyspace.bases (blocks l.keyspace.store));
+      keys : l.keys ≡ len ((means 0 l.keyspace.bases (blocks l.keyspace.store)).bases 0);
+      few : l.keys ≤ l.at;
+      within : l.at ≤ length l.bytes;
+      sound : Sound l.keyspace.bases (blocks l.keyspace.store);
+      served : Served g.B.BlockStore.step l.fn.keyspace.store l.keyspace.store;
+      settings : SameSettings l.fn.keyspace.bases l.keyspace.bases;
+    }
 
 abbrev pub decreases-items : goal.decreases-items
-decreases-items l = length l.bytes - l.at
+decreases-items g l = length l.bytes - l.at

@@ -1,12 +1,12 @@
 use Rattle.std.proofs.Common.{arith, refl}
-use Rattle.rdb_reader.specs.Held.{world_of}
 use Rattle.redis_core_cli.proofs.Runs.{rose_after, le_trans}
 use Rattle.redis_core_cli.proofs.Gathering.{gathered_starts, gathered_reply, gathered_relieved, gathered_breaks, gathered_fault, finish_protocol, finish_all, finish_memory, relieved_kept, fed_then, protocol_is, false_is, true_is, gives_lent}
 use Rattle.redis_core_cli.proofs.answering.answer_all.Goals as goal
 
 pub requests-init : goal.requests-init
 requests-init g c = record {
-  gathered = gathered_starts c.args.feeder.now.kept (world_of c.args.engine.now) _ c.args.pending.now.bytes.items c.requires;
+  gathered = gathered_starts c.args.feeder.now.kept c.args.engine.now _ c.args.pending.now.bytes.items c.requires.none;
+  zero = c.requires.zero;
   fed = refl;
   counted = omega arith;
 }
@@ -50,6 +50,7 @@ requests-preserved g c =
     record {
       gathered = gathered_relieved _ _ _ _ _ _ _ s _ c.relieve.new.pending.bytes.items c.in-Ok.ensures.bytes;
       fed = fed_then c.args.feeder.now c.requests.feeder c.next_request.new.self v.fed n.fed;
+      zero = c.in-Written.ensures.zero;
       counted = le_trans _ _ _ v.counted (le_trans _ _ _ c.in-Written.ensures.counted c.in-Ok.ensures.counted);
     }
 

@@ -1,10 +1,7 @@
 use Rattle.redis_core_cli.proofs.top_call.redis_core_up_to.Goals as goal
 
-pub run-ending-requires-clause-engine : goal.run-ending-requires-clause-engine
-run-ending-requires-clause-engine g c = c.new-engine.ensures
-
-pub run-ending-requires-clause-limit : goal.run-ending-requires-clause-limit
-run-ending-requires-clause-limit g c = c.requires
+pub run-ending-requires : goal.run-ending-requires
+run-ending-requires g c = c.requires
 
 pub returns : goal.returns
 returns g c = record { run = c.run-ending.ensures; line = c.note.ensures }

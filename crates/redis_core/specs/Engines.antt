@@ -1,0 +1,68 @@
+-- What contracts see of an engine, and what its calls do.
+use Rattle.std.specs.Prelude.{◌≡◌, ℕ, ◌<◌, List, Bool, true, false, Result, Ok, Err, IfOk}
+use Rattle.blocks.specs.Blocks.{Blocks, Served}
+use Rattle.plain_model.specs.Words.{Words}
+use Rattle.plain_model.specs.Worlds.{World, live, new_world}
+use Rattle.plain_model.specs.Steps.{step}
+use Rattle.plain_model.specs.Outcomes.{IsRefusal}
+use Rattle.plain_model.specs.declared.ctx.Ctx.{Ctx}
+use Rattle.plain_model.specs.declared.reply.Part.{Part}
+use Rattle.keyspace.specs.Databases.{Bases, means, SameSettings}
+use Rattle.keyspace.specs.Sound.{Sound}
+use Rattle.keyspace.specs.Commands.{seen}
+use Rattle.rdb_reader.specs.declared.fault.LoadFault.{LoadFault}
+use Rattle.rdb_reader.specs.declared.fault.LoadFault.TheVariants as faults
+
+-- the databases and their store, the number of the selected one, the last moment that was used, and whether memory was
+-- refused to the engine
+pub record State (S : Type 0) : Type 0 where
+  pub bases : Bases
+  pub store : S
+  pub selected : ℕ
+  pub last : ℕ
+  pub is_spent : Bool
+
+module _ {S : Type 0} (blocks : S → Blocks) where
+  -- the world that an engine holds, at the last moment that it used
+  abbrev pub world_of : State S → World
+  world_of engine = live (means engine.selected engine.bases (blocks engine.store)) engine.last
+
+  -- no database has a key
+  abbrev pub HasNoKey : State S → Type 0
+  HasNoKey engine = means 0 engine.bases (blocks engine.store) ≡ new_world
+
+  -- database 0 is selected, no database has a key, no moment was used yet and no memory refused
+  pub record IsNew (engine : State S) : Type 0 where
+    pub empty : HasNoKey engine
+    pub selected : engine.selected ≡ 0
+    pub last : engine.last ≡ 0
+    pub alive : engine.is_spent ≡ false
+
+  -- The databases are sound, and one of them is selected.
+  pub record IsWhole (bases : Bases) (store : S) (selected : ℕ) : Type 0 where
+    pub sound : Sound bases (blocks store)
+    pub within : selected < 16
+
+-- databases, store and the selected one stay
+pub record Stays {S : Type 0} (old new : State S) : Type 0 where
+  pub bases : new.bases ≡ old.bases
+  pub store : new.store ≡ old.store
+  pub selected : new.selected ≡ old.selected
+
+-- memory was refused
+abbrev pub is_memory : {A : Type 0} → Result A LoadFault → Bool
+is_memory (Ok loaded) = false
+is_memory (Err (faults.Refused what at)) = false
+is_memory (Err faults.Host) = false
+is_memory (Err faults.Limit) = false
+is_memory (Err faults.Memory) = true
+
+-- The request is a step of the model on what the keyspace means, before and after. Where it is refused, keyspace and store
+-- stay as they are. The keyspace is sound afterwards, also for want of memory, and the store was served placings, returns
+-- and writes alone.
+pub record Answers {S E : Type 0} (blocks : S → Blocks) (step_of : S → S → Type 0) (old new : S) (before after : Bases) (at : Ctx) (words : Words) (result : Result (List Part) E) : Type 0 where
+  pub answers : IfOk result (λ reply. step before.seed (means at.db before (blocks old)) at.moment words reply (seen at after (blocks new)))
+  pub refusals : IfOk result (λ reply. IsRefusal reply → (new ≡ old) × (after ≡ before))
+  pub sound : Sound after (blocks new)
+  pub served : Served step_of old new
+  pub settings : SameSettings before after

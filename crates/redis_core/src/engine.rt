@@ -1,0 +1,147 @@
+//! The engine, and what a request led to.
+
+ghost use Rattle.std.specs.Prelude.{◌≡◌, ◌⊎◌, false, true, max, IfOk, is_err};
+ghost use Rattle.outside.specs.Counts.{Rose};
+ghost use Rattle.blocks.specs.Blocks.{no_blocks, Served};
+ghost use Rattle.object_codec.specs.Limits.{AreInRange};
+ghost use Rattle.plain_model.specs.Steps.{step};
+ghost use Rattle.plain_model.specs.Outcomes.{IsRefusal};
+ghost use Rattle.keyspace.specs.Databases.{SameSettings};
+ghost use Rattle.keyspace.specs.Sound.{Sound};
+ghost use Rattle.rdb_reader.specs.Loads.{Loads};
+ghost use Rattle.redis_core.specs.Engines.{world_of, HasNoKey, IsNew, Stays, is_memory};
+
+use crate::answering::answer;
+use blocks::BlockStore;
+use keyspace::Keyspace;
+use object_codec::Limits;
+use outside::Host;
+use plain_model::{Ctx, Memory, Reply};
+use rdb_reader::{LoadFault, Loaded, load};
+use resp_frames::Request;
+use std::alloc::{AllocError, Global};
+use std::marker::Model;
+
+/// What a request led to.
+#[derive(Drop)]
+pub struct Done {
+    pub reply: Reply,
+    /// Whether the run ends with it.
+    pub quit: bool,
+}
+
+/// A keyspace that requests are run on, one after the other. At every exit its databases are sound: they own each live
+/// block of the store exactly once.
+///
+/// An engine is spent from the first call on that answered `Memory`: each later `load` and `execute` answers `Memory`, and
+/// what its databases hold isn't said.
+#[derive(Drop)]
+pub struct Engine<B: BlockStore> {
+    keyspace: Keyspace<B>,
+    selected: usize,
+    last: u64,
+    is_spent: bool,
+}
+
+impl<B: BlockStore> Model for Engine<B> {
+    ghost use Rattle.redis_core.specs.Engines.{State, IsWhole};
+
+    ghost Value = { State B };
+
+    ghost view = { λ e. record { bases = e.keyspace.bases; store = e.keyspace.store; selected = e.selected; last = e.last; is_spent = e.is_spent } };
+
+    ghost invariant = { λ e. IsWhole B.blocks e.keyspace.bases e.keyspace.store e.selected };
+}
+
+impl<B: BlockStore> Engine<B> {
+    /// An engine without a key, over a store without a live block. Values are made with these limits, and hashes with this
+    /// seed.
+    pub fn new(alloc: Global, store: B, limits: Limits, seed: u64) -> Result<Engine<B>, Memory>
+        requires empty { B.blocks store ≡ no_blocks }
+        requires limits { AreInRange limits }
+        ensures begun { IfOk result (λ engine. IsNew B.blocks engine) }
+        ensures sound { IfOk result (λ engine. Sound engine.bases (B.blocks engine.store)) }
+        ensures store { IfOk result (λ engine. engine.store ≡ store) }
+        ensures limits { IfOk result (λ engine. engine.bases.limits ≡ limits) }
+        ensures seed { IfOk result (λ engine. engine.bases.seed ≡ seed) }
+    {
+        let keyspace = Keyspace::new(alloc, store, limits, seed)?;
+        Ok(Engine {
+            keyspace,
+            selected: 0,
+            last: 0,
+            is_spent: false,
+        })
+    }
+
+    /// Whether a call answered `Memory`.
+    pub fn is_spent(&self) -> bool
+        ensures { result ≡ self.now.is_spent }
+    {
+        self.is_spent
+    }
+
+    /// Loads the host's file of this name, of at most so many bytes, into an engine that has no key or is spent. Database 0
+    /// is selected afterwards. The moment, in milliseconds, counts as the last one that was used where that is later.
+    ///
+    /// `Refused` comes exactly where the format excludes the file, with its first fault; `Host` only where the host's count
+    /// of faults rose; `Limit` exactly where the file has more bytes than the limit. After each of them the engine has no key.
+    pub fn load<H: Host>(
+        &mut self,
+        host: &mut H,
+        name: &str,
+        limit: u64,
+        moment: u64,
+    ) -> Result<Loaded, LoadFault>
+        requires empty { HasNoKey B.blocks self.old ⊎ (self.old.is_spent ≡ true) }
+        ensures loads { self.old.is_spent ≡ false → Loads (H.files host.old) name.now limit self.new.last (Rose (H.faults host.old) (H.faults host.new)) (world_of B.blocks self.new) result }
+        ensures moment { self.new.last ≡ max self.old.last moment }
+        ensures spent { self.new.is_spent ≡ is_memory result }
+        ensures spent_before { self.old.is_spent ≡ true → (result ≡ Err LoadFault.Memory) × Stays self.old self.new }
+        ensures sound { Sound self.new.bases (B.blocks self.new.store) }
+        ensures served { Served B.step self.old.store self.new.store }
+        ensures settings { SameSettings self.old.bases self.new.bases }
+    {
+        self.last = self.last.max(moment);
+        if self.is_spent {
+            return Err(LoadFault::Memory);
+        }
+        self.selected = 0;
+        let alloc = self.keyspace.alloc();
+        let loaded = load(alloc, host, name, limit, &mut self.keyspace, self.last);
+        self.is_spent = matches!(loaded, Err(LoadFault::Memory));
+        loaded
+    }
+
+    /// Runs one request, which is a step of the model. The moment, in milliseconds, counts as the last one that was used
+    /// where that is later. A request that is refused changes no database and no block, and selects none.
+    ///
+    /// `Memory` where memory was refused in this call or an earlier one.
+    pub fn execute(&mut self, request: &Request<'_>, moment: u64) -> Result<Done, Memory>
+        ensures step { IfOk result (λ done. step self.old.bases.seed (world_of B.blocks self.old) self.new.last request.now done.reply (world_of B.blocks self.new)) }
+        ensures refused { IfOk result (λ done. IsRefusal done.reply → Stays self.old self.new) }
+        ensures quit { IfOk result (λ done. done.quit ≡ false) }
+        ensures moment { self.new.last ≡ max self.old.last moment }
+        ensures spent { self.new.is_spent ≡ is_err result }
+        ensures spent_before { self.old.is_spent ≡ true → (is_err result ≡ true) × Stays self.old self.new }
+        ensures sound { Sound self.new.bases (B.blocks self.new.store) }
+        ensures served { Served B.step self.old.store self.new.store }
+        ensures settings { SameSettings self.old.bases self.new.bases }
+    {
+        self.last = self.last.max(moment);
+        if self.is_spent {
+            return Err(AllocError);
+        }
+        let at = Ctx {
+            db: self.selected,
+            moment: self.last,
+        };
+        match answer(&mut self.keyspace, &at, request) {
+            Ok(reply) => Ok(Done { reply, quit: false }),
+            Err(_) => {
+                self.is_spent = true;
+                Err(AllocError)
+            }
+        }
+    }
+}
