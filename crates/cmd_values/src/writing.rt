@@ -19,7 +19,7 @@ use keyspace::{Keyspace, Value};
 use plain_model::{Bytes, Command, Condition, Ctx, Line, Memory, Reply, StringCommand};
 use string_object::Text;
 
-/// Lets a string stand at a key, without a deadline. For want of memory what stands at each key stays.
+/// Lets a string stand at a key, without a deadline.
 pub fn put_string<B: BlockStore>(
     keyspace: &mut Keyspace<B>,
     at: &Ctx,

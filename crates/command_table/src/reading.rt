@@ -23,7 +23,7 @@ fn read_named(alloc: Global, name: Name, request: &Request<'_>) -> Result<Comman
 }
 
 /// Reads a request: the command that its words mean, or why they are refused. First the name is looked up, then the
-/// number of words is looked at, and then they are read from left to right. A refused request asks for no memory.
+/// number of words is looked at, and then they are read from left to right.
 ///
 /// `Memory` where there is none for the words that the command keeps.
 pub fn read(alloc: Global, request: &Request<'_>) -> Result<Command, ReadingFault>

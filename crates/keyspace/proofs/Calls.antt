@@ -159,6 +159,12 @@ module _ (old : Bases) (m mid : Blocks) (r : BlockRef) (key : List ℕ) (value :
         (Changes-beside mid after (r ∷ value_refs value) [] (owned old ++ r ∷ value_refs value) (owned old) back (λ q. omega (arith, placed_intact.owned q, times-append q (owned old) (r ∷ value_refs value))) (λ q. times q (owned old))
         (λ q. omega (arith, times-append q (owned old) (r ∷ value_refs value))) (λ q. omega arith))
 
+    -- over both calls, the value alone
+    pub back_alone : Changes m after (value_refs value) []
+    back_alone =
+        Changes-then m mid after (value_refs value) (r ∷ value_refs value) []
+        (Changes-beside m mid [] (r ∷ []) (value_refs value) (r ∷ value_refs value) p (λ q. omega (arith, intact.owned q)) (λ q. times q (value_refs value)) (λ q. omega arith) (λ q. omega arith)) back
+
 -- the value alone is given back
 module _ (old : Bases) (m after : Blocks) (value : Value) (intact : IsIntact old m (value_refs value)) (p : Changes m after (value_refs value) []) where
   pub refused_means : (db : ℕ) → means db old after ≡ means db old m

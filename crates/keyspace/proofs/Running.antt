@@ -1,5 +1,5 @@
 -- What a command promises, from what its parts do.
-use Rattle.std.proofs.Common.{◌≡◌, ℕ, List, Result, Ok, Err, IfOk, refl, sym, ap, ◌∙◌}
+use Rattle.std.proofs.Common.{◌≡◌, List, Result, Ok, Err, IfOk, refl, sym, ap}
 use Rattle.blocks.specs.Blocks.{Blocks, Served}
 use Rattle.plain_model.specs.Worlds.{World}
 use Rattle.plain_model.specs.Steps.{may}

@@ -1,5 +1,4 @@
 -- What a store was served over the calls of a command.
-use Rattle.std.proofs.Common.{◌≡◌}
 use Rattle.blocks.specs.Blocks.{Served, no_step}
 use Rattle.blocks.proofs.Serve.{Served-then}
 

@@ -1,5 +1,5 @@
 -- What a command promises that runs over a keyspace.
-use Rattle.std.specs.Prelude.{◌≡◌, ℕ, List, Result, IfOk}
+use Rattle.std.specs.Prelude.{◌≡◌, List, Result, IfOk}
 use Rattle.blocks.specs.Blocks.{Blocks, Served}
 use Rattle.plain_model.specs.Worlds.{World, live}
 use Rattle.plain_model.specs.Steps.{may}

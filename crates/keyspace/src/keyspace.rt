@@ -19,8 +19,8 @@ use string_object::Text;
 
 /// A store, and the databases whose keys and values stand in its blocks. The databases are numbered below 16.
 ///
-/// Each call asks that the databases, together with the values over the store that the caller has out, name live
-/// blocks alone, and none twice. Where these are all live blocks before a call, they are so after it.
+/// Each call asks that the databases, with a value that is handed in, name live blocks alone, and none twice. Where they are
+/// all live blocks before a call, together with the values over the store that the caller has out, they are so after it.
 #[derive(Drop)]
 pub struct Keyspace<B> {
     pub store: B,
@@ -137,9 +137,9 @@ impl<B: BlockStore> Keyspace<B> {
         let _zero = self.bases.swap_value(db, item, value);
     }
 
-    /// Lets a value stand at a key, with a deadline in milliseconds where it has one. What stood there is released.
+    /// Lets a value stand at a key. What stood there is released. No key has a deadline yet: `None` is handed in.
     ///
-    /// `Memory` leaves what stands at each key, and releases the value that was handed in.
+    /// `Memory` leaves the databases and all their blocks, and releases the value that was handed in.
     pub fn put(
         &mut self,
         db: usize,
@@ -154,9 +154,12 @@ impl<B: BlockStore> Keyspace<B> {
         ensures kept { OnErr result (means db self.new.bases (B.blocks self.new.store) ≡ means db self.old.bases (B.blocks self.old.store)) }
         ensures sound { (all out : List BlockRef) → SoundBeside self.old.bases (B.blocks self.old.store) all → AreParts all (value_refs value) out → SoundBeside self.new.bases (B.blocks self.new.store) out }
         ensures changes { Changes (B.blocks self.old.store) (B.blocks self.new.store) (owned self.old.bases ++ value_refs value) (owned self.new.bases) }
+        ensures err_bases { OnErr result (self.new.bases ≡ self.old.bases) }
+        ensures err_blocks { OnErr result (Changes (B.blocks self.old.store) (B.blocks self.new.store) (value_refs value) []) }
         ensures served { Served B.step self.old.store self.new.store }
         ensures settings { SameSettings self.old.bases self.new.bases }
     {
+        // No key has a deadline yet.
         let _ = deadline;
         let Some(at) = self.bases.find(&self.store, db, key) else {
             return self.put_new(db, key, value);
@@ -175,6 +178,8 @@ impl<B: BlockStore> Keyspace<B> {
         ensures kept { OnErr result (means db self.new.bases (B.blocks self.new.store) ≡ means db self.old.bases (B.blocks self.old.store)) }
         ensures arranged { IsArranged self.new.bases (B.blocks self.new.store) }
         ensures changes { Changes (B.blocks self.old.store) (B.blocks self.new.store) (owned self.old.bases ++ value_refs value) (owned self.new.bases) }
+        ensures err_bases { OnErr result (self.new.bases ≡ self.old.bases) }
+        ensures err_blocks { OnErr result (Changes (B.blocks self.old.store) (B.blocks self.new.store) (value_refs value) []) }
         ensures served { Served B.step self.old.store self.new.store }
         ensures settings { SameSettings self.old.bases self.new.bases }
     {

@@ -5,7 +5,7 @@ use Rattle.keyspace.specs.declared.value.Value.{Value}
 use Rattle.keyspace.specs.Databases.{Bases, owned, means}
 use Rattle.keyspace.specs.Values.{value_refs}
 use Rattle.keyspace.specs.Sound.{IsArranged}
-use Rattle.keyspace.proofs.Calls.{placed_intact, placed_lacks, new_means, new_arranged, new_changes, back_means, back_arranged, back_changes, refused_means, refused_arranged, refused_changes}
+use Rattle.keyspace.proofs.Calls.{placed_intact, placed_lacks, new_means, new_arranged, new_changes, back_means, back_arranged, back_changes, back_alone, refused_means, refused_arranged, refused_changes}
 use Rattle.keyspace.proofs.keyspace.Keyspace.put_new.Goals as goal
 
 pub returns-in_default-clause-kept : goal.returns-in_default-clause-kept
@@ -81,3 +81,14 @@ returns-in-Err-clause-changes g c =
 
 pub returns-in-Err-clause-served : goal.returns-in-Err-clause-served
 returns-in-Err-clause-served g c = Served-then _ _ _ c.put_block.ensures.served c.release_both.ensures.served
+
+pub returns-in_default-clause-err_blocks : goal.returns-in_default-clause-err_blocks
+returns-in_default-clause-err_blocks g c = subst (λ (b : Blocks). Changes b (g.B.BlockStore.blocks c.release.new.store) (value_refs c.args.value) []) c.in_default.ensures.err_blocks c.release.ensures.changes
+
+pub returns-in-Err-clause-err_blocks : goal.returns-in-Err-clause-err_blocks
+returns-in-Err-clause-err_blocks g c =
+    let m = g.B.BlockStore.blocks c.args.self.now.store in
+    let mid = g.B.BlockStore.blocks c.put_block.new.store in
+    let after = g.B.BlockStore.blocks c.release_both.new.store in
+    back_alone c.args.self.now.bases m mid c.in-Ok.at c.args.key.now c.args.value c.requires.intact c.in-Ok.ensures.placed c.in-Ok.ensures.changes after
+    (subst (λ (v : Value). Changes mid after (c.in-Ok.at ∷ value_refs v) []) c.in-Err.ensures.value_returned c.release_both.ensures.changes)
