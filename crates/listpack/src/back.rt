@@ -1,29 +1,9 @@
 // Back lengths.
 
-ghost use Rattle.std.specs.Prelude.{◌≡◌, ◌<◌, ◌≤◌, ◌^◌, ◌+◌, ◌-◌, ◌*◌, ◌%◌, ◌++◌, ℕ, List, length, slice_index, take};
+ghost use Rattle.std.specs.Prelude.{◌≡◌, ◌<◌, ◌≤◌, ◌^◌, ◌+◌, ◌-◌, ◌*◌, ◌%◌, ◌++◌, ℕ, List, length, slice_index};
 ghost use Rattle.listpack.specs.Entry.{back_length, seven_bits, BackLengthLimits};
 
-/// The back length of an entry: the first `len` of these bytes.
-#[derive(Clone, Copy)]
-pub(crate) struct BackLength {
-    bytes: [u8; 5],
-    len: usize,
-    ghost within: { len ≤ 5 },
-}
-
-impl BackLength {
-    pub(crate) fn len(&self) -> usize
-        ensures { result ≡ self.now.len }
-    {
-        self.len
-    }
-
-    pub(crate) fn as_slice(&self) -> &[u8]
-        ensures { result.now ≡ take self.now.len self.now.bytes }
-    {
-        &self.bytes[..self.len]
-    }
-}
+use crate::few::FewBytes;
 
 // The lowest seven bits, marked as not the first ones.
 fn low_seven(size: usize) -> u8
@@ -34,36 +14,18 @@ fn low_seven(size: usize) -> u8
 
 /// The back length of an entry whose encoding and content take `size` bytes.
 #[tactic(auto, using(crate::proofs::Backs::by_size))]
-pub(crate) fn back_length_of(size: usize) -> BackLength
+pub(crate) fn back_length_of(size: usize) -> FewBytes
     requires { size < 2 ^ 35 }
-    ensures bytes { take result.len result.bytes ≡ back_length size }
-    ensures len { result.len ≡ length (back_length size) }
+    ensures { result ≡ back_length size }
 {
     let (a, b, c, d) = (size >> 28, size >> 21, size >> 14, size >> 7);
     let last = low_seven(size);
     match size {
-        0..=127 => BackLength {
-            bytes: [size as u8, 0, 0, 0, 0],
-            len: 1,
-        },
-        128..=16_382 => BackLength {
-            bytes: [d as u8, last, 0, 0, 0],
-            len: 2,
-        },
-        16_383..=2_097_150 => BackLength {
-            bytes: [c as u8, low_seven(d), last, 0, 0],
-            len: 3,
-        },
-        2_097_151..=268_435_454 => {
-            BackLength {
-                bytes: [b as u8, low_seven(c), low_seven(d), last, 0],
-                len: 4,
-            }
-        }
-        _ => BackLength {
-            bytes: [a as u8, low_seven(b), low_seven(c), low_seven(d), last],
-            len: 5,
-        },
+        0..=127 => FewBytes::of(&[size as u8]),
+        128..=16_382 => FewBytes::of(&[d as u8, last]),
+        16_383..=2_097_150 => FewBytes::of(&[c as u8, low_seven(d), last]),
+        2_097_151..=268_435_454 => FewBytes::of(&[b as u8, low_seven(c), low_seven(d), last]),
+        _ => FewBytes::of(&[a as u8, low_seven(b), low_seven(c), low_seven(d), last]),
     }
 }
 

@@ -7,6 +7,7 @@ mod edits;
 mod encoding;
 mod entry;
 mod fault;
+mod few;
 mod header;
 mod spelling;
 mod walks;

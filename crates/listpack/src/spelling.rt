@@ -1,71 +1,26 @@
 // How an element is spelled.
 
-ghost use Rattle.std.specs.Prelude.{◌≡◌, ◌∷◌, [], ◌++◌, ◌+◌, ◌<◌, ◌≤◌, ◌^◌, ◌↔◌, IsTrue, ℕ, List, length, take};
+ghost use Rattle.std.specs.Prelude.{◌≡◌, ◌∷◌, [], ◌++◌, ◌+◌, ◌<◌, ◌≤◌, ◌^◌, ◌↔◌, IsTrue, ℕ, List, length};
 ghost use Rattle.std.specs.Int.{w64};
 ghost use Rattle.byteorder.specs.Endian.{little_bytes, low_bytes};
 ghost use Rattle.listpack.specs.Entry.{IsSpelling, text_of};
 ghost use Rattle.listpack.specs.Writing.{magnitude, thirteen_low, number_spelling, text_head, spelling, Fits};
 
 use crate::back::back_length_of;
+use crate::few::FewBytes;
 use byteorder::{ByteOrder, LittleEndian};
 use int_text::read_i64;
 
-/// An encoding, with the content of a number: the first `len` of these bytes.
-#[derive(Clone, Copy)]
-pub(crate) struct Head {
-    bytes: [u8; 9],
-    len: usize,
-    ghost within: { len ≤ 9 },
-}
-
-impl Head {
-    pub(crate) fn len(&self) -> usize
-        ensures { result ≡ self.now.len }
-    {
-        self.len
-    }
-
-    pub(crate) fn as_slice(&self) -> &[u8]
-        ensures { result.now ≡ take self.now.len self.now.bytes }
-    {
-        &self.bytes[..self.len]
-    }
-}
-
 // A number of `width` bytes behind its encoding.
-fn signed(encoding: u8, n: i64, width: usize) -> Head
+fn signed(encoding: u8, n: i64, width: usize) -> FewBytes
     requires low { 1 ≤ width }
     requires high { width ≤ 8 }
-    ensures bytes { take result.len result.bytes ≡ encoding ∷ little_bytes width (low_bytes w64 width n) }
-    ensures len { result.len ≡ 1 + width }
+    ensures { result ≡ encoding ∷ little_bytes width (low_bytes w64 width n) }
 {
     let mut bytes = [0; 9];
     bytes[0] = encoding;
     LittleEndian::write_int(&mut bytes[1..], n, width);
-    Head {
-        bytes,
-        len: 1 + width,
-    }
-}
-
-fn two_bytes(high: u8, low: u8) -> Head
-    ensures bytes { take result.len result.bytes ≡ high ∷ low ∷ [] }
-    ensures len { result.len ≡ 2 }
-{
-    Head {
-        bytes: [high, low, 0, 0, 0, 0, 0, 0, 0],
-        len: 2,
-    }
-}
-
-fn one_byte(byte: u8) -> Head
-    ensures bytes { take result.len result.bytes ≡ byte ∷ [] }
-    ensures len { result.len ≡ 1 }
-{
-    Head {
-        bytes: [byte, 0, 0, 0, 0, 0, 0, 0, 0],
-        len: 1,
-    }
+    FewBytes::of(&bytes[..1 + width])
 }
 
 // The number, or of a negative one how far it is below -1.
@@ -87,17 +42,17 @@ fn thirteen_bits_of(n: i64) -> u64
 
 // The shortest spelling of a number.
 #[tactic(auto, using(crate::proofs::Writings::numbers))]
-fn number_head(n: i64) -> Head
-    ensures { take result.len result.bytes ≡ number_spelling n }
+fn number_head(n: i64) -> FewBytes
+    ensures { result ≡ number_spelling n }
 {
     let magnitude = magnitude_of(n);
     if n >= 0 && magnitude < 128 {
-        return one_byte(magnitude as u8);
+        return FewBytes::of(&[magnitude as u8]);
     }
     match magnitude {
         0..=0xfff => {
             let bits = thirteen_bits_of(n);
-            two_bytes(0xc0 + (bits / 256) as u8, (bits % 256) as u8)
+            FewBytes::of(&[0xc0 + (bits / 256) as u8, (bits % 256) as u8])
         }
         0x1000..=0x7fff => signed(0xf1, n, 2),
         0x8000..=0x7f_ffff => signed(0xf2, n, 3),
@@ -106,34 +61,31 @@ fn number_head(n: i64) -> Head
     }
 }
 
-fn long_head(len: u32) -> Head
-    ensures bytes { take result.len result.bytes ≡ 0xF0 ∷ little_bytes 4 len }
-    ensures len { result.len ≡ 5 }
+fn long_head(len: u32) -> FewBytes
+    ensures { result ≡ 0xF0 ∷ little_bytes 4 len }
 {
-    let mut bytes = [0; 9];
-    bytes[0] = 0xf0;
+    let mut bytes = [0xf0, 0, 0, 0, 0];
     LittleEndian::write_u32(&mut bytes[1..], len);
-    Head { bytes, len: 5 }
+    FewBytes::of(&bytes)
 }
 
 // The shortest encoding of a string of `len` bytes.
 #[tactic(auto, using(crate::proofs::Writings::heads))]
-fn text_head_of(len: usize) -> Head
+fn text_head_of(len: usize) -> FewBytes
     requires { len < 2 ^ 32 }
-    ensures { take result.len result.bytes ≡ text_head len }
+    ensures { result ≡ text_head len }
 {
     match len {
-        0..=63 => one_byte(0x80 + len as u8),
-        64..=4095 => two_bytes(0xe0 + (len / 256) as u8, (len % 256) as u8),
+        0..=63 => FewBytes::of(&[0x80 + len as u8]),
+        64..=4095 => FewBytes::of(&[0xe0 + (len / 256) as u8, (len % 256) as u8]),
         _ => long_head(len as u32),
     }
 }
 
 /// The spelling of an element: an encoding, and the bytes that follow it.
-pub(crate) fn spell(element: &[u8]) -> (Head, &[u8])
+pub(crate) fn spell(element: &[u8]) -> (FewBytes, &[u8])
     requires { length element.now < 2 ^ 32 }
-    ensures bytes { take result.0.len result.0.bytes ++ result.1.now ≡ spelling element.now }
-    ensures head { result.0.len ≤ 9 }
+    ensures bytes { result.0 ++ result.1.now ≡ spelling element.now }
     ensures content { length result.1.now ≤ length element.now }
 {
     match read_i64(element) {

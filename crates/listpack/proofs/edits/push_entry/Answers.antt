@@ -4,7 +4,7 @@ use Rattle.listpack.specs.Writing.{spelling}
 use Rattle.listpack.proofs.Writings.{element_short}
 use Rattle.listpack.proofs.edits.push_entry.Goals as goal
 
-pub spell-requires : goal.spell-requires
-spell-requires c =
+pub spell-head-requires : goal.spell-head-requires
+spell-head-requires c =
     let s = spelling c.args.element.now in
     element_short c.args.element.now (omega (arith, c.requires, length-append s (back_length (length s))))

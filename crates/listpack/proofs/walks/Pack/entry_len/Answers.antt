@@ -1,29 +1,24 @@
-use Rattle.std.proofs.Common.{arith}
+use Rattle.std.proofs.Common.{◌≡◌, ◌+◌, ◌<◌, ℕ, List, [], length, get_or, ap, arith}
+use Rattle.listpack.specs.Entry.{back_length}
+use Rattle.listpack.specs.Pack.{IsPack, IsAt, IsOffset, spellings_of}
 use Rattle.listpack.proofs.Offsets.{step_at}
 use Rattle.listpack.proofs.walks.Pack.entry_len.Goals as goal
 
+inside : (bytes s : List ℕ) (at : ℕ) → IsPack bytes → IsOffset bytes at → ((i : ℕ) → IsAt bytes i at → s ≡ get_or (spellings_of bytes) i [])
+    → at + length s + length (back_length (length s)) < length bytes
+inside bytes s at pack o value = let t = step_at bytes s o.0 at pack o.1.0 o.1.1 (value o.0 o.1) in omega (arith, t.0, t.1)
+
 pub back_length_of-requires : goal.back_length_of-requires
 back_length_of-requires c =
-    let o = c.requires in
-    let t = step_at c.args.self.now.bytes.now c.spelling_at-size.result.now o.0 c.args.at c.args.self.now.packed o.1.0 o.1.1 (c.spelling_at-size.ensures.value o.0 o.1) in
-    let small = c.args.self.now.small in
-    omega (arith, t.0, t.1)
-
-pub overflow_add-result : goal.overflow_add-result
-overflow_add-result c =
-    let o = c.requires in
-    let t = step_at c.args.self.now.bytes.now c.spelling_at-size.result.now o.0 c.args.at c.args.self.now.packed o.1.0 o.1.1 (c.spelling_at-size.ensures.value o.0 o.1) in
-    let small = c.args.self.now.small in
-    omega (arith, t.0, t.1)
+    let end = inside c.args.self.now.bytes.now c.spelling_at-size.result.now c.args.at c.args.self.now.packed c.requires c.spelling_at-size.ensures.value in
+    omega (arith, end, c.args.self.now.small)
 
 pub returns-clause-inside : goal.returns-clause-inside
 returns-clause-inside c =
-    let o = c.requires in
-    let t = step_at c.args.self.now.bytes.now c.spelling_at-size.result.now o.0 c.args.at c.args.self.now.packed o.1.0 o.1.1 (c.spelling_at-size.ensures.value o.0 o.1) in
-    let small = c.args.self.now.small in
-    omega (arith, t.0, t.1)
+    let end = inside c.args.self.now.bytes.now c.spelling_at-size.result.now c.args.at c.args.self.now.packed c.requires c.spelling_at-size.ensures.value in
+    omega (arith, end, ap length c.back_length_of.ensures)
 
 pub returns-clause-next : goal.returns-clause-next
-returns-clause-next c = λ i t0.
-    let t = step_at c.args.self.now.bytes.now c.spelling_at-size.result.now i c.args.at c.args.self.now.packed t0.0 t0.1 (c.spelling_at-size.ensures.value i t0) in
-    omega (arith, t.0)
+returns-clause-next c = λ i here.
+    let t = step_at c.args.self.now.bytes.now c.spelling_at-size.result.now i c.args.at c.args.self.now.packed here.0 here.1 (c.spelling_at-size.ensures.value i here) in
+    omega (arith, t.0, ap length c.back_length_of.ensures)
