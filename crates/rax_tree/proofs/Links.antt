@@ -4,7 +4,7 @@ use Rattle.std.specs.Prelude.{slice_index}
 use Rattle.std.proofs.lemmas.Bool.{eqb-true, eqb-false}
 use Rattle.rax_tree.specs.declared.radix.Child.{Child}
 use Rattle.rax_tree.specs.declared.radix.Child.TheVariants.{Leaf, Fork}
-use Rattle.rax_tree.specs.Radix.{Shape, Places, child_for, same_bytes, walked, Agrees, Leads, IsSound, IsReached, IsParting, relinked, IsRelinked, Gains}
+use Rattle.rax_tree.specs.Radix.{Shape, Places, child_for, same_bytes, walked, Agrees, Leads, IsSoundBut, IsSound, IsReached, IsParting, relinked, IsRelinked, Gains}
 use Rattle.rax_tree.proofs.Walks.{some_case, bool_case, same_true, same_refl, walked_step, walked_passes, passes_kept, walked_same}
 use Rattle.rax_tree.proofs.Partings.{reached_some, some_same}
 
@@ -14,6 +14,20 @@ place_cases None None = inl refl
 place_cases None (Some y) = inr (λ e. cc)
 place_cases (Some x) None = inr (λ e. cc)
 place_cases (Some x) (Some y) = bool_case (x == y) (λ t. inl (ap Some (eqb-true x y t))) (λ f. inr (λ e. eqb-false x y f (some_same e)))
+
+-- only the one byte of the one place leads to a branch
+pub only_link : {spared : Option ℕ} (old : Places) (place : Option ℕ) (shape : Shape) (byte k : ℕ) → IsSoundBut spared old → old place ≡ Some shape → shape.child byte ≡ Some (Fork k)
+    → (x : Option ℕ) (s : Shape) (b : ℕ) → old x ≡ Some s → s.child b ≡ Some (Fork k) → (x ≡ place) × (b ≡ byte)
+only_link old place shape byte k sound was leads x s b here is =
+    let first = sound.leads place shape byte (Fork k) was leads in
+    let second = sound.leads x s b (Fork k) here is in
+    some_case (old (Some k)) first.0 (λ under e.
+    let f = first.1 under e in
+    let g = second.1 under e in
+    let same : x ≡ place = sym g.parent_is ∙ f.parent_is in
+    let shapes : s ≡ shape = some_same (sym here ∙ ap old same ∙ was) in
+    let d : s.depth ≡ shape.depth = ap (λ (t : Shape). t.depth) shapes in
+    (same, sym g.turns ∙ ap (slice_index under.prefix) d ∙ f.turns))
 
 -- a branch hangs and covers as before, whatever its children
 pub record IsKept (old new : Shape) : Type 0 where

@@ -7,7 +7,7 @@ use Rattle.rax_tree.specs.declared.radix.Child.TheVariants.{Leaf, Fork}
 use Rattle.rax_tree.specs.Radix.{Shape, Places, child_for, same_bytes, followed_if, walked, value_at, IsSoundBut, IsSound, Passes, arrived, onward, IsParting, IsBegunAt, relinked, IsRelinked, Loses, IsBare, IsPruning, IsPruned, IsGone}
 use Rattle.rax_tree.proofs.Walks.{some_case, bool_case, same_true, leaf_same, found_agrees, walked_step, walked_passes, walked_none, walked_same, passes_kept}
 use Rattle.rax_tree.proofs.Partings.{some_same, reached_some, fork_same}
-use Rattle.rax_tree.proofs.Links.{place_cases, IsKept, kept_refl, leads_kept, relinked_kept, under_kept, child_linked, child_after, child_before}
+use Rattle.rax_tree.proofs.Links.{place_cases, only_link, IsKept, kept_refl, leads_kept, relinked_kept, under_kept, child_linked, child_after, child_before}
 
 -- a tree that has lost links stays sound
 pub sound_less : (spared spared' : Option ℕ) (old new : Places) → IsSoundBut spared old → IsSome (new None)
@@ -52,20 +52,6 @@ sound_cut old new place byte sound change =
     (cut_back old new place byte change)
     (λ x s b y below here is there. under_kept old new place byte None change (Some y) below there)
     (λ at s here spared none. sound.filled at s (sym (change.others (Some at) (λ e. spared (sym e))) ∙ here) (λ n. cc) none)
-
--- only the one byte of the one place leads to a branch
-only_link_but : (spared : Option ℕ) (old : Places) (place : Option ℕ) (shape : Shape) (byte k : ℕ) → IsSoundBut spared old → old place ≡ Some shape → shape.child byte ≡ Some (Fork k)
-    → (x : Option ℕ) (s : Shape) (b : ℕ) → old x ≡ Some s → s.child b ≡ Some (Fork k) → (x ≡ place) × (b ≡ byte)
-only_link_but spared old place shape byte k sound was leads x s b here is =
-    let first = sound.leads place shape byte (Fork k) was leads in
-    let second = sound.leads x s b (Fork k) here is in
-    some_case (old (Some k)) first.0 (λ under e.
-    let f = first.1 under e in
-    let g = second.1 under e in
-    let same : x ≡ place = sym g.parent_is ∙ f.parent_is in
-    let shapes : s ≡ shape = some_same (sym here ∙ ap old same ∙ was) in
-    let d : s.depth ≡ shape.depth = ap (λ (t : Shape). t.depth) shapes in
-    (same, sym g.turns ∙ ap (slice_index under.prefix) d ∙ f.turns))
 
 -- nothing is found below a branch that leads nowhere
 bare_child : (o : Option Shape) (q : List ℕ) → IsBare o → child_for o q ≡ None
@@ -156,7 +142,7 @@ pruned_cut old new cut gone key levels place at byte pruning is pruned bare turn
                   let back = cut_back new cut place byte change x s here' in
                   let y_is : y ≡ at = some_same same in
                   let was = back.3 b (Fork y) step in
-                  let one = only_link_but (Some at) new place change.shape byte at pruned.sound change.was link x back.0 b back.1 (was ∙ ap (λ m. Some (Fork m)) y_is) in
+                  let one = only_link new place change.shape byte at pruned.sound change.was link x back.0 b back.1 (was ∙ ap (λ m. Some (Fork m)) y_is) in
                   let s_is : s ≡ relinked change.shape byte None = some_same (sym here' ∙ ap cut one.0 ∙ change.now) in
                   absurd ((less_child change.shape byte b (Fork y) (ap (λ (t : Shape). t.child b) (sym s_is) ∙ step)).1 one.1)
             ]

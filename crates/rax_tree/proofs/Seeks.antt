@@ -164,15 +164,19 @@ near_all places sound levels place shape up key shared (Some found) here some le
   (λ q stands before. absurd (first.none_ahead q (stands, goes_beyond (places place) shape up None q here tt) before)),
 )
 
+-- the keys below a place that go on by a byte
+abbrev pub GoesBy : Places → ℕ → Option ℕ → Shape → ℕ → List ℕ → Type 0
+GoesBy places levels place shape byte key = StandsAt places levels place key × (slice_index key shape.depth ≡ byte)
+
 -- nothing stands by the key's byte that is not before it, and so the next byte tells
 pub near_beyond : (places : Places) → IsSound places → (levels : ℕ) (place : Option ℕ) (shape : Shape) (up : Bool) (key : List ℕ) (byte : ℕ) (result : Option (List ℕ)) → places place ≡ Some shape → 0 < levels → Agrees shape.depth key shape.prefix
     → byte ≡ slice_index key shape.depth
-    → ((other : List ℕ) → StandsAt places levels place other → slice_index other shape.depth ≡ slice_index key shape.depth → IsAhead up other key) → IsFirstBeyond places levels place up (Some byte) result → Finds (StandsAt places levels place) up key result
+    → Finds (GoesBy places levels place shape (slice_index key shape.depth)) up key None → IsFirstBeyond places levels place up (Some byte) result → Finds (StandsAt places levels place) up key result
 near_beyond places sound levels place shape up key byte None here some begun turns lower first = λ q stands.
     stands_split places sound levels place shape q here some stands (λ agrees c link under.
     byte_cases up (slice_index q shape.depth) (slice_index key shape.depth)
     (λ less. ahead_by up shape.depth q key (agrees_through shape.depth q key shape.prefix agrees begun) less)
-    (λ same. lower q stands same)
+    (λ same. lower q (stands, same))
     (λ more. absurd (first q stands (goes_beyond (places place) shape up (Some byte) q here (rw turns more)))))
 near_beyond places sound levels place shape up key byte (Some found) here some begun turns lower first =
     let goes : IsByteAhead up byte (slice_index found shape.depth) = beyond_of (places place) shape up (Some byte) found here first.stands_there.1 in
@@ -183,43 +187,47 @@ near_beyond places sound levels place shape up key byte (Some found) here some b
       (λ q stands before. stands_split places sound levels place shape q here some stands (λ agrees c link under.
           byte_cases up (slice_index q shape.depth) (slice_index key shape.depth)
           (λ less. ahead_by up shape.depth q key (agrees_through shape.depth q key shape.prefix agrees begun) less)
-          (λ same. lower q stands same)
+          (λ same. lower q (stands, same))
           (λ more. absurd (first.none_ahead q (stands, goes_beyond (places place) shape up (Some byte) q here (rw turns more)) before)))),
     )
 
--- what is found below the child by the key's byte is found at the place
-pub near_child : (places : Places) → IsSound places → (levels : ℕ) (place : Option ℕ) (shape : Shape) (up : Bool) (key : List ℕ) (child : Child) (found : List ℕ) → places place ≡ Some shape → 0 < levels → Agrees shape.depth key shape.prefix
-    → shape.child (slice_index key shape.depth) ≡ Some child → Finds (StandsBelow places (levels - 1) child) up key (Some found) → Finds (StandsAt places levels place) up key (Some found)
-near_child places sound levels place shape up key child found here some begun link finds =
+-- what is found by the key's byte is found at the place
+pub near_by : (places : Places) → IsSound places → (levels : ℕ) (place : Option ℕ) (shape : Shape) (up : Bool) (key found : List ℕ) → places place ≡ Some shape → 0 < levels → Agrees shape.depth key shape.prefix
+    → Finds (GoesBy places levels place shape (slice_index key shape.depth)) up key (Some found) → Finds (StandsAt places levels place) up key (Some found)
+near_by places sound levels place shape up key found here some begun finds = (
+  finds.0.0,
+  finds.1,
+  (λ q stands before. stands_split places sound levels place shape q here some stands (λ agrees c linked under.
+      byte_cases up (slice_index q shape.depth) (slice_index key shape.depth)
+      (λ less. ahead_by up shape.depth q key (agrees_through shape.depth q key shape.prefix agrees begun) less)
+      (λ same. finds.2 q (stands, same) before)
+      (λ more. stands_split places sound levels place shape found here some finds.0.0 (λ agrees' c' linked' under'.
+      let later : IsByteAhead up (slice_index found shape.depth) (slice_index q shape.depth) = rw finds.0.1 more in
+      absurd (ahead_asym up found q (ahead_by up shape.depth found q (agrees_through shape.depth found q shape.prefix agrees' agrees) later) before))))),
+)
+
+-- what is found below the child by the key's byte is found by that byte
+pub by_child : (places : Places) → IsSound places → (levels : ℕ) (place : Option ℕ) (shape : Shape) (up : Bool) (key : List ℕ) (child : Child) → places place ≡ Some shape → 0 < levels
+    → shape.child (slice_index key shape.depth) ≡ Some child → (result : Option (List ℕ)) → Finds (StandsBelow places (levels - 1) child) up key result → Finds (GoesBy places levels place shape (slice_index key shape.depth)) up key result
+by_child places sound levels place shape up key child here some link None finds = λ q stands.
+    stands_split places sound levels place shape q here some stands.0 (λ agrees c linked under.
+    let child_is : c ≡ child = some_same (sym linked ∙ ap shape.child stands.1 ∙ link) in
+    finds q (rw (← child_is) under))
+by_child places sound levels place shape up key child here some link (Some found) finds =
     let below = below_stands places sound levels place shape (slice_index key shape.depth) child found here link some finds.0 in (
-      below.0,
+      (below.0, below.1),
       finds.1,
-      (λ q stands before. stands_split places sound levels place shape q here some stands (λ agrees c linked under.
-          byte_cases up (slice_index q shape.depth) (slice_index key shape.depth)
-          (λ less. ahead_by up shape.depth q key (agrees_through shape.depth q key shape.prefix agrees begun) less)
-          (λ same.
-          let child_is : c ≡ child = some_same (sym linked ∙ ap shape.child same ∙ link) in
-          finds.2 q (rw (← child_is) under) before)
-          (λ more.
-          let later : IsByteAhead up (slice_index found shape.depth) (slice_index q shape.depth) = rw below.1 more in
-          absurd (ahead_asym up found q (ahead_by up shape.depth found q (agrees_through shape.depth found q shape.prefix below.2 agrees) later) before)))),
+      λ q stands before. stands_split places sound levels place shape q here some stands.0 (λ agrees c linked under.
+          let child_is : c ≡ child = some_same (sym linked ∙ ap shape.child stands.1 ∙ link) in
+          finds.2 q (rw (← child_is) under) before),
     )
 
--- where nothing is found below the child, all keys by the key's byte come before it
-pub child_lower : (places : Places) → IsSound places → (levels : ℕ) (place : Option ℕ) (shape : Shape) (up : Bool) (key : List ℕ) (child : Child) → places place ≡ Some shape → 0 < levels
-    → shape.child (slice_index key shape.depth) ≡ Some child → Finds (StandsBelow places (levels - 1) child) up key None
-    → (other : List ℕ) → StandsAt places levels place other → slice_index other shape.depth ≡ slice_index key shape.depth → IsAhead up other key
-child_lower places sound levels place shape up key child here some link finds q stands same =
-    stands_split places sound levels place shape q here some stands (λ agrees c linked under.
-    let child_is : c ≡ child = some_same (sym linked ∙ ap shape.child same ∙ link) in
-    finds q (rw (← child_is) under))
-
-pub no_child_lower : (places : Places) → IsSound places → (levels : ℕ) (place : Option ℕ) (shape : Shape) (up : Bool) (key : List ℕ) → places place ≡ Some shape → 0 < levels
-    → shape.child (slice_index key shape.depth) ≡ None
-    → (other : List ℕ) → StandsAt places levels place other → slice_index other shape.depth ≡ slice_index key shape.depth → IsAhead up other key
-no_child_lower places sound levels place shape up key here some link q stands same =
-    stands_split places sound levels place shape q here some stands (λ agrees c linked under.
-    absurd (let u = sym linked ∙ ap shape.child same ∙ link in cc))
+-- where the key's byte leads nowhere, nothing is found by it
+pub by_none : (places : Places) → IsSound places → (levels : ℕ) (place : Option ℕ) (shape : Shape) (up : Bool) (key : List ℕ) → places place ≡ Some shape → 0 < levels
+    → shape.child (slice_index key shape.depth) ≡ None → Finds (GoesBy places levels place shape (slice_index key shape.depth)) up key None
+by_none places sound levels place shape up key here some link = λ q stands.
+    stands_split places sound levels place shape q here some stands.0 (λ agrees c linked under.
+    absurd (let u = sym linked ∙ ap shape.child stands.1 ∙ link in cc))
 
 -- a leaf's key, found or passed over
 pub leaf_finds : (places : Places) (levels : ℕ) (up : Bool) (key at : List ℕ) (value : ℕ) (result : Option (List ℕ)) → Finds (λ other. at ≡ other) up key result → Finds (StandsBelow places levels (Leaf at value)) up key result

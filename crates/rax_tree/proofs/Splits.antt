@@ -7,7 +7,7 @@ use Rattle.rax_tree.specs.declared.radix.Child.TheVariants.{Leaf, Fork}
 use Rattle.rax_tree.specs.Radix.{Shape, Places, Agrees, Leads, IsSound, relinked, hung_at, IsFork, IsSplit}
 use Rattle.rax_tree.proofs.Walks.{some_case, bool_case}
 use Rattle.rax_tree.proofs.Partings.{some_same}
-use Rattle.rax_tree.proofs.Links.{place_cases, IsKept, kept_refl, leads_kept, leads_moved, relinked_kept, byte_same}
+use Rattle.rax_tree.proofs.Links.{place_cases, only_link, IsKept, kept_refl, leads_kept, leads_moved, relinked_kept, byte_same}
 
 -- what a split is known by: the tree before it, the key's way to the place, and the bytes of the child
 pub record IsApart (old : Places) (place : Option ℕ) (shape : Shape) (byte : ℕ) (child : Child) (span key : List ℕ) (depth : ℕ) : Type 0 where
@@ -38,20 +38,6 @@ split_cases child x place at here new below other = elim (place_cases x place) [
     | inr b ↦ child_cases child x (λ k e c. below k e c) (λ c. other a b c)
   ]
 ]
-
--- only the one byte of the one place leads to a branch
-only_link : (old : Places) (place : Option ℕ) (shape : Shape) (byte k : ℕ) → IsSound old → old place ≡ Some shape → shape.child byte ≡ Some (Fork k)
-    → (x : Option ℕ) (s : Shape) (b : ℕ) → old x ≡ Some s → s.child b ≡ Some (Fork k) → (x ≡ place) × (b ≡ byte)
-only_link old place shape byte k sound was leads x s b here is =
-    let first = sound.leads place shape byte (Fork k) was leads in
-    let second = sound.leads x s b (Fork k) here is in
-    some_case (old (Some k)) first.0 (λ under e.
-    let f = first.1 under e in
-    let g = second.1 under e in
-    let same : x ≡ place = sym g.parent_is ∙ f.parent_is in
-    let shapes : s ≡ shape = some_same (sym here ∙ ap old same ∙ was) in
-    let d : s.depth ≡ shape.depth = ap (λ (t : Shape). t.depth) shapes in
-    (same, sym g.turns ∙ ap (slice_index under.prefix) d ∙ f.turns))
 
 -- a branch that is not the child hangs as before
 split_kept : (old new : Places) (place : Option ℕ) (byte at : ℕ) (fork : Shape) (child : Child) → IsSplit old new place byte at fork child → (x : Option ℕ) (below : Shape) → old x ≡ Some below

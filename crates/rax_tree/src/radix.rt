@@ -330,16 +330,14 @@ impl Radix {
             return self.beyond(place, None, up, levels);
         }
         let byte = self.turn(place, key);
-        match self.child(place, key) {
+        let found = match self.child(place, key) {
+            None => None,
+            Some(Child::Leaf(at, _)) => leaf_from(&at, key, up),
+            Some(Child::Fork(at)) => self.nearest(Some(at), key, up, levels - 1),
+        };
+        match found {
             None => self.beyond(place, Some(byte), up, levels),
-            Some(Child::Leaf(at, _)) => match leaf_from(&at, key, up) {
-                None => self.beyond(place, Some(byte), up, levels),
-                Some(found) => Some(found),
-            },
-            Some(Child::Fork(at)) => match self.nearest(Some(at), key, up, levels - 1) {
-                None => self.beyond(place, Some(byte), up, levels),
-                Some(found) => Some(found),
-            },
+            Some(found) => Some(found),
         }
     }
 
