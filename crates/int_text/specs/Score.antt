@@ -87,3 +87,9 @@ IsScoreOf text (Err TooLarge) =
 -- a text has one score, or one fault
 abbrev pub ScoresAreOne : Type 0
 ScoresAreOne = (text : List ℕ) (r s : Result ℤ ScoreFault) → IsScoreOf text r → IsScoreOf text s → r ≡ s
+
+-- the number of each fault
+abbrev pub fault_number : ScoreFault → ℕ
+fault_number Malformed = 1
+fault_number NotWhole = 2
+fault_number TooLarge = 3

@@ -1,10 +1,10 @@
 // Score texts.
 
-ghost use Rattle.std.specs.Prelude.{◌+◌, ◌<◌, ◌^◌, ◌++◌, ◌↔◌, length, IsTrue};
+ghost use Rattle.std.specs.Prelude.{◌≡◌, ◌+◌, ◌<◌, ◌^◌, ◌++◌, ◌↔◌, length, IsTrue};
 ghost use Rattle.std.specs.Str.Parse.{AllDigits};
 ghost use Rattle.int_text.specs.Digits.{StopsDigits};
 ghost use Rattle.int_text.specs.Parts.{IsTailRead, IsNumberRead, IsSignedRead};
-ghost use Rattle.int_text.specs.Score.{IsInfinityWord, IsScoreOf};
+ghost use Rattle.int_text.specs.Score.{IsInfinityWord, IsScoreOf, fault_number};
 
 use crate::digits::digit_count;
 use crate::exponent::read_exponent;
@@ -19,6 +19,15 @@ pub enum ScoreFault {
     NotWhole = 2,
     /// Its value is whole and above 2^53 in magnitude, or it is an infinity.
     TooLarge = 3,
+}
+
+impl ScoreFault {
+    /// The number of the fault, 1 to 3.
+    pub fn number(self) -> u8
+        ensures { result ≡ fault_number self }
+    {
+        self as u8
+    }
 }
 
 // Reads what stands behind the digits of a number.

@@ -130,6 +130,7 @@ fn no_scores(rt: HostRuntime) {
     each_fails(&rt, NOT_WHOLE, ScoreFault::NotWhole);
     each_fails(&rt, TOO_LARGE, ScoreFault::TooLarge);
     each_fails(&rt, MALFORMED, ScoreFault::Malformed);
+    assert_eq!(rt; ScoreFault::TooLarge.number(), 3);
 }
 
 // Many digits, and exponents of a million digits.

@@ -60,6 +60,12 @@ HasFault bytes Width = ¬ HasWidth bytes
 HasFault bytes Length = HasWidth bytes × ¬ HasLength bytes
 HasFault bytes Order = HasWidth bytes × HasLength bytes × ¬ IsRising (numbers_of bytes)
 
+-- the numbers of the faults, in the order in which they are looked for
+abbrev pub fault_number : IntsetFault → ℕ
+fault_number Width = 1
+fault_number Length = 2
+fault_number Order = 3
+
 -- the number lies from -limit up to limit, which is left out
 abbrev pub is_within : ℕ → ℤ → Bool
 is_within limit (pos n) = nat_lt n limit

@@ -153,18 +153,11 @@ fn paste(set: &mut Vec<u8>, at: usize, piece: &[u8]) -> Result<(), Memory>
         ≡ take at set.old.items ++ (piece.now ++ drop at set.old.items)) }
     ensures err { OnErr result (set.new.items ≡ set.old.items) }
 {
+    let end = set.len();
     set.extend_from_slice(piece)?;
-    turn(set.as_mut_slice(), at, piece.len());
+    set.copy_within(at..end, at + piece.len());
+    set[at..at + piece.len()].copy_from_slice(piece);
     Ok(())
-}
-
-// Turns the bytes from a place on, so that the last of them come first.
-fn turn(bytes: &mut [u8], at: usize, last: usize)
-    requires { at + last ≤ length bytes.old }
-    ensures { bytes.new ≡ take at bytes.old ++ (drop (length bytes.old - last) bytes.old
-        ++ take (length bytes.old - last - at) (drop at bytes.old)) }
-{
-    bytes[at..].rotate_right(last);
 }
 
 // Takes bytes out from a place on.
@@ -173,8 +166,7 @@ fn cut(set: &mut Vec<u8>, at: usize, count: usize)
     ensures { set.new.items ≡ take at set.old.items ++ drop (at + count) set.old.items }
 {
     let rest = set.len() - count;
-    let bytes = set.as_mut_slice();
-    turn(bytes, at, bytes.len() - at - count);
+    set.copy_within(at + count.., at);
     set.truncate(rest);
 }
 

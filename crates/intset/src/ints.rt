@@ -7,20 +7,27 @@ ghost use Rattle.intset.specs.Places.{IsPlace};
 
 use byteorder::{ByteOrder, LittleEndian};
 use std::marker::Model;
-use thiserror::Error;
 
 /// What is wrong with bytes that are no intset. Where several things are, the first of them counts.
-#[derive(Clone, Copy, PartialEq, Eq, Debug, Error)]
+#[derive(Clone, Copy, PartialEq, Eq, Debug)]
 pub enum IntsetFault {
     /// The bytes do not begin with a width of 2, 4 or 8 in four bytes.
-    #[error("the width of an intset is not 2, 4 or 8")]
     Width = 1,
     /// There are not 8 bytes and then exactly as many as the told numbers take.
-    #[error("the length of an intset does not fit its count")]
     Length = 2,
     /// A number is not greater than the one before it.
-    #[error("the numbers of an intset do not rise")]
     Order = 3,
+}
+
+impl IntsetFault {
+    ghost use Rattle.intset.specs.Intset.{fault_number};
+
+    /// The number of the fault, from 1 on in the order in which faults are looked for.
+    pub fn number(self) -> u8
+        ensures { result ≡ fault_number self }
+    {
+        self as u8
+    }
 }
 
 /// The numbers of an intset, read where they stand.

@@ -77,6 +77,13 @@ fn checks_bytes(rt: HostRuntime) {
     for (bytes, want) in cases {
         assert_eq!(rt; checked(bytes), want, "at {bytes:?}");
     }
+    for (fault, number) in [
+        (IntsetFault::Width, 1),
+        (IntsetFault::Length, 2),
+        (IntsetFault::Order, 3),
+    ] {
+        assert_eq!(rt; fault.number(), number);
+    }
 }
 
 // One edit of the set and of the plain list.

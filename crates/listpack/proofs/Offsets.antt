@@ -1,6 +1,7 @@
 -- What stands at the offsets of a listpack's entries.
 use Rattle.std.proofs.Common.{◌≡◌, Bool, true, false, ℕ, zero, suc, ◌+◌, ◌-◌, ◌<◌, ◌≤◌, List, [], ◌∷◌, ◌++◌, length, take, drop, get_or, refl, sym, ap, ◌∙◌, inl, inr, arith}
 use Rattle.std.proofs.lemmas.Bool.{cases_lt}
+use Rattle.std.proofs.lemmas.Grind.{common_steps}
 use Rattle.std.proofs.lemmas.List.{append_assoc, append-nil, take_at, drop_at, take-append-drop, length-append, length-take-le, length-map, drop_more, drop_all, take_more, get_or-drop, get_or_append_left}
 use Rattle.std.proofs.lemmas.List.Concat.{flat_map-append}
 use Rattle.std.proofs.lemmas.List.Edits.{split_between}
@@ -85,6 +86,13 @@ pub offset_next : (bytes : List ℕ) (i : ℕ) → i < length (spellings_of byte
 offset_next bytes i h =
     let s = get_or (spellings_of bytes) i [] in
     omega (arith, ap length (entries_upto i (spellings_of bytes) h), length-append (entries (take i (spellings_of bytes))) (entry_of s), length-append s (back_length (length s)))
+
+pub offset_rises : (bytes : List ℕ) (i j : ℕ) → i ≤ j → offset_of bytes i ≤ offset_of bytes j
+offset_rises bytes i j h =
+    let ss = spellings_of bytes in
+    let both = entries_split i (take j ss) in
+    let front : take i (take j ss) ≡ take i ss = grind (arith, common_steps) in
+    omega (arith, ap length both, length-append (entries (take i (take j ss))) (entries (drop i (take j ss))), ap (λ (x : List (List ℕ)). length (entries x)) front)
 
 pub offset_inside : (bytes : List ℕ) (i : ℕ) → IsPack bytes → i < length (spellings_of bytes) → offset_of bytes i + 1 < length bytes
 offset_inside bytes i p h =

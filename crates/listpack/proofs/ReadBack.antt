@@ -14,7 +14,7 @@ use Rattle.listpack.specs.Entry.{Signed, encoding_of, IsSpelling, text_of, thirt
 use Rattle.listpack.proofs.Encodings.{needed_small_number, needed_short_text, needed_thirteen_bits, needed_medium_text, needed_long_text, needed_signed, text_by_encoding, text_small_number, text_short_text, text_thirteen_bits, text_medium_text, text_long_text}
 use Rattle.int_text.specs.Decimal.{canonical}
 use Rattle.listpack.specs.Writing.{magnitude, is_small, thirteen_low, number_spelling, text_head, spelling}
-use Rattle.listpack.proofs.Writings.{number_thirteen, number_two, number_three, number_four, number_eight, head_short, head_medium, head_long, i64_cases, spelling_as}
+use Rattle.listpack.proofs.Writings.{number_thirteen, number_two, number_three, number_four, number_eight, head_short, head_medium, head_long, number_cases, spelling_as}
 
 -- a spelling of this text
 abbrev pub Spelled : List ℕ → List ℕ → Type 0
@@ -120,7 +120,7 @@ text_spelled text h = elim (cases_lt (length text) 64) [
 
 -- the writer's spelling is one of the element
 pub spelled : (text : List ℕ) → length text < 2 ^ 32 → Spelled text (spelling text)
-spelled text h = elim (i64_cases text) [
+spelled text h = elim (number_cases text) [
   | inl none ↦ subst (Spelled text) (sym (spelling_as text None none)) (text_spelled text h)
   | inr some ↦
       subst (Spelled text) (sym (spelling_as text (Some some.0) some.1)) (subst (λ (x : List ℕ). Spelled x (number_spelling some.0)) (sym some.3) (number_spelled some.0 some.2))

@@ -1,18 +1,18 @@
 -- Bytes put together anew are a listpack.
 use Rattle.std.proofs.Common.{◌≡◌, ◌≢◌, ℕ, suc, ◌+◌, ◌-◌, ◌^◌, ◌<◌, ◌≤◌, List, [], ◌∷◌, ◌++◌, length, take, drop, map, get_or, set, sym, ap, subst, ◌∙◌, inl, inr, arith}
-use Rattle.std.specs.List.{All, insert, remove}
+use Rattle.std.specs.List.{All, insert, remove, remove_range}
 use Rattle.std.proofs.lemmas.Bool.{cases_eq}
 use Rattle.std.proofs.lemmas.Bool.Decides.{nat_tests}
-use Rattle.std.proofs.lemmas.List.{append_assoc, append-nil, take_at, drop_at, drop-drop, take-append-drop, length-append, length-take-le, length-drop, map-append, take-map, drop-map, map-set, get_or_at, set_split, length-set}
+use Rattle.std.proofs.lemmas.List.{append_assoc, append-nil, take_at, drop_at, take-append-drop, length-append, length-take-le, length-drop, map-append, take-map, drop-map, map-set, get_or_at, set_split, length-set}
 use Rattle.std.proofs.lemmas.List.Concat.{flat_map-append}
-use Rattle.std.proofs.lemmas.List.Edits.{insert_end, length-insert, length-remove}
+use Rattle.std.proofs.lemmas.List.Edits.{insert_end, length-insert}
 use Rattle.std.proofs.lemmas.List.Elements.{All-nil, All-cons, All-append, All-take, All-drop}
 use Rattle.byteorder.specs.Endian.{little_number, little_bytes}
 use Rattle.byteorder.specs.Numbers.{length-bytes_low_first, little_number-reads_back}
 use Rattle.listpack.specs.Entry.{IsSpelling, text_of, entry_of, back_length}
 use Rattle.listpack.specs.Pack.{entries, total, told, region, last_byte, HasSpellings, IsPack, spellings_of, texts, offset_of}
 use Rattle.listpack.specs.Writing.{spelling, entry}
-use Rattle.listpack.specs.Edits.{IsEdited, one_more, one_less}
+use Rattle.listpack.specs.Edits.{IsEdited, one_more, fewer}
 use Rattle.listpack.proofs.Laws.{spellings_read, is_pack}
 use Rattle.listpack.proofs.Offsets.{length-texts, take-offset, drop-offset, offset_end}
 use Rattle.listpack.proofs.Writings.{element_short}
@@ -102,26 +102,21 @@ more_known old count p e no_mark =
     omega (arith, e, k, no_mark)
 
 -- a count that stays not told, and one that is told
-marked : (n : ℕ) → n ≡ 65535 → one_less n ≡ n
-marked n m = grind (arith, nat_tests)
+marked : (n removed : ℕ) → n ≡ 65535 → fewer n removed ≡ n
+marked n removed m = grind (arith, nat_tests)
 
-unmarked : (n : ℕ) → n ≢ 65535 → one_less n ≡ n - 1
-unmarked n m = grind (arith, nat_tests)
+unmarked : (n removed : ℕ) → n ≢ 65535 → fewer n removed ≡ n - removed
+unmarked n removed m = grind (arith, nat_tests)
 
-pub count_stays : (n mark count : ℕ) → n ≡ mark → n ≡ 65535 → count ≡ n → count ≡ one_less mark
-count_stays n mark count e m same = same ∙ sym (marked n m) ∙ ap one_less e
-
-pub count_falls : (n mark count : ℕ) → n ≡ mark → n ≢ 65535 → count ≡ n - 1 → count ≡ one_less mark
-count_falls n mark count e m less = less ∙ sym (unmarked n m) ∙ ap one_less e
-
-less_known : (old : List ℕ) (count : ℕ) → IsPack old → 0 < length (spellings_of old) → count ≡ one_less (told old) → count ≢ 65535 → count + 1 ≡ length (spellings_of old)
-less_known old count p some e no_mark = elim (cases_eq (told old) 65535) [
-  | inl mark ↦ absurd (no_mark (e ∙ marked (told old) mark ∙ mark))
-  | inr known ↦ let k = p.count known in omega (arith, e, unmarked (told old) known, k)
+fewer_known : (old : List ℕ) (removed count : ℕ) → IsPack old → removed ≤ length (spellings_of old) → count ≡ fewer (told old) removed → count ≢ 65535 → count + removed ≡ length (spellings_of old)
+fewer_known old removed count p some e no_mark = elim (cases_eq (told old) 65535) [
+  | inl mark ↦ absurd (no_mark (e ∙ marked (told old) removed mark ∙ mark))
+  | inr known ↦ let k = p.count known in omega (arith, e, unmarked (told old) removed known, k)
 ]
 
-one_less-small : (n : ℕ) → n < 65536 → one_less n < 65536
-one_less-small n h = grind (arith, nat_tests)
+-- the header tells no fewer elements than there are
+pub told_enough : (old : List ℕ) (count removed : ℕ) → IsPack old → count ≡ told old → removed ≤ length (texts old) → count ≢ 65535 → removed ≤ count
+told_enough old count removed p e some no_mark = omega (arith, e, p.count (λ m. no_mark (e ∙ m)), length-texts old)
 
 pub inserted : (old inner new text : List ℕ) (i count : ℕ) → IsPack old → i ≤ length (texts old) → length text < 2 ^ 32
     → inner ≡ take (offset_of old i) old ++ (entry text ++ drop (offset_of old i) old)
@@ -166,30 +161,34 @@ replaced old inner new text i count p h short cut_as put_as small room e =
     put_as small room
     (λ no_mark. omega (arith, e, p.count (λ m. no_mark (e ∙ m)), ap length shape, length-set ss i (spelling text)))))
 
-pub taken_out : (old inner new : List ℕ) (i count : ℕ) → IsPack old → i < length (texts old)
+pub taken_out : (old inner new : List ℕ) (i j count : ℕ) → IsPack old → i ≤ j → j ≤ length (texts old)
+    → inner ≡ take (offset_of old i) old ++ drop (offset_of old j) old
+    → new ≡ little_bytes 4 (length inner) ++ (little_bytes 2 count ++ drop 6 inner)
+    → length inner < 2 ^ 32 → count < 65536 → count ≡ fewer (told old) (j - i) → IsEdited new (remove_range (spellings_of old) i j) (fewer (told old) (j - i))
+taken_out old inner new i j count p order inside cut_as put_as small room e =
+    let ss = spellings_of old in
+    let all : j ≤ length ss = omega (arith, inside, length-texts old) in
+    let left : length (remove_range ss i j) + (j - i) ≡ length ss =
+    omega (arith, order, all, length-append (take i ss) (drop j ss), length-take-le i ss (omega arith), length-drop j ss) in
+    subst (λ (k : ℕ). IsEdited new (remove_range ss i j) k) e
+    (edited old inner new [] i j count p (All-nil IsSpelling) cut_as put_as small room
+    (λ no_mark. omega (arith, fewer_known old (j - i) count p (omega arith) e no_mark, left)))
+
+pub one_taken_out : (old inner new : List ℕ) (i count : ℕ) → IsPack old → i < length (texts old)
     → inner ≡ take (offset_of old i) old ++ drop (offset_of old (i + 1)) old
     → new ≡ little_bytes 4 (length inner) ++ (little_bytes 2 count ++ drop 6 inner)
-    → length inner < 2 ^ 32 → count < 65536 → count ≡ one_less (told old) → IsEdited new (remove (spellings_of old) i) (one_less (told old))
-taken_out old inner new i count p h cut_as put_as small room e =
+    → length inner < 2 ^ 32 → count < 65536 → count ≡ fewer (told old) 1 → IsEdited new (remove (spellings_of old) i) (fewer (told old) 1)
+one_taken_out old inner new i count p h cut_as put_as small room e =
     let ss = spellings_of old in
-    let inside : i < length ss = omega (arith, length-texts old) in
     let next : i + 1 ≡ suc i = omega arith in
-    let shape : spliced ss i (i + 1) [] ≡ remove ss i = ap (λ (k : ℕ). take i ss ++ drop k ss) next in
-    subst (λ (k : ℕ). IsEdited new (remove ss i) k) e
-    (subst (λ (x : List (List ℕ)). IsEdited new x count) shape
-    (edited old inner new [] i (i + 1) count p (All-nil IsSpelling) cut_as put_as small room
-    (λ no_mark. omega (arith, less_known old count p (omega arith) e no_mark, ap length shape, length-remove ss i inside))))
+    let one : (i + 1) - i ≡ 1 = omega arith in
+    subst (λ (k : ℕ). IsEdited new (remove ss i) (fewer (told old) k)) one
+    (subst (λ (k : ℕ). IsEdited new (take i ss ++ drop k ss) (fewer (told old) ((i + 1) - i))) next
+    (taken_out old inner new i (i + 1) count p (omega arith) (omega arith) cut_as put_as small room (e ∙ ap (fewer (told old)) (sym one))))
 
--- an entry put in, and then the one behind it taken out
-pub exchanged : (old first second e : List ℕ) (at size behind : ℕ) → at ≤ length old → first ≡ take at old ++ (e ++ drop at old) → behind ≡ at + length e
-    → second ≡ take behind first ++ drop (behind + size) first → second ≡ take at old ++ (e ++ drop (at + size) old)
-exchanged old first second e at size behind inside one place two =
-    let whole : first ≡ (take at old ++ e) ++ drop at old = one ∙ sym (append_assoc (take at old) e (drop at old)) in
-    let long : length (take at old ++ e) ≡ behind = omega (arith, place, length-append (take at old) e, length-take-le at old inside) in
-    let front : take behind first ≡ take at old ++ e = ap (take behind) whole ∙ take_at (take at old ++ e) (drop at old) behind long in
-    let rest : drop (behind + size) first ≡ drop (at + size) old =
-    sym (drop-drop size behind first) ∙ ap (drop size) (ap (drop behind) whole ∙ drop_at (take at old ++ e) (drop at old) behind long) ∙ drop-drop size at old in
-    two ∙ ap (λ (x : List ℕ). x ++ drop (behind + size) first) front ∙ ap (λ (x : List ℕ). (take at old ++ e) ++ x) rest ∙ append_assoc (take at old) e (drop (at + size) old)
+-- an entry put in without another taken out
+pub in_place : (old inner text : List ℕ) (at : ℕ) → inner ≡ take at old ++ (entry text ++ drop (at + 0) old) → inner ≡ take at old ++ (entry text ++ drop at old)
+in_place old inner text at e = let same : at + 0 ≡ at = omega arith in e ∙ ap (λ (k : ℕ). take at old ++ (entry text ++ drop k old)) same
 
 -- the texts of spellings that were changed
 pub texts_inserted : (old new text : List ℕ) (i count : ℕ) → IsEdited new (insert (spellings_of old) i (spelling text)) count → length text < 2 ^ 32 → texts new ≡ insert (texts old) i text
@@ -209,12 +208,12 @@ pub texts_replaced : (old new text : List ℕ) (i count : ℕ) → IsEdited new 
 texts_replaced old new text i count t short =
     ap (map text_of) t.entries ∙ map-set text_of (spellings_of old) i (spelling text) ∙ ap (set (texts old) i) (spelled text short).1
 
-pub texts_removed : (old new : List ℕ) (i count : ℕ) → IsEdited new (remove (spellings_of old) i) count → texts new ≡ remove (texts old) i
-texts_removed old new i count t =
+pub texts_taken_out : (old new : List ℕ) (i j count : ℕ) → IsEdited new (remove_range (spellings_of old) i j) count → texts new ≡ remove_range (texts old) i j
+texts_taken_out old new i j count t =
     let ss = spellings_of old in
-    ap (map text_of) t.entries ∙ map-append text_of (take i ss) (drop (suc i) ss)
-    ∙ ap (λ (x : List (List ℕ)). x ++ map text_of (drop (suc i) ss)) (sym (take-map text_of i ss))
-    ∙ ap (λ (x : List (List ℕ)). take i (texts old) ++ x) (sym (drop-map text_of (suc i) ss))
+    ap (map text_of) t.entries ∙ map-append text_of (take i ss) (drop j ss)
+    ∙ ap (λ (x : List (List ℕ)). x ++ map text_of (drop j ss)) (sym (take-map text_of i ss))
+    ∙ ap (λ (x : List (List ℕ)). take i (texts old) ++ x) (sym (drop-map text_of j ss))
 
 pub element_fits : (pack text : List ℕ) → length pack + length (entry text) < 2 ^ 32 → length text < 2 ^ 32
 element_fits pack text h = element_short text (omega (arith, h, length-append (spelling text) (back_length (length (spelling text)))))

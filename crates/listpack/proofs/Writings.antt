@@ -1,19 +1,15 @@
 -- The writer's spelling.
 use Rattle.std.proofs.Common.{◌≡◌, ◌≢◌, ℕ, zero, suc, ◌+◌, ◌-◌, ◌*◌, ◌/◌, ◌%◌, ◌^◌, ◌<◌, ◌≤◌, Bool, true, false, cond, eqb, ◌&&◌, ◌⊎◌, List, [], ◌∷◌, ◌++◌, length, take, drop, get_or, slice_index, refl, sym, ap, subst, ◌∙◌, length-append, inl, inr, arith}
-use Rattle.std.specs.Prelude.{ℤ, pos, negsuc, neg_ℤ, Option, Some, None, FitsSigned, ◌≤ℤ◌, ◌<ℤ◌, decimal}
+use Rattle.std.specs.Prelude.{ℤ, pos, negsuc, Option, Some, None, FitsSigned, ◌≤ℤ◌, ◌<ℤ◌}
 use lib.Signed.{mag}
 use Rattle.std.specs.Int.{w64}
-use Rattle.std.specs.Str.{bytes_eq}
-use Rattle.std.specs.Str.Parse.{AllDigits}
-use Rattle.std.proofs.lemmas.Bool.{ne_eqb, lt-ltb, ltb-true}
 use Rattle.std.proofs.lemmas.Bool.Decides.{nat_tests}
 use Rattle.std.proofs.lemmas.Int.{ints}
-use Rattle.std.proofs.lemmas.Str.Parse.{digit_from_value}
-use Rattle.std.proofs.lemmas.Fmt.{decimal_is_IsNumeral, length_signed_le}
-use Rattle.std.proofs.lemmas.Slice.Eq.{bytes_eq-Decides}
+use Rattle.std.proofs.lemmas.Fmt.{length_signed_le}
 use Rattle.byteorder.specs.Endian.{little_bytes, low_bytes}
-use Rattle.int_text.specs.Decimal.{canonical, IsI64Text}
-use Rattle.listpack.specs.Writing.{value_of, magnitude, has_bits, i64_of, is_small, thirteen_low, number_spelling, text_head, spelling, spelling_by}
+use Rattle.int_text.specs.Decimal.{canonical, number_of}
+use Rattle.int_text.proofs.NumberOf.{number_cases as text_cases}
+use Rattle.listpack.specs.Writing.{magnitude, is_small, thirteen_low, number_spelling, text_head, spelling, spelling_by}
 
 pub number_small : (n : ℤ) → pos 0 ≤ℤ n → magnitude n < 128 → number_spelling n ≡ magnitude n ∷ []
 unfolding number_spelling
@@ -68,50 +64,6 @@ head_long n l = grind (arith, nat_tests)
 
 pub ruleset heads = (arith, head_short, head_medium, head_long)
 
--- no number without a sign begins with a minus sign
-minus_first : (n : ℕ) (ds : List ℕ) → n < 2 ^ 64 → decimal n ≢ 45 ∷ ds
-minus_first n ds h e = omega (arith, digit_from_value 45 (subst (AllDigits 10) e (decimal_is_IsNumeral n h).0.1).0)
-
-no_minus : (xs : List ℕ) → ((ds : List ℕ) → xs ≢ 45 ∷ ds) → eqb (get_or xs 0 0) 45 ≡ false
-no_minus [] h = refl
-no_minus (x ∷ xs) h = ne_eqb x 45 (λ e. h xs (ap (λ (y : ℕ). y ∷ xs) e))
-
-value_of_canonical : (n : ℤ) → magnitude n < 2 ^ 63 → value_of (canonical n) ≡ n
-value_of_canonical (pos m) h =
-    let plain = no_minus (decimal m) (λ ds. minus_first m ds (omega arith)) in
-    rw plain (ap pos (decimal_is_IsNumeral m (omega arith)).1)
-value_of_canonical (negsuc m) h = ap (λ (k : ℕ). neg_ℤ (pos k)) (decimal_is_IsNumeral (suc m) (omega arith)).1
-
--- the number, where its text is this one
-abbrev tested : List ℕ → ℤ → Option ℤ
-tested text n = cond (bytes_eq (canonical n) text && has_bits 63 n) (Some n) None
-
-tested_is : (text : List ℕ) → i64_of text ≡ tested text (value_of text)
-unfolding i64_of
-tested_is text = refl
-
-tested_yes : (n : ℤ) → magnitude n < 2 ^ 63 → tested (canonical n) n ≡ Some n
-tested_yes n h =
-    let same : bytes_eq (canonical n) (canonical n) ≡ true = (bytes_eq-Decides (canonical n) (canonical n)).1 refl in
-    let small : has_bits 63 n ≡ true = lt-ltb (magnitude n) (2 ^ 63) h in
-    rw (same, small) refl
-
-pub i64_of_canonical : (n : ℤ) → magnitude n < 2 ^ 63 → i64_of (canonical n) ≡ Some n
-i64_of_canonical n h = tested_is (canonical n) ∙ ap (tested (canonical n)) (value_of_canonical n h) ∙ tested_yes n h
-
-tested_cases : (text : List ℕ) (n : ℤ) (a b : Bool) → bytes_eq (canonical n) text ≡ a → has_bits 63 n ≡ b
-    → (tested text n ≡ None) ⊎ ((tested text n ≡ Some n) × (magnitude n < 2 ^ 63) × (text ≡ canonical n))
-tested_cases text n true true e f = inr (rw (e, f) refl, ltb-true (magnitude n) (2 ^ 63) f, sym ((bytes_eq-Decides (canonical n) text).0 e))
-tested_cases text n true false e f = inl (rw (e, f) refl)
-tested_cases text n false b e f = inl (rw e refl)
-
--- a text is that of a number, or of none
-pub i64_cases : (text : List ℕ) → (i64_of text ≡ None) ⊎ ((n : ℤ) × (i64_of text ≡ Some n) × (magnitude n < 2 ^ 63) × (text ≡ canonical n))
-i64_cases text = elim (tested_cases text (value_of text) (bytes_eq (canonical (value_of text)) text) (has_bits 63 (value_of text)) refl refl) [
-  | inl none ↦ inl (tested_is text ∙ none)
-  | inr some ↦ inr (value_of text, tested_is text ∙ some.0, some.1, some.2)
-]
-
 fits_from : (n : ℤ) → magnitude n < 2 ^ 63 → FitsSigned w64 n
 fits_from (pos m) h = record { sfits = h }
 fits_from (negsuc m) h = record { sfits = h }
@@ -120,17 +72,14 @@ magnitude_from : (n : ℤ) → FitsSigned w64 n → magnitude n < 2 ^ 63
 magnitude_from (pos m) f = f.sfits
 magnitude_from (negsuc m) f = f.sfits
 
--- what reading a text says
-pub read_some : (text : List ℕ) (n : ℤ) → FitsSigned w64 n → text ≡ canonical n → i64_of text ≡ Some n
-read_some text n f e = ap i64_of e ∙ i64_of_canonical n (magnitude_from n f)
-
-pub read_none : (text : List ℕ) → ¬ (IsI64Text text) → i64_of text ≡ None
-read_none text h = elim (i64_cases text) [
-  | inl none ↦ none
-  | inr some ↦ absurd (h (some.0, fits_from some.0 some.2, some.3))
+-- a text is that of a number, or of none
+pub number_cases : (text : List ℕ) → (number_of text ≡ None) ⊎ ((n : ℤ) × (number_of text ≡ Some n) × (magnitude n < 2 ^ 63) × (text ≡ canonical n))
+number_cases text = elim (text_cases text) [
+  | inl none ↦ inl none
+  | inr some ↦ inr (some.0, some.1, magnitude_from some.0 some.2, some.3)
 ]
 
-pub spelling_as : (text : List ℕ) (o : Option ℤ) → i64_of text ≡ o → spelling text ≡ spelling_by o text
+pub spelling_as : (text : List ℕ) (o : Option ℤ) → number_of text ≡ o → spelling text ≡ spelling_by o text
 unfolding spelling
 spelling_as text o e = ap (λ (x : Option ℤ). spelling_by x text) e
 
@@ -143,7 +92,7 @@ canonical_short n h = let f = fits_from n h in length_signed_le 19 n (short n h)
 
 -- no element is far longer than its spelling
 pub element_short : (text : List ℕ) → length (spelling text) < 2 ^ 32 → length text < 2 ^ 32
-element_short text h = elim (i64_cases text) [
+element_short text h = elim (number_cases text) [
   | inl none ↦ let e = spelling_as text None none in omega (arith, h, ap length e, length-append (text_head (length text)) text)
   | inr some ↦ let e = canonical_short some.0 some.2 in omega (arith, e, ap length some.3)
 ]

@@ -1,13 +1,13 @@
 -- An element as code gives it.
 use Rattle.std.specs.Prelude.{◌<◌, ◌≤◌, ◌⊎◌, ℕ, Bool, true, false, List}
-use Rattle.std.specs.Fmt.{signed_decimal}
+use Rattle.int_text.specs.Decimal.{canonical}
 use Rattle.listpack.specs.declared.encoding.Element.{Element}
 use Rattle.listpack.specs.declared.encoding.Element.TheVariants as elements
 
 -- the text that it stands for
 abbrev pub element_text : Element → List ℕ
 element_text (elements.Text part) = part.now
-element_text (elements.Number n) = signed_decimal n
+element_text (elements.Number n) = canonical n
 
 abbrev pub is_number : Element → Bool
 is_number (elements.Text part) = false

@@ -1,6 +1,6 @@
 -- One entry of a listpack: encoding, content, back length. (Listpack specification, "Entry format".)
 use Rattle.std.specs.Prelude.{◌≡◌, ℕ, ◌+◌, ◌-◌, ◌*◌, ◌/◌, ◌%◌, ◌^◌, List, [], ◌∷◌, ◌++◌, length, drop, slice_index, ℤ, pos, ◌-ℤ◌, nat_lt, if◌then◌else◌}
-use Rattle.std.specs.Fmt.{signed_decimal}
+use Rattle.int_text.specs.Decimal.{canonical}
 use Rattle.byteorder.specs.Endian.{little_number, twos_complement}
 
 -- What an entry's first byte says of the bytes behind it.
@@ -52,12 +52,12 @@ thirteen_bits x = if nat_lt x 4096 then pos x else pos x -ℤ pos 8192
 
 -- What the content says: a string is its bytes, a number its decimal text.
 abbrev pub text_by : Encoding → ℕ → List ℕ → List ℕ
-text_by SmallNumber b more = signed_decimal (pos b)
+text_by SmallNumber b more = canonical (pos b)
 text_by ShortText b more = more
-text_by ThirteenBits b more = signed_decimal (thirteen_bits ((b - 0xC0) * 256 + slice_index more 0))
+text_by ThirteenBits b more = canonical (thirteen_bits ((b - 0xC0) * 256 + slice_index more 0))
 text_by MediumText b more = drop 1 more
 text_by LongText b more = drop 4 more
-text_by (Signed n) b more = signed_decimal (twos_complement n (little_number n more))
+text_by (Signed n) b more = canonical (twos_complement n (little_number n more))
 text_by NoEncoding b more = []
 
 unfoldable pub text_of : List ℕ → List ℕ

@@ -1,17 +1,10 @@
 -- How an element is spelled by a writer: the shortest number form for a canonical text of a signed number of 64 bits, else the
 -- shortest string form. (Listpack specification, "Element encoding".)
-use Rattle.std.specs.Prelude.{ℕ, ◌+◌, ◌-◌, ◌/◌, ◌%◌, ◌^◌, ◌<◌, Bool, false, ◌&&◌, List, [], ◌∷◌, ◌++◌, length, drop, slice_index, ℤ, pos, negsuc, neg_ℤ, nat_lt, ◌==◌, if◌then◌else◌, Option, Some, None}
+use Rattle.std.specs.Prelude.{ℕ, ◌+◌, ◌-◌, ◌/◌, ◌%◌, ◌^◌, ◌<◌, Bool, false, List, [], ◌∷◌, ◌++◌, length, ℤ, pos, negsuc, nat_lt, if◌then◌else◌, Option, Some, None}
 use Rattle.std.specs.Int.{w64}
-use Rattle.std.specs.Str.{bytes_eq}
-use Rattle.std.specs.Str.Parse.{digits_value}
 use Rattle.byteorder.specs.Endian.{little_bytes, low_bytes}
-use Rattle.int_text.specs.Decimal.{canonical}
+use Rattle.int_text.specs.Decimal.{number_of}
 use Rattle.listpack.specs.Entry.{entry_of}
-
--- The number whose canonical text this is, where there is one of 64 bits: the number that the digits make, where its text is
--- this one.
-abbrev pub value_of : List ℕ → ℤ
-value_of text = if slice_index text 0 == 45 then neg_ℤ (pos (digits_value 10 (drop 1 text))) else pos (digits_value 10 text)
 
 -- the number, or of a negative one how far it is below -1
 abbrev pub magnitude : ℤ → ℕ
@@ -21,9 +14,6 @@ magnitude (negsuc n) = n
 -- two's complement of k bits and a sign holds the number
 abbrev pub has_bits : ℕ → ℤ → Bool
 has_bits k n = nat_lt (magnitude n) (2 ^ k)
-
-unfoldable pub i64_of : List ℕ → Option ℤ
-i64_of text = if bytes_eq (canonical (value_of text)) text && has_bits 63 (value_of text) then Some (value_of text) else None
 
 -- from 0 to 127
 abbrev pub is_small : ℤ → Bool
@@ -58,7 +48,7 @@ spelling_by (Some n) text = number_spelling n
 spelling_by None text = text_head (length text) ++ text
 
 unfoldable pub spelling : List ℕ → List ℕ
-spelling text = spelling_by (i64_of text) text
+spelling text = spelling_by (number_of text) text
 
 -- the whole entry of an element
 abbrev pub entry : List ℕ → List ℕ

@@ -31,14 +31,12 @@ pub(crate) fn back_length_of(size: usize) -> FewBytes
 
 // The k-th byte from the end.
 fn from_end(bytes: &[u8], k: usize) -> usize
-    ensures place { 0 < k → k ≤ length bytes.now → result ≡ slice_index bytes.now (length bytes.now - k) }
+    requires some { 0 < k }
+    requires inside { k ≤ length bytes.now }
+    ensures place { result ≡ slice_index bytes.now (length bytes.now - k) }
     ensures byte { result < 256 }
 {
-    if k == 0 || bytes.len() < k {
-        0
-    } else {
-        usize::from(bytes[bytes.len() - k])
-    }
+    usize::from(bytes[bytes.len() - k])
 }
 
 // The number whose lowest seven bits are in `byte`.
@@ -51,6 +49,7 @@ fn joined(high: usize, byte: usize) -> usize
 
 /// How many bytes the entry takes whose back length `bytes` end with: encoding, content and back length.
 pub(crate) fn entry_len_before(bytes: &[u8]) -> usize
+    requires { (front : List ℕ) × (size : ℕ) × (bytes.now ≡ front ++ back_length size) }
     ensures { (front : List ℕ) (size : ℕ) → bytes.now ≡ front ++ back_length size → result ≡ size + length (back_length size) }
 {
     let a = from_end(bytes, 1);

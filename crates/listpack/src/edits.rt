@@ -1,11 +1,11 @@
 // The edits.
 
-ghost use Rattle.std.specs.Prelude.{◌≡◌, ◌∷◌, ◌++◌, ◌+◌, ◌<◌, ◌≤◌, ◌^◌, ℕ, [], IfOk, OnOk, OnErr, is_ok, length, take, drop, slice_set, vec_len};
-ghost use Rattle.std.specs.List.{insert as inserted, remove as removed};
+ghost use Rattle.std.specs.Prelude.{◌≡◌, ◌≢◌, ◌∷◌, ◌++◌, ◌+◌, ◌-◌, ◌<◌, ◌≤◌, ◌^◌, ℕ, [], IfOk, OnOk, OnErr, is_ok, length, take, drop, slice_set, vec_len};
+ghost use Rattle.std.specs.List.{insert as inserted, remove as removed, remove_range as range_removed};
 ghost use Rattle.byteorder.specs.Endian.{little_bytes};
 ghost use Rattle.listpack.specs.Pack.{IsPack, texts, spellings_of, told, offset_of};
 ghost use Rattle.listpack.specs.Writing.{entry, spelling, Fits};
-ghost use Rattle.listpack.specs.Edits.{IsEdited, one_more, one_less};
+ghost use Rattle.listpack.specs.Edits.{IsEdited, one_more, fewer};
 
 use crate::back::back_length_of;
 use crate::checking::known;
@@ -35,42 +35,51 @@ fn write_header(pack: &mut Vec<u8>, count: u16)
     put_header(pack.as_mut_slice(), total, count);
 }
 
-// Appends three pieces, or the first of them.
-fn push_pieces(pack: &mut Vec<u8>, a: &[u8], b: &[u8], c: &[u8]) -> Result<(), Memory>
-    ensures ok { OnOk result (pack.new.items ≡ pack.old.items ++ (a.now ++ b.now ++ c.now)) }
-    ensures err { OnErr result (take (vec_len pack.old) pack.new.items ≡ pack.old.items) }
+// Moves what stands behind `size` bytes at an offset, so that `room` bytes stand there in their place.
+fn make_room(pack: &mut Vec<u8>, at: usize, size: usize, room: usize) -> Result<(), Memory>
+    requires inside { at + size ≤ length pack.old.items }
+    requires small { room < 2 ^ 33 }
+    ensures len { OnOk result (length pack.new.items + size ≡ length pack.old.items + room) }
+    ensures before { OnOk result (take at pack.new.items ≡ take at pack.old.items) }
+    ensures behind { OnOk result (drop (at + room) pack.new.items ≡ drop (at + size) pack.old.items) }
+    ensures err { OnErr result (pack.new.items ≡ pack.old.items) }
 {
-    pack.extend_from_slice(a)?;
-    pack.extend_from_slice(b)?;
-    pack.extend_from_slice(c)
+    let len = pack.len();
+    pack.resize(len + room.saturating_sub(size), 0)?;
+    pack.as_mut_slice().copy_within(at + size..len, at + room);
+    pack.truncate(len - size + room);
+    Ok(())
 }
 
-// Appends the entry of an element.
-fn push_entry(pack: &mut Vec<u8>, element: &[u8]) -> Result<(), Memory>
-    requires { length (entry element.now) < 2 ^ 32 }
-    ensures ok { OnOk result (pack.new.items ≡ pack.old.items ++ entry element.now) }
+// Writes three pieces over bytes that have room for just them.
+fn write_pieces(to: &mut [u8], a: &[u8], b: &[u8], c: &[u8])
+    requires { length to.old ≡ length a.now + length b.now + length c.now }
+    ensures { to.new ≡ a.now ++ (b.now ++ c.now) }
+{
+    let (first, rest) = to.split_at_mut(a.len());
+    let (second, third) = rest.split_at_mut(b.len());
+    first.copy_from_slice(a);
+    second.copy_from_slice(b);
+    third.copy_from_slice(c);
+}
+
+// Puts the entry of an element in the place of `size` bytes at an offset. What stands behind them moves once.
+fn put(pack: &mut Vec<u8>, at: usize, size: usize, element: &[u8]) -> Result<(), Memory>
+    requires inside { at + size ≤ length pack.old.items }
+    requires small { length (entry element.now) < 2 ^ 32 }
+    ensures ok { OnOk result (pack.new.items ≡ take at pack.old.items ++ (entry element.now ++ drop (at + size) pack.old.items)) }
     ensures err { OnErr result (pack.new.items ≡ pack.old.items) }
 {
     let (head, content) = spell(element);
     let back_length = back_length_of(head.len() + content.len());
-    let len = pack.len();
-    let pushed = push_pieces(pack, head.as_slice(), content, back_length.as_slice());
-    if pushed.is_err() {
-        pack.truncate(len);
-    }
-    pushed
-}
-
-// Puts the entry of an element at an offset.
-fn put(pack: &mut Vec<u8>, at: usize, element: &[u8]) -> Result<(), Memory>
-    requires inside { at ≤ length pack.old.items }
-    requires small { length (entry element.now) < 2 ^ 32 }
-    ensures ok { OnOk result (pack.new.items ≡ take at pack.old.items ++ (entry element.now ++ drop at pack.old.items)) }
-    ensures err { OnErr result (pack.new.items ≡ pack.old.items) }
-{
-    let len = pack.len();
-    push_entry(pack, element)?;
-    pack[at..].rotate_left(len - at);
+    let room = head.len() + content.len() + back_length.len();
+    make_room(pack, at, size, room)?;
+    write_pieces(
+        &mut pack[at..at + room],
+        head.as_slice(),
+        content,
+        back_length.as_slice(),
+    );
     Ok(())
 }
 
@@ -80,7 +89,7 @@ fn cut(pack: &mut Vec<u8>, at: usize, size: usize)
     ensures { pack.new.items ≡ take at pack.old.items ++ drop (at + size) pack.old.items }
 {
     let len = pack.len();
-    pack[at..].rotate_left(size);
+    pack.as_mut_slice().copy_within(at + size..len, at);
     pack.truncate(len - size);
 }
 
@@ -96,6 +105,18 @@ fn place_of(pack: &[u8], index: usize) -> (usize, usize)
     let walk = known(pack);
     let at = walk.offset(index);
     (at, walk.entry_len(at))
+}
+
+// The header's count after so many elements less.
+fn fewer_told(count: u16, removed: usize) -> u16
+    requires { count ≢ 65535 → removed ≤ count }
+    ensures { result ≡ fewer count removed }
+{
+    if count == NOT_TOLD {
+        count
+    } else {
+        count - removed as u16
+    }
 }
 
 /// An empty listpack.
@@ -115,7 +136,7 @@ pub fn append(pack: &mut Vec<u8>, element: &[u8]) -> Result<(), Memory>
 {
     let count = told_count(pack);
     let end = pack.len() - 1;
-    put(pack, end, element)?;
+    put(pack, end, 0, element)?;
     write_header(pack, count.saturating_add(1));
     Ok(())
 }
@@ -131,7 +152,7 @@ pub fn insert(pack: &mut Vec<u8>, index: usize, element: &[u8]) -> Result<(), Me
 {
     let told = told_count(pack);
     let at = known(pack).offset(index);
-    put(pack, at, element)?;
+    put(pack, at, 0, element)?;
     write_header(pack, told.saturating_add(1));
     Ok(())
 }
@@ -146,11 +167,8 @@ pub fn replace(pack: &mut Vec<u8>, index: usize, element: &[u8]) -> Result<(), M
     ensures memory { OnErr result (pack.new.items ≡ pack.old.items) }
 {
     let count = told_count(pack);
-    let len = pack.len();
     let (at, size) = place_of(pack, index);
-    put(pack, at, element)?;
-    let behind = at + (pack.len() - len);
-    cut(pack, behind, size);
+    put(pack, at, size, element)?;
     write_header(pack, count);
     Ok(())
 }
@@ -159,11 +177,26 @@ pub fn replace(pack: &mut Vec<u8>, index: usize, element: &[u8]) -> Result<(), M
 pub fn remove(pack: &mut Vec<u8>, index: usize)
     requires packed { IsPack pack.old.items }
     requires index { index < length (texts pack.old.items) }
-    ensures entries { IsEdited pack.new.items (removed (spellings_of pack.old.items) index) (one_less (told pack.old.items)) }
+    ensures entries { IsEdited pack.new.items (removed (spellings_of pack.old.items) index) (fewer (told pack.old.items) 1) }
     ensures list { texts pack.new.items ≡ removed (texts pack.old.items) index }
 {
     let count = told_count(pack);
     let (at, size) = place_of(pack, index);
     cut(pack, at, size);
-    write_header(pack, if count == NOT_TOLD { count } else { count - 1 });
+    write_header(pack, fewer_told(count, 1));
+}
+
+/// Takes out the elements from the index `from` to below `to`.
+pub fn remove_range(pack: &mut Vec<u8>, from: usize, to: usize)
+    requires packed { IsPack pack.old.items }
+    requires order { from ≤ to }
+    requires inside { to ≤ length (texts pack.old.items) }
+    ensures entries { IsEdited pack.new.items (range_removed (spellings_of pack.old.items) from to) (fewer (told pack.old.items) (to - from)) }
+    ensures list { texts pack.new.items ≡ range_removed (texts pack.old.items) from to }
+{
+    let count = told_count(pack);
+    let walk = known(pack);
+    let (at, end) = (walk.offset(from), walk.offset(to));
+    cut(pack, at, end - at);
+    write_header(pack, fewer_told(count, to - from));
 }

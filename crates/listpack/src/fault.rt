@@ -1,5 +1,8 @@
 // Why bytes are no listpack.
 
+ghost use Rattle.std.specs.Prelude.{◌≡◌};
+ghost use Rattle.listpack.specs.Faults.{fault_number};
+
 /// The first rule of the listpack format that bytes break.
 #[derive(Clone, Copy, Debug, PartialEq, Eq)]
 pub enum PackFault {
@@ -15,4 +18,13 @@ pub enum PackFault {
     Count,
     /// The last byte is not FF.
     End,
+}
+
+impl PackFault {
+    /// The number of the fault, 1 to 6.
+    pub fn number(self) -> u8
+        ensures { result ≡ fault_number self }
+    {
+        self as u8
+    }
 }

@@ -14,10 +14,10 @@ mod walks;
 
 pub use back::back_lengths_at_limits;
 pub use checking::{check, exactly_one, known};
-pub use edits::{Memory, append, empty, insert, remove, replace};
+pub use edits::{Memory, append, empty, insert, remove, remove_range, replace};
 pub use encoding::Element;
 pub use fault::PackFault;
-pub use spelling::{fits, spelling_is_read_back};
+pub use spelling::{entry_size, fits, spelling_is_read_back};
 pub use walks::Pack;
 
 #[cfg(test)]

@@ -4,7 +4,7 @@ ghost use Rattle.std.specs.Prelude.{◌≡◌, ◌∷◌, [], ◌++◌, ◌+◌,
 ghost use Rattle.std.specs.Int.{w64};
 ghost use Rattle.byteorder.specs.Endian.{little_bytes, low_bytes};
 ghost use Rattle.listpack.specs.Entry.{IsSpelling, text_of};
-ghost use Rattle.listpack.specs.Writing.{magnitude, thirteen_low, number_spelling, text_head, spelling, Fits};
+ghost use Rattle.listpack.specs.Writing.{magnitude, thirteen_low, number_spelling, text_head, spelling, entry, Fits};
 
 use crate::back::back_length_of;
 use crate::few::FewBytes;
@@ -94,6 +94,17 @@ pub(crate) fn spell(element: &[u8]) -> (FewBytes, &[u8])
     }
 }
 
+/// How many bytes the entry of an element takes.
+pub fn entry_size(element: &[u8]) -> usize
+    requires { length element.now < 2 ^ 32 }
+    ensures size { result ≡ length (entry element.now) }
+    ensures small { result < 2 ^ 33 }
+{
+    let (head, content) = spell(element);
+    let size = head.len() + content.len();
+    size + back_length_of(size).len()
+}
+
 /// Whether a listpack stays below 2^32 bytes when the element is put into it.
 pub fn fits(pack: &[u8], element: &[u8]) -> bool
     ensures { IsTrue result ↔ Fits pack.now element.now }
@@ -101,9 +112,7 @@ pub fn fits(pack: &[u8], element: &[u8]) -> bool
     if element.len() > u32::MAX as usize {
         return false;
     }
-    let (head, content) = spell(element);
-    let size = head.len() + content.len();
-    pack.len() + size + back_length_of(size).len() <= u32::MAX as usize
+    pack.len() + entry_size(element) <= u32::MAX as usize
 }
 
 /// The writer's spelling of an element is one encoding with its content, and is read as that element.

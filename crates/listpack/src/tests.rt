@@ -203,12 +203,17 @@ fn truncated_and_changed_bytes_have_their_faults(rt: HostRuntime) -> Result<(), 
 
 #[test]
 fn long_entries_take_longer_back_lengths(rt: HostRuntime) -> Result<(), Fail> {
-    for (len, ending) in [(16_377, [0x7f, 0xfe, 0xff]), (16_378, [0xff, 0xff, 0xff])] {
+    let cases: [(usize, &[u8]); 2] = [
+        (16_377, &[b'x', 0x7f, 0xfe, 0xff]),
+        (16_378, &[b'x', 0x00, 0xff, 0xff, 0xff]),
+    ];
+    for (len, ending) in cases {
         let text = vec![in rt.alloc(); b'x'; len]?;
         let mut pack = empty(rt.alloc())?;
         assert!(rt; fits(&pack, &text));
         append(&mut pack, &text)?;
-        assert!(rt; pack.ends_with(&ending));
+        assert!(rt; pack.ends_with(ending));
+        assert_eq!(rt; pack.len(), 7 + entry_size(&text));
     }
     Ok(())
 }
@@ -235,6 +240,8 @@ fn edits_leave_the_bytes_of_the_changed_list(rt: HostRuntime) -> Result<(), Fail
         0x10, 0, 0, 0, 2, 0, 0xf1, 0, 0x10, 3, 0x83, b'0', b'0', b'7', 4, 0xff,
     ];
     assert_eq!(rt; pack.as_slice(), two.as_slice());
+    remove_range(&mut pack, 0, 2);
+    assert_eq!(rt; pack.as_slice(), [7, 0, 0, 0, 0, 0, 0xff].as_slice());
     Ok(())
 }
 
@@ -251,6 +258,10 @@ fn walks_meet_each_element_from_both_ends(rt: HostRuntime) -> Result<(), Fail> {
     assert_eq!(rt; pack.prev(last), Some(first));
     assert_eq!(rt; pack.seek(1), Some(9));
     assert_eq!(rt; pack.seek(2), None);
+    let untold = check(EACH_WIDTH).ok().ok_or("a listpack")?;
+    assert_eq!(rt; untold.seek(3), Some(17));
+    assert_eq!(rt; untold.seek(4), None);
+    assert_eq!(rt; PackFault::End.number(), 6);
     Ok(())
 }
 

@@ -100,11 +100,10 @@ impl<'a> Pack<'a> {
         size + back_length_of(size).len()
     }
 
-    // The offset of the entry at an index, or behind all entries that of the last byte.
-    pub(crate) fn offset(&self, index: usize) -> usize
+    // The offset of the entry at an index, or behind all entries that of the last byte, by a step for each entry before it.
+    fn offset_from_front(&self, index: usize) -> usize
         requires { index ≤ length (list_of self.now) }
-        ensures place { result ≡ offset_of (bytes_of self.now) index }
-        ensures inside { result < length (bytes_of self.now) }
+        ensures { result ≡ offset_of (bytes_of self.now) index }
     {
         let mut at = 6;
         for _ in 0..index {
@@ -113,12 +112,54 @@ impl<'a> Pack<'a> {
         at
     }
 
-    /// The offset of the entry at an index. It takes a step for each entry before it.
+    // The offset of the entry that has so many behind it, itself counted, by a step for each of them.
+    fn offset_from_back(&self, behind: usize) -> usize
+        requires { behind ≤ length (list_of self.now) }
+        ensures { result ≡ offset_of (bytes_of self.now) (length (list_of self.now) - behind) }
+    {
+        let mut at = self.bytes.len() - 1;
+        for _ in 0..behind {
+            at = self.before(at);
+        }
+        at
+    }
+
+    // The offset of the entry at an index, or behind all entries that of the last byte. Where the header tells the number of
+    // elements, the walk begins at the nearer end.
+    pub(crate) fn offset(&self, index: usize) -> usize
+        requires { index ≤ length (list_of self.now) }
+        ensures place { result ≡ offset_of (bytes_of self.now) index }
+        ensures inside { result < length (bytes_of self.now) }
+    {
+        let told = told_count(self.bytes);
+        if told == NOT_TOLD || index <= usize::from(told) / 2 {
+            self.offset_from_front(index)
+        } else {
+            self.offset_from_back(usize::from(told) - index)
+        }
+    }
+
+    // The offset of the entry at an index of a listpack that does not tell its number of elements.
+    fn seek_from_front(&self, index: usize) -> Option<usize>
+        ensures { MatchOption result (length (list_of self.now) ≤ index) (λ at. IsAt (bytes_of self.now) index at) }
+    {
+        let mut at = self.first()?;
+        for _ in 0..index {
+            at = self.next(at)?;
+        }
+        Some(at)
+    }
+
+    /// The offset of the entry at an index. Where the header tells the number of elements, it takes a step for each entry
+    /// between the index and the nearer end, else one for each entry before the index.
     pub fn seek(&self, index: usize) -> Option<usize>
         ensures place { MatchOption result (length (list_of self.now) ≤ index) (λ at. IsAt (bytes_of self.now) index at) }
         ensures offset { IfSome result (λ to. IsOffset (bytes_of self.now) to) }
     {
-        if index < self.len() {
+        let told = told_count(self.bytes);
+        if told == NOT_TOLD {
+            self.seek_from_front(index)
+        } else if index < usize::from(told) {
             Some(self.offset(index))
         } else {
             None

@@ -16,3 +16,18 @@ returns-then-c-lt128 c = λ front size e. let h = ends front c.args.bytes.now si
 
 pub returns-then-d-lt128 : goal.returns-then-d-lt128
 returns-then-d-lt128 c = λ front size e. let h = ends front c.args.bytes.now size e in grind arith
+
+pub from_end-a-requires-clause-inside : goal.from_end-a-requires-clause-inside
+from_end-a-requires-clause-inside c = let h = ends c.requires.0 c.args.bytes.now c.requires.1 c.requires.2 in grind arith
+
+pub from_end-b-requires-clause-inside : goal.from_end-b-requires-clause-inside
+from_end-b-requires-clause-inside c = let h = ends c.requires.0 c.args.bytes.now c.requires.1 c.requires.2 in grind arith
+
+pub from_end-c-requires-clause-inside : goal.from_end-c-requires-clause-inside
+from_end-c-requires-clause-inside c = let h = ends c.requires.0 c.args.bytes.now c.requires.1 c.requires.2 in grind arith
+
+pub from_end-d-requires-clause-inside : goal.from_end-d-requires-clause-inside
+from_end-d-requires-clause-inside c = let h = ends c.requires.0 c.args.bytes.now c.requires.1 c.requires.2 in grind arith
+
+pub from_end-e-requires-clause-inside : goal.from_end-e-requires-clause-inside
+from_end-e-requires-clause-inside c = let h = ends c.requires.0 c.args.bytes.now c.requires.1 c.requires.2 in grind arith

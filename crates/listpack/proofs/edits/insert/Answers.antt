@@ -2,7 +2,7 @@ use Rattle.std.proofs.Common.{◌+◌, ◌++◌, ℕ, List, take, drop, ap, ◌�
 use Rattle.std.specs.Prelude.{min}
 use Rattle.listpack.specs.Pack.{offset_of, told}
 use Rattle.listpack.specs.Writing.{entry}
-use Rattle.listpack.proofs.Repacking.{inserted, texts_inserted, element_fits, length-put}
+use Rattle.listpack.proofs.Repacking.{inserted, in_place, texts_inserted, element_fits, length-put}
 use Rattle.listpack.proofs.edits.insert.Goals as goal
 
 pub returns-clause-entries : goal.returns-clause-entries
@@ -10,7 +10,7 @@ returns-clause-entries c =
     let old = c.args.pack.now.items in
     let text = c.args.element.now in
     let at = c.offset-at.ensures.place ∙ ap (λ (b : List ℕ). offset_of b c.args.index) (c.known.ensures ∙ c.deref-2.ensures.value) in
-    let inner = c.in_ok-put.ensures.ok in
+    let inner = in_place old c.put.new.pack.items text c.offset-at.result c.in_ok-put.ensures.ok in
     inserted old c.put.new.pack.items c.write_header.new.pack.items text c.args.index c.saturating_add.result c.requires.packed c.requires.index
     (element_fits old text c.requires.fits)
     (inner ∙ ap (λ (k : ℕ). take k old ++ (entry text ++ drop k old)) at)

@@ -1,9 +1,12 @@
-use Rattle.std.proofs.Common.{◌≡◌, ◌+◌, ◌++◌, ◌<◌, ◌^◌, ℕ, List, length, take, drop, sym, ap, ◌∙◌, arith}
+use Rattle.std.proofs.Common.{◌+◌, ◌++◌, ◌<◌, ◌^◌, ℕ, suc, List, length, take, drop, sym, ap, ◌∙◌, arith}
 use Rattle.listpack.specs.Pack.{offset_of, told}
-use Rattle.listpack.specs.Edits.{one_less}
-use Rattle.listpack.proofs.Repacking.{taken_out, texts_removed, count_stays, count_falls, length-cut}
+use Rattle.listpack.specs.Edits.{fewer}
+use Rattle.listpack.proofs.Repacking.{one_taken_out, texts_taken_out, told_enough, length-cut}
 use Rattle.listpack.proofs.edits.remove.Goals as goal
-use Rattle.listpack.proofs.edits.remove.Goals.{then-count, else-count}
+
+pub fewer_told-requires : goal.fewer_told-requires
+fewer_told-requires c =
+    told_enough c.args.pack.now.items c.told_count-count.result 1 c.requires.packed (c.told_count-count.ensures ∙ ap told c.deref.ensures.value) (omega (arith, c.requires.index))
 
 pub returns-clause-entries : goal.returns-clause-entries
 returns-clause-entries c =
@@ -16,12 +19,8 @@ returns-clause-entries c =
     let inside : c.place_of-at.result.0 + c.place_of-at.result.1 < length old = omega (arith, c.place_of-at.ensures.inside, ap length value) in
     let small : length c.cut.new.pack.items < 2 ^ 32 = length-cut old c.cut.new.pack.items c.place_of-at.result.0 c.place_of-at.result.1 c.cut.ensures (omega (arith, inside)) (omega (arith, c.place_of-at.ensures.small, ap length value)) in
     let same = c.told_count-count.ensures ∙ ap told c.deref.ensures.value in
-    let count : c.if-count.write_header ≡ one_less (told old) = elim c.if-count.branch [
-      | then-count w ↦ count_stays c.told_count-count.result (told old) c.if-count.write_header same (omega arith) w.write_header-is
-      | else-count w ↦ count_falls c.told_count-count.result (told old) c.if-count.write_header same w.if-count.false w.write_header-is
-    ] in
-    taken_out old c.cut.new.pack.items c.write_header.new.pack.items i c.if-count.write_header c.requires.packed c.requires.index inner c.write_header.ensures small
-    (omega arith) count
+    one_taken_out old c.cut.new.pack.items c.write_header.new.pack.items i c.fewer_told.result c.requires.packed c.requires.index inner c.write_header.ensures small
+    (omega arith) (c.fewer_told.ensures ∙ ap (λ (k : ℕ). fewer k 1) same)
 
 pub returns-clause-list : goal.returns-clause-list
-returns-clause-list c = texts_removed c.args.pack.now.items c.write_header.new.pack.items c.args.index _ (returns-clause-entries c)
+returns-clause-list c = texts_taken_out c.args.pack.now.items c.write_header.new.pack.items c.args.index (suc c.args.index) _ (returns-clause-entries c)

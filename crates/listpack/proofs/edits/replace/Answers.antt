@@ -1,8 +1,7 @@
-use Rattle.std.proofs.Common.{◌≡◌, ◌+◌, ◌-◌, ◌++◌, ◌<◌, ℕ, List, length, take, drop, sym, ap, ◌∙◌, arith, rules}
-use Rattle.std.specs.Prelude.{vec_len}
+use Rattle.std.proofs.Common.{◌≡◌, ◌+◌, ◌++◌, ◌<◌, ℕ, List, length, take, drop, sym, ap, ◌∙◌, arith}
 use Rattle.listpack.specs.Pack.{offset_of, told}
 use Rattle.listpack.specs.Writing.{entry}
-use Rattle.listpack.proofs.Repacking.{replaced, texts_replaced, exchanged, element_fits, length_put_is, length-exchanged}
+use Rattle.listpack.proofs.Repacking.{replaced, texts_replaced, element_fits, length-exchanged}
 use Rattle.listpack.proofs.edits.replace.Goals as goal
 
 pub returns-clause-entries : goal.returns-clause-entries
@@ -15,17 +14,12 @@ returns-clause-entries c =
     let size = c.place_of-at.result.1 in
     let at : place ≡ offset_of old i = c.place_of-at.ensures.at ∙ ap (λ (b : List ℕ). offset_of b i) value in
     let next : place + size ≡ offset_of old (i + 1) = sym c.place_of-at.ensures.next ∙ ap (λ (b : List ℕ). offset_of b (i + 1)) value in
-    let first = c.in_ok-put.ensures.ok in
     let inside : place + size < length old = omega (arith, c.place_of-at.ensures.inside, ap length value) in
-    let longer = length_put_is old c.put.new.pack.items text place first in
-    let lengths : vec_len c.put.new.pack ≡ length c.put.new.pack.items = search rules in
-    let before : vec_len c.args.pack.now ≡ length old = search rules in
-    let behind : place + (c.len.result - c.len-len.result) ≡ place + length (entry text) = omega (arith, lengths, before, longer) in
-    let second = exchanged old c.put.new.pack.items c.cut.new.pack.items (entry text) place size (place + (c.len.result - c.len-len.result)) (omega (arith, inside)) first behind c.cut.ensures in
-    let inner = second ∙ ap (λ (k : ℕ). take k old ++ (entry text ++ drop (place + size) old)) at ∙ ap (λ (k : ℕ). take (offset_of old i) old ++ (entry text ++ drop k old)) next in
-    replaced old c.cut.new.pack.items c.write_header.new.pack.items text i c.told_count-count.result c.requires.packed c.requires.index
+    let put = c.in_ok-put.ensures.ok in
+    let inner = put ∙ ap (λ (k : ℕ). take k old ++ (entry text ++ drop (place + size) old)) at ∙ ap (λ (k : ℕ). take (offset_of old i) old ++ (entry text ++ drop k old)) next in
+    replaced old c.put.new.pack.items c.write_header.new.pack.items text i c.told_count-count.result c.requires.packed c.requires.index
     (element_fits old text c.requires.fits) inner c.write_header.ensures
-    (length-exchanged old c.cut.new.pack.items text place size second c.requires.fits (omega (arith, inside)))
+    (length-exchanged old c.put.new.pack.items text place size put c.requires.fits (omega (arith, inside)))
     (omega arith) (c.told_count-count.ensures ∙ ap told c.deref.ensures.value)
 
 pub returns-clause-list : goal.returns-clause-list

@@ -20,6 +20,19 @@ goes_back bytes end result p says i some h e =
     let is = says _ (length s) (ap (λ (k : ℕ). take k bytes) at ∙ ends_with bytes j p inside) in
     (omega (arith, is, at, offset_next bytes j inside), omega (arith, e, length-offset bytes i p))
 
+-- the bytes before the end of the entry i - 1 end with its back length
+ends_back : (bytes : List ℕ) (end i : ℕ) → IsPack bytes → 0 < i → i ≤ length (texts bytes) → end ≡ offset_of bytes i
+    → (front : List ℕ) × (size : ℕ) × (take end bytes ≡ Rattle.std.proofs.Common.◌++◌ front (back_length size))
+ends_back bytes end i p some h e =
+    let j : ℕ = i - 1 in
+    let inside : j < length (spellings_of bytes) = omega (arith, length-texts bytes) in
+    let back : i ≡ j + 1 = omega arith in
+    let at : end ≡ offset_of bytes (j + 1) = e ∙ ap (offset_of bytes) back in
+    (_, length (get_or (spellings_of bytes) j []), ap (λ (k : ℕ). take k bytes) at ∙ ends_with bytes j p inside)
+
+pub entry_len_before-requires : goal.entry_len_before-requires
+entry_len_before-requires c = ends_back c.args.self.now.bytes.now c.args.end c.requires.0 c.args.self.now.packed c.requires.1 c.requires.2 c.requires.3
+
 pub slice_bounds-entry_len_before-end : goal.slice_bounds-entry_len_before-end
 slice_bounds-entry_len_before-end c =
     let far = length-offset c.args.self.now.bytes.now c.requires.0 c.args.self.now.packed in

@@ -1,6 +1,13 @@
-use Rattle.std.proofs.Common.{arith}
+use Rattle.std.proofs.Common.{◌≡◌, ◌<◌, ℕ, List, length, arith}
+use Rattle.listpack.specs.Pack.{IsPack, offset_of}
 use Rattle.listpack.proofs.Offsets.{length-offset}
 use Rattle.listpack.proofs.walks.Pack.offset.Goals as goal
 
-pub returns-clause-inside : goal.returns-clause-inside
-returns-clause-inside c = let far = length-offset c.args.self.now.bytes.now c.loop.counter c.args.self.now.packed in omega (arith, far, c.loop.invariant)
+inside : (bytes : List ℕ) (i at : ℕ) → IsPack bytes → at ≡ offset_of bytes i → at < length bytes
+inside bytes i at p e = omega (arith, length-offset bytes i p, e)
+
+pub returns-then-index-from-clause-inside : goal.returns-then-index-from-clause-inside
+returns-then-index-from-clause-inside c = inside c.args.self.now.bytes.now _ _ c.args.self.now.packed c.offset_from_front.ensures
+
+pub returns-else-index-from-clause-inside : goal.returns-else-index-from-clause-inside
+returns-else-index-from-clause-inside c = inside c.args.self.now.bytes.now _ _ c.args.self.now.packed c.offset_from_back.ensures
