@@ -34,6 +34,16 @@ pub struct ClassUse {
     pub used: u64,
 }
 
+/// How far a value's blocks were passed by a bounded call that moves those which want it. Each block of a value has a mark, and
+/// the marks rise in the order in which the blocks are passed.
+#[derive(Clone, Copy, Debug, PartialEq, Eq)]
+pub struct Moved {
+    /// The mark to go on from: all blocks with a lower one are passed. `None` where the value has no block left.
+    pub next: Option<u128>,
+    /// How many blocks and vacant places were passed.
+    pub used: u32,
+}
+
 /// The sizes of the classes in bytes. A block takes the least class that holds it, and a longer one
 /// than the last stands alone.
 pub const CLASS_SIZES: [u32; 36] = [

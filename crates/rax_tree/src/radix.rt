@@ -23,8 +23,8 @@ pub(crate) enum Child {
     Fork(usize),
 }
 
-/// A place at which keys part: all keys below begin with the first `depth` bytes of `prefix`, and
-/// their next byte says which child they are below.
+/// A place at which keys part, or did before a removal: all keys below begin with the first `depth`
+/// bytes of `prefix`, and their next byte says which child they are below.
 #[derive(Drop)]
 pub(crate) struct Branch {
     pub(crate) prefix: Key,

@@ -23,11 +23,11 @@ pub trait BucketScan {
     fn scan_at(&self, cursor: u64, found: &mut Vec<usize>) -> Result<u64, Memory>
         ensures found { OnOk result (found.new.items ≡ found.old.items ++ move_at self.now cursor) }
         ensures next { IfOk result (λ next. next ≡ after self.now cursor) }
-        ensures err { OnErr result (found.new.items ≡ found.old.items) };
+        ensures err { OnErr result (found.new.items ≡ found.old.items) }
 
-    /// A move gives each item of its interval once, and none behind it.
-    ghost spans: { (s : Self) (place_of : ℕ → Option ℕ) (cursor : ℕ) → can_stand s place_of → Span place_of cursor (after s cursor) (move_at s cursor) };
+        // A move gives each item of its interval once, and none behind it.
+        ensures spans { (place_of : ℕ → Option ℕ) → can_stand self.now place_of → Span place_of cursor (after self.now cursor) (move_at self.now cursor) }
 
-    /// A move at a cursor that was answered gives no item before that cursor.
-    ghost starts: { (s : Self) (place_of : ℕ → Option ℕ) (cursor : ℕ) → can_stand s place_of → StartsAt place_of (after s cursor) (move_at s (after s cursor)) };
+        // A move at a cursor that was answered gives no item before that cursor.
+        ensures starts { (place_of : ℕ → Option ℕ) → can_stand self.now place_of → StartsAt place_of (after self.now cursor) (move_at self.now (after self.now cursor)) };
 }
