@@ -1,11 +1,48 @@
 //! Each form once, with its answers compared.
 
 use crate::{
-    FileHost, Host, HostFault, MemHost, MemSink, MemSource, ReadFault, Sink, Source, StdSink,
-    StdSource, WriteFault,
+    Clock, Conductor, FileHost, FileShelf, Host, HostFault, ListClock, ListPacer, MemHost,
+    MemShelf, MemSink, MemSource, Pacer, Plan, ReadFault, Shelf, Sink, Source, StdSink, StdSource,
+    SteadyPacer, SystemClock, WriteFault,
 };
-use std::fs;
+use std::io::{ErrorKind, Read, Write};
 use std::test::Fail;
+use std::{fs, io};
+
+// A reader and writer whose first call is interrupted, and whose third fails.
+#[derive(Drop)]
+struct Troubled {
+    calls: u64,
+}
+
+impl Troubled {
+    fn call(&mut self) -> io::Result<usize> {
+        self.calls = self.calls.saturating_add(1);
+        match self.calls {
+            1 => Err(io::Error::from(ErrorKind::Interrupted)),
+            3 => Err(io::Error::from(ErrorKind::BrokenPipe)),
+            _ => Ok(1),
+        }
+    }
+}
+
+impl Read for Troubled {
+    fn read(&mut self, buf: &mut [u8]) -> io::Result<usize> {
+        let count = self.call()?;
+        Ok(count.min(buf.len()))
+    }
+}
+
+impl Write for Troubled {
+    fn write(&mut self, buf: &[u8]) -> io::Result<usize> {
+        let count = self.call()?;
+        Ok(count.min(buf.len()))
+    }
+
+    fn flush(&mut self) -> io::Result<()> {
+        Ok(())
+    }
+}
 
 #[test]
 fn a_source_in_memory(rt: HostRuntime) -> Result<(), Fail> {
@@ -50,6 +87,15 @@ fn the_standard_forms(rt: HostRuntime) -> Result<(), Fail> {
     let mut sink = StdSink::new(Vec::new(rt.alloc()));
     assert_eq!(rt; sink.put(b"ab"), Ok(2));
     assert_eq!(rt; sink.put(b""), Ok(0));
+    // an interrupted call is tried again; a fault is one
+    let mut source = StdSource::new(Troubled { calls: 0 });
+    assert_eq!(rt; source.take(&mut room), Ok(1));
+    assert_eq!(rt; source.take(&mut room), Err(ReadFault));
+    assert_eq!(rt; source.take(&mut room), Ok(1));
+    let mut sink = StdSink::new(Troubled { calls: 0 });
+    assert_eq!(rt; sink.put(b"ab"), Ok(1));
+    assert_eq!(rt; sink.put(b"b"), Err(WriteFault));
+    assert_eq!(rt; sink.put(b"b"), Ok(1));
     Ok(())
 }
 
@@ -110,5 +156,79 @@ fn a_host_over_files(rt: HostRuntime) -> Result<(), Fail> {
     assert_eq!(rt; host.begin("."), Ok(()));
     assert_eq!(rt; host.take(&mut room), Err(HostFault));
     fs::remove_file(&rt, name)?;
+    Ok(())
+}
+
+#[test]
+fn shelves(rt: HostRuntime) -> Result<(), Fail> {
+    let name = String::from_str(rt.alloc(), "a")?;
+    let room = vec![in rt.alloc(); 0u8; 4]?;
+    let mut shelf = MemShelf::new(name, room, Vec::from_slice(rt.alloc(), &[4u64])?);
+    assert_eq!(rt; shelf.put(b"x"), Err(HostFault));
+    assert_eq!(rt; shelf.make("b"), Err(HostFault));
+    assert_eq!(rt; shelf.make("a"), Ok(()));
+    assert_eq!(rt; shelf.put(b"abc"), Ok(3));
+    assert_eq!(rt; shelf.put(b"d"), Err(HostFault));
+    assert_eq!(rt; shelf.put(b"de"), Ok(1));
+    assert_eq!(rt; shelf.put(b"e"), Err(HostFault));
+    assert_eq!(rt; shelf.written(), b"abcd".as_slice());
+    assert_eq!(rt; shelf.make("a"), Ok(()));
+    assert_eq!(rt; shelf.written(), b"".as_slice());
+    let name = "shelves.bytes";
+    let mut shelf = FileShelf::new(&rt);
+    assert_eq!(rt; shelf.put(b"x"), Err(HostFault));
+    assert_eq!(rt; shelf.make(name), Ok(()));
+    assert_eq!(rt; shelf.put(b"ab"), Ok(2));
+    assert_eq!(rt; fs::read(&rt, name)?.as_slice(), b"ab".as_slice());
+    assert_eq!(rt; shelf.make("."), Err(HostFault));
+    fs::remove_file(&rt, name)?;
+    Ok(())
+}
+
+#[test]
+fn clocks(rt: HostRuntime) -> Result<(), Fail> {
+    let mut clock = ListClock::new(Vec::from_slice(rt.alloc(), &[7u64, 5])?);
+    assert_eq!(rt; clock.now(), 7);
+    assert_eq!(rt; clock.now(), 5);
+    assert_eq!(rt; clock.now(), 5);
+    assert_eq!(rt; ListClock::new(Vec::new(rt.alloc())).now(), 0);
+    // past the first day of 2020
+    assert!(rt; SystemClock::new(rt).now() > 1_577_836_800_000);
+    Ok(())
+}
+
+// A plan of so many steps of rehashing.
+fn rehashing(rehash: u32) -> Plan {
+    Plan {
+        rehash,
+        defrag: 0,
+        expire: 0,
+    }
+}
+
+#[test]
+fn a_conductor(rt: HostRuntime) -> Result<(), Fail> {
+    let alloc = rt.alloc();
+    let one = ListPacer::new(Vec::from_slice(alloc, &[rehashing(5_000)])?);
+    let none = ListPacer::new(Vec::new(alloc));
+    let two = ListPacer::new(Vec::from_slice(alloc, &[rehashing(7)])?);
+    let mut pacers: Vec<Box<dyn Pacer>> = Vec::new(alloc);
+    pacers.push(Box::new(alloc, one)?)?;
+    pacers.push(Box::new(alloc, none)?)?;
+    pacers.push(Box::new(alloc, two)?)?;
+    let mut conductor = Conductor::new(pacers, 3);
+    assert_eq!(rt; conductor.next(), rehashing(1_000));
+    assert_eq!(rt; conductor.next(), rehashing(7));
+    assert_eq!(rt; conductor.next(), rehashing(0));
+    let mut steady: Vec<Box<dyn Pacer>> = Vec::new(alloc);
+    steady.push(Box::new(alloc, SteadyPacer::new())?)?;
+    let mut conductor = Conductor::new(steady, 3);
+    let plan = Plan {
+        rehash: 3,
+        defrag: 3,
+        expire: 3,
+    };
+    assert_eq!(rt; conductor.next(), plan);
+    assert_eq!(rt; conductor.next(), plan);
     Ok(())
 }
