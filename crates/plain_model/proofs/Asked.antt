@@ -5,18 +5,18 @@ use Rattle.std.specs.List.{AllByRecursion}
 use Rattle.std.proofs.lemmas.Bool.{ne_eqb}
 use Rattle.std.proofs.lemmas.Bool.Decides.{Decides-eqb}
 use Rattle.std.proofs.lemmas.Bool.{leb-true}
-use Rattle.plain_model.specs.Words.{Words, in_lower_case}
+use Rattle.plain_world.specs.Words.{Words, longest, in_lower_case}
 use Rattle.plain_model.specs.Shapes.{Kind, Plain, Whole, Offset, AllTold, and_then, all_told, fixed, repeated, Choice, chosen, with_choices}
-use Rattle.plain_model.specs.StringWords.{Read, Row, SetChoices, set_choices, pairs_of, string_rows, set_of, set_range_of, decrease_of, longest}
+use Rattle.plain_model.specs.StringWords.{Read, Row, SetChoices, set_choices, pairs_of, string_rows, set_of, set_range_of, decrease_of}
 use Rattle.std.specs.Prelude.{neg_ℤ}
-use Rattle.plain_model.specs.Numbers.{is_i64}
+use Rattle.int_text.specs.Decimal.{is_i64}
 use Rattle.plain_model.specs.Meant.{string_command, meant}
 use Rattle.plain_model.specs.declared.command.Command.{Command}
 use Rattle.plain_model.specs.declared.command.Command.TheVariants.{Strings}
 use Rattle.plain_model.specs.declared.command.StringCommand.{StringCommand}
 use Rattle.plain_model.specs.declared.command.StringCommand.TheVariants as strings
-use Rattle.plain_model.specs.declared.refusal.Refusal.{Refusal}
-use Rattle.plain_model.specs.declared.refusal.Refusal.TheVariants.{UnknownCommand, Syntax, Overflow, ValueOutOfRange}
+use Rattle.plain_world.specs.declared.refusal.Refusal.{Refusal}
+use Rattle.plain_world.specs.declared.refusal.Refusal.TheVariants.{UnknownCommand, Syntax, Overflow, ValueOutOfRange}
 use Rattle.plain_model.specs.declared.command.Condition.TheVariants.{Always, IfMissing, IfThere}
 
 -- what is made after something was told holds, if it holds of whatever is told
@@ -80,7 +80,7 @@ range_fits key at piece c e =
 
 set_fits : (key value : List ℕ) (o : SetChoices) (c : StringCommand) → set_of key value o ≡ Ok c → Fits c
 set_fits key value o c =
-    let own : StringCommand = strings.Set key value (if o.nx then IfMissing else (if o.xx then IfThere else Always)) o.get in
+    let own : StringCommand = strings.Set key value (record { condition = if o.nx then IfMissing else (if o.xx then IfThere else Always); get = o.get }) in
     if_has Fits (o.nx && o.xx) (Err Syntax) (Ok own) (never Fits Syntax) (λ b. made Fits own b tt) c
 
 rows_fit : AllByRecursion (λ (row : Row). (words : Words) (c : StringCommand) → row.read words ≡ Ok c → Fits c) string_rows

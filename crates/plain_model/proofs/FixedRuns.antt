@@ -2,19 +2,19 @@
 use Rattle.std.proofs.Common.{◌≡◌, ℕ, List, [], ◌∷◌, Result, Ok, Err, refl, sym, ap, subst, ◌∙◌}
 use Rattle.std.specs.Prelude.{MatchResult}
 use Rattle.std.specs.List.{AllByRecursion}
-use Rattle.plain_model.specs.Words.{Words}
-use Rattle.plain_model.specs.Worlds.{World, live}
+use Rattle.plain_world.specs.Words.{Words}
+use Rattle.plain_world.specs.Worlds.{World, live}
 use Rattle.plain_model.specs.Meant.{meant}
 use Rattle.plain_model.specs.Steps.{may, step}
-use Rattle.plain_model.specs.Runs.{Call, run}
-use Rattle.plain_model.specs.Laws.{IsHeld}
-use Rattle.plain_model.specs.Spelling.{spelled}
+use Rattle.plain_model.specs.Runs.{Call, Turn, calls_of, replies_of, run}
+use Rattle.plain_world.specs.Laws.{IsHeld}
+use Rattle.plain_world.specs.Spelling.{spelled}
 use Rattle.plain_model.specs.declared.command.Command.{Command}
 use Rattle.plain_model.specs.declared.command.Command.TheVariants.{Strings}
-use Rattle.plain_model.specs.declared.refusal.Refusal.{Refusal}
-use Rattle.plain_model.specs.declared.reply.Part.{Part}
-use Rattle.plain_model.specs.declared.reply.Part.TheVariants.{Refused}
-use Rattle.plain_model.proofs.Apart.{spellings_apart}
+use Rattle.plain_world.specs.declared.refusal.Refusal.{Refusal}
+use Rattle.plain_world.specs.declared.reply.Part.{Part}
+use Rattle.plain_world.specs.declared.reply.Part.TheVariants.{Refused}
+use Rattle.plain_world.proofs.Apart.{spellings_apart}
 
 -- the new world is fixed by the old one, the moment, the command and the reply
 
@@ -32,16 +32,26 @@ meant_fixed seed old moment (Err e) r new other a b = a.1 ∙ sym b.1
 pub step_fixed : (seed : ℕ) (old : World) (moment : ℕ) (words : Words) (r : List Part) (new other : World) → step seed old moment words r new → step seed old moment words r other → new ≡ other
 step_fixed seed old moment words r new other a b = meant_fixed seed old moment (meant words) r new other a b
 
-pub run_fixed : (seed : ℕ) (old : World) (calls : List Call) (r s : List (List Part)) (new other : World) → AllByRecursion IsHeld r → AllByRecursion IsHeld s → run seed old calls r new → run seed old calls s other → spelled r ≡ spelled s → (r ≡ s) × (new ≡ other)
-run_fixed seed old [] [] [] new other h k a b e = (refl, a ∙ sym b)
-run_fixed seed old [] [] (y ∷ s) new other h k a b e = absurd b
-run_fixed seed old [] (x ∷ r) s new other h k a b e = absurd a
-run_fixed seed old (call ∷ calls) [] s new other h k a b e = absurd a
-run_fixed seed old (call ∷ calls) (x ∷ r) [] new other h k a b e = absurd b
-run_fixed seed old (call ∷ calls) (x ∷ r) (y ∷ s) new other h k a b e =
-    let same = spellings_apart x y (spelled r) (spelled s) h.0 k.0 e in
-    let P : List Part → Type 0 = λ z. step seed old call.moment call.words z b.0 in
-    let mid : a.0 ≡ b.0 = step_fixed seed old call.moment call.words x a.0 b.0 a.1 (subst P (sym same.0) b.1) in
-    let Q : World → Type 0 = λ w. run seed w calls s other in
-    let rest = run_fixed seed a.0 calls r s new other h.1 k.1 a.2 (subst Q (sym mid) b.2) same.1 in
-    (ap (λ z. z ∷ r) same.0 ∙ ap (λ z. y ∷ z) rest.0, rest.1)
+same_turn : (x y : Turn) → x.call ≡ y.call → x.seen ≡ y.seen → x.reply ≡ y.reply → x ≡ y
+same_turn x y call seen reply =
+    let C : Call → Turn = λ c. record { call = c; seen = x.seen; reply = x.reply } in
+    let S : World → Turn = λ w. record { call = y.call; seen = w; reply = x.reply } in
+    let R : List Part → Turn = λ r. record { call = y.call; seen = y.seen; reply = r } in
+    ap C call ∙ ap S seen ∙ ap R reply
+
+pub run_fixed : (seed : ℕ) (old : World) (turns others : List Turn) (new other : World) → AllByRecursion IsHeld (replies_of turns) → AllByRecursion IsHeld (replies_of others)
+    → run seed old turns new → run seed old others other → calls_of turns ≡ calls_of others → spelled (replies_of turns) ≡ spelled (replies_of others) → (turns ≡ others) × (new ≡ other)
+run_fixed seed old [] [] new other h k a b calls e = (refl, a ∙ sym b)
+run_fixed seed old [] (y ∷ s) new other h k a b calls e = absurd (cc calls)
+run_fixed seed old (x ∷ r) [] new other h k a b calls e = absurd (cc calls)
+run_fixed seed old (x ∷ r) (y ∷ s) new other h k a b calls e =
+    let call : x.call ≡ y.call = cc in
+    let later : calls_of r ≡ calls_of s = cc in
+    let seen : x.seen ≡ y.seen = a.0 ∙ ap (λ c. live old c.moment) call ∙ sym b.0 in
+    let same = spellings_apart x.reply y.reply (spelled (replies_of r)) (spelled (replies_of s)) h.0 k.0 e in
+    let P : List Part → Type 0 = λ z. step seed old x.call.moment x.call.words z b.1 in
+    let C : Call → Type 0 = λ c. step seed old c.moment c.words y.reply b.1 in
+    let mid : a.1 ≡ b.1 = step_fixed seed old x.call.moment x.call.words x.reply a.1 b.1 a.2 (subst P (sym same.0) (subst C (sym call) b.2)) in
+    let Q : World → Type 0 = λ w. run seed w s other in
+    let rest = run_fixed seed a.1 r s new other h.1 k.1 a.3 (subst Q (sym mid) b.3) later same.1 in
+    (ap (λ z. z ∷ r) (same_turn x y call seen same.0) ∙ ap (λ z. y ∷ z) rest.0, rest.1)

@@ -1,10 +1,3 @@
-pub mod Lines
-pub mod Words
-pub mod Parts
-pub mod Refusals
-pub mod Spelling
-pub mod Worlds
-pub mod Numbers
 pub mod Shapes
 pub mod StringWords
 pub mod Outcomes

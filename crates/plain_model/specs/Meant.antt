@@ -1,12 +1,12 @@
 -- What the words of a request mean: a command, or why they are refused.
 use Rattle.std.specs.Prelude.{◌≡◌, ℕ, List, [], ◌∷◌, Result, Ok, Err, bytes_eq, if◌then◌else◌}
-use Rattle.plain_model.specs.Words.{Words, IsRequest, in_lower_case}
+use Rattle.plain_world.specs.Words.{Words, IsRequest, in_lower_case}
 use Rattle.plain_model.specs.Shapes.{and_then}
 use Rattle.plain_model.specs.StringWords.{Row, string_rows}
 use Rattle.plain_model.specs.declared.command.Command.{Command}
 use Rattle.plain_model.specs.declared.command.Command.TheVariants.{Strings}
-use Rattle.plain_model.specs.declared.refusal.Refusal.{Refusal}
-use Rattle.plain_model.specs.declared.refusal.Refusal.TheVariants.{UnknownCommand}
+use Rattle.plain_world.specs.declared.refusal.Refusal.{Refusal}
+use Rattle.plain_world.specs.declared.refusal.Refusal.TheVariants.{UnknownCommand}
 
 -- the string command of this name, in lower case, with these words; or else what another family says
 abbrev pub string_command : List Row → List ℕ → Words → Result Command Refusal → Result Command Refusal

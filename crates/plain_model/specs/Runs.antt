@@ -1,22 +1,37 @@
 -- What a list of requests may be answered.
-use Rattle.std.specs.Prelude.{◌≡◌, ℕ, List, [], ◌∷◌, map}
-use Rattle.plain_model.specs.Words.{Words}
-use Rattle.plain_model.specs.Worlds.{World}
+use Rattle.std.specs.Prelude.{◌≡◌, ℕ, ◌-◌, ◌^◌, List, [], ◌∷◌, map, max, min}
+use Rattle.plain_world.specs.Words.{Words}
+use Rattle.plain_world.specs.Worlds.{World, live}
 use Rattle.plain_model.specs.Steps.{step}
-use Rattle.plain_model.specs.declared.reply.Part.{Part}
+use Rattle.plain_world.specs.declared.reply.Part.{Part}
 
 -- a request, and the moment in milliseconds at which it is run
 pub record Call : Type 0 where
   pub words : Words
   pub moment : ℕ
 
--- under this seed and from the old world, the calls may be answered by these replies in turn, and leave the new world
-abbrev pub run : ℕ → World → List Call → List (List Part) → World → Type 0
-run seed old [] [] new = new ≡ old
-run seed old (call ∷ calls) (reply ∷ replies) new = (mid : World) × step seed old call.moment call.words reply mid × run seed mid calls replies new
-run seed old [] (reply ∷ replies) new = ⊥
-run seed old (call ∷ calls) [] new = ⊥
+-- one command of a run: its request and moment, the live world that it was asked of, and its reply
+pub record Turn : Type 0 where
+  pub call : Call
+  pub seen : World
+  pub reply : List Part
 
--- requests that are all run at one moment
-abbrev pub at_moment : ℕ → List Words → List Call
-at_moment moment requests = map (λ words. record { words = words; moment = moment }) requests
+abbrev pub calls_of : List Turn → List Call
+calls_of turns = map (λ turn. turn.call) turns
+
+abbrev pub replies_of : List Turn → List (List Part)
+replies_of turns = map (λ turn. turn.reply) turns
+
+-- under this seed the turns follow one another from the old world on, and leave the new one
+abbrev pub run : ℕ → World → List Turn → World → Type 0
+run seed old [] new = new ≡ old
+run seed old (turn ∷ turns) new =
+    (turn.seen ≡ live old turn.call.moment) × (mid : World) × step seed old turn.call.moment turn.call.words turn.reply mid × run seed mid turns new
+
+-- the greatest moment in milliseconds
+abbrev pub latest : ℕ
+latest = 2 ^ 63 - 1
+
+-- a moment is the greatest of the clock's answers so far, each cut at the greatest moment
+abbrev pub moment_after : ℕ → ℕ → ℕ
+moment_after last answer = max last (min answer latest)

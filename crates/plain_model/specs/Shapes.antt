@@ -3,10 +3,10 @@
 -- First their number is looked at, then they are read from left to right, and each is refused where it stands. What words
 -- break together comes last. A command is a row: the kinds of its first words, and what may follow them.
 use Rattle.std.specs.Prelude.{ℕ, zero, suc, ◌-◌, ◌%◌, ◌==◌, List, [], ◌∷◌, length, drop, ℤ, pos, negsuc, Option, Some, None, Bool, ◌&&◌, nat_le, nat_lt, bytes_eq, Result, Ok, Err, if◌then◌else◌}
-use Rattle.plain_model.specs.Words.{Words, in_lower_case}
-use Rattle.plain_model.specs.Numbers.{number_of}
-use Rattle.plain_model.specs.declared.refusal.Refusal.{Refusal}
-use Rattle.plain_model.specs.declared.refusal.Refusal.TheVariants.{WrongNumberOfArguments, Syntax, NotAnInteger, IndexOutOfRange}
+use Rattle.plain_world.specs.Words.{Words, in_lower_case}
+use Rattle.int_text.specs.Decimal.{number_of}
+use Rattle.plain_world.specs.declared.refusal.Refusal.{Refusal}
+use Rattle.plain_world.specs.declared.refusal.Refusal.TheVariants.{WrongNumberOfArguments, Syntax, NotAnInteger, IndexOutOfRange}
 
 -- the first one's refusal, or what the rest makes of what it told
 abbrev pub and_then : {A B : Type 0} → Result A Refusal → (A → Result B Refusal) → Result B Refusal

@@ -1,17 +1,17 @@
 -- What string commands answer, and what they leave (Redis command reference, "Commands operating on strings").
 use Rattle.std.specs.Prelude.{◌≡◌, ℕ, suc, ◌+◌, ◌-◌, ◌==◌, List, [], ◌∷◌, ◌++◌, length, take, drop, replicate, map, ℤ, pos, negsuc, ◌+ℤ◌, ◌-ℤ◌, int_lt, Option, None, Some, is_some, Bool, true, false, not, ◌&&◌, nat_le, codes, if◌then◌else◌}
 use Rattle.int_text.specs.Decimal.{canonical}
-use Rattle.plain_model.specs.Worlds.{World, Value, Str, Entry, look, put, remove}
-use Rattle.plain_model.specs.Numbers.{is_i64, number_of}
+use Rattle.plain_world.specs.Worlds.{World, Value, Str, Entry, look, put, remove}
+use Rattle.int_text.specs.Decimal.{is_i64, number_of}
 use Rattle.plain_model.specs.Outcomes.{Outcome, tells, refused, leaves, IsOutcome}
-use Rattle.plain_model.specs.StringWords.{longest}
+use Rattle.plain_world.specs.Words.{longest}
 use Rattle.plain_model.specs.declared.command.Condition.{Condition}
 use Rattle.plain_model.specs.declared.command.Condition.TheVariants.{Always, IfMissing, IfThere}
 use Rattle.plain_model.specs.declared.command.StringCommand.{StringCommand}
 use Rattle.plain_model.specs.declared.command.StringCommand.TheVariants as strings
-use Rattle.plain_model.specs.declared.refusal.Refusal.TheVariants.{NotAnInteger, Overflow, ValueOutOfRange}
-use Rattle.plain_model.specs.declared.reply.Part.{Part}
-use Rattle.plain_model.specs.declared.reply.Part.TheVariants.{Simple, Number, Bulk, Null, Array}
+use Rattle.plain_world.specs.declared.refusal.Refusal.TheVariants.{WrongType, NotAnInteger, Overflow, ValueOutOfRange}
+use Rattle.plain_world.specs.declared.reply.Part.{Part}
+use Rattle.plain_world.specs.declared.reply.Part.TheVariants.{Simple, Number, Bulk, Null, Array}
 
 abbrev pub ok : Part
 ok = Simple (codes "OK")
@@ -23,6 +23,7 @@ plain bytes = record { value = Str bytes; deadline = None }
 -- with the string of a value; a value of another type is refused
 abbrev pub with_string : World → Value → (List ℕ → Outcome) → Outcome
 with_string old (Str bytes) answer = answer bytes
+with_string old other answer = refused WrongType old
 
 -- with the string at a key, where there is one; a value of another type is refused
 abbrev pub on_string : World → Option Entry → (Option (List ℕ) → Outcome) → Outcome
@@ -41,6 +42,7 @@ or_null (Some bytes) = Bulk bytes
 -- the string of a value, or null for another type
 abbrev pub string_part : Value → Part
 string_part (Str bytes) = Bulk bytes
+string_part other = Null
 
 -- the string at a key, or null where none stands
 abbrev pub string_or_null : Option Entry → Part
@@ -125,27 +127,31 @@ count_on old key next (Some n) = counted old key (next n)
 abbrev pub count : World → List ℕ → (ℤ → ℤ) → Outcome
 count old key next = on_string old (look old key) (λ before. count_on old key next (number_at before))
 
--- what a command answers and leaves, in a live world
-abbrev pub string_outcome : World → StringCommand → Outcome
-string_outcome old (strings.Get key) = on_string old (look old key) (λ before. tells (or_null before ∷ []) old)
-string_outcome old (strings.Set key value condition true) = on_string old (look old key) (λ before. leaves (or_null before ∷ []) (set old key value condition))
-string_outcome old (strings.Set key value condition false) =
+-- the reply of SET: the old value where it is asked for, else OK, or null where nothing is written
+abbrev pub set_outcome : World → List ℕ → List ℕ → Condition → Bool → Outcome
+set_outcome old key value condition true = on_string old (look old key) (λ before. leaves (or_null before ∷ []) (set old key value condition))
+set_outcome old key value condition false =
     leaves ((if allows condition (is_some (look old key)) then ok else Null) ∷ []) (set old key value condition)
-string_outcome old (strings.SetNx key value) = if is_some (look old key) then tells (Number (pos 0) ∷ []) old else leaves (Number (pos 1) ∷ []) (replace old key value)
-string_outcome old (strings.GetSet key value) = on_string old (look old key) (λ before. leaves (or_null before ∷ []) (replace old key value))
-string_outcome old (strings.GetDel key) = on_string old (look old key) (λ before. leaves (or_null before ∷ []) (remove old key))
-string_outcome old (strings.MGet keys) = tells (Array (length keys) ∷ map (λ key. string_or_null (look old key)) keys) old
-string_outcome old (strings.MSet pairs) = leaves (ok ∷ []) (replace_all old pairs)
-string_outcome old (strings.MSetNx pairs) = if any_there old pairs then tells (Number (pos 0) ∷ []) old else leaves (Number (pos 1) ∷ []) (replace_all old pairs)
-string_outcome old (strings.Append key tail) = on_string old (look old key) (append old key tail)
-string_outcome old (strings.StrLen key) = on_string old (look old key) (λ before. tells (Number (pos (length (or_empty before))) ∷ []) old)
-string_outcome old (strings.GetRange key a b) = on_string old (look old key) (λ before. tells (Bulk (range (or_empty before) a b) ∷ []) old)
-string_outcome old (strings.SetRange key at piece) = on_string old (look old key) (set_range old key at piece)
-string_outcome old (strings.Incr key) = count old key (λ n. n +ℤ pos 1)
-string_outcome old (strings.Decr key) = count old key (λ n. n -ℤ pos 1)
-string_outcome old (strings.IncrBy key by) = count old key (λ n. n +ℤ by)
-string_outcome old (strings.DecrBy key by) = count old key (λ n. n -ℤ by)
 
--- from a live world the command may be answered by this reply, and leave the new world
-abbrev pub may_strings : World → StringCommand → List Part → World → Type 0
-may_strings old command reply new = IsOutcome (string_outcome old command) reply new
+-- what a command answers and leaves, in the world that is live at the moment
+abbrev pub string_outcome : ℕ → World → StringCommand → Outcome
+string_outcome moment old (strings.Get key) = on_string old (look old key) (λ before. tells (or_null before ∷ []) old)
+string_outcome moment old (strings.Set key value options) = set_outcome old key value options.condition options.get
+string_outcome moment old (strings.SetNx key value) = if is_some (look old key) then tells (Number (pos 0) ∷ []) old else leaves (Number (pos 1) ∷ []) (replace old key value)
+string_outcome moment old (strings.GetSet key value) = on_string old (look old key) (λ before. leaves (or_null before ∷ []) (replace old key value))
+string_outcome moment old (strings.GetDel key) = on_string old (look old key) (λ before. leaves (or_null before ∷ []) (remove old key))
+string_outcome moment old (strings.MGet keys) = tells (Array (length keys) ∷ map (λ key. string_or_null (look old key)) keys) old
+string_outcome moment old (strings.MSet pairs) = leaves (ok ∷ []) (replace_all old pairs)
+string_outcome moment old (strings.MSetNx pairs) = if any_there old pairs then tells (Number (pos 0) ∷ []) old else leaves (Number (pos 1) ∷ []) (replace_all old pairs)
+string_outcome moment old (strings.Append key tail) = on_string old (look old key) (append old key tail)
+string_outcome moment old (strings.StrLen key) = on_string old (look old key) (λ before. tells (Number (pos (length (or_empty before))) ∷ []) old)
+string_outcome moment old (strings.GetRange key a b) = on_string old (look old key) (λ before. tells (Bulk (range (or_empty before) a b) ∷ []) old)
+string_outcome moment old (strings.SetRange key at piece) = on_string old (look old key) (set_range old key at piece)
+string_outcome moment old (strings.Incr key) = count old key (λ n. n +ℤ pos 1)
+string_outcome moment old (strings.Decr key) = count old key (λ n. n -ℤ pos 1)
+string_outcome moment old (strings.IncrBy key by) = count old key (λ n. n +ℤ by)
+string_outcome moment old (strings.DecrBy key by) = count old key (λ n. n -ℤ by)
+
+-- from the world that is live at the moment the command may be answered by this reply, and leave the new world
+abbrev pub may_strings : World → ℕ → StringCommand → List Part → World → Type 0
+may_strings old moment command reply new = IsOutcome (string_outcome moment old command) reply new

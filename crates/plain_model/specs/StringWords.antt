@@ -1,19 +1,15 @@
 -- What the words of string commands mean (Redis command reference, "Commands operating on strings").
 use Rattle.std.specs.Prelude.{ℕ, ◌+◌, ◌^◌, ◌==◌, List, [], ◌∷◌, length, ℤ, pos, negsuc, neg_ℤ, Bool, true, false, ◌&&◌, nat_le, Result, Ok, Err, codes, bytes_eq, if◌then◌else◌}
-use Rattle.plain_model.specs.Words.{Words}
-use Rattle.plain_model.specs.Numbers.{is_i64}
+use Rattle.plain_world.specs.Words.{Words, longest}
+use Rattle.int_text.specs.Decimal.{is_i64}
 use Rattle.plain_model.specs.Shapes.{Plain, Whole, Offset, fixed, repeated, Choice, with_choices}
 use Rattle.plain_model.specs.declared.command.Command.{Command}
 use Rattle.plain_model.specs.declared.command.Command.TheVariants.{Strings}
 use Rattle.plain_model.specs.declared.command.StringCommand.{StringCommand}
 use Rattle.plain_model.specs.declared.command.StringCommand.TheVariants as strings
 use Rattle.plain_model.specs.declared.command.Condition.TheVariants.{Always, IfMissing, IfThere}
-use Rattle.plain_model.specs.declared.refusal.Refusal.{Refusal}
-use Rattle.plain_model.specs.declared.refusal.Refusal.TheVariants.{WrongNumberOfArguments, Syntax, Overflow, ValueOutOfRange}
-
--- the greatest length of a string, in bytes
-abbrev pub longest : ℕ
-longest = 536870912
+use Rattle.plain_world.specs.declared.refusal.Refusal.{Refusal}
+use Rattle.plain_world.specs.declared.refusal.Refusal.TheVariants.{WrongNumberOfArguments, Syntax, Overflow, ValueOutOfRange}
 
 abbrev pub Read : Type 0
 Read = Result StringCommand Refusal
@@ -40,7 +36,7 @@ set_choices =
 abbrev pub set_of : List ℕ → List ℕ → SetChoices → Read
 set_of key value c =
     if c.nx && c.xx then Err Syntax
-    else Ok (strings.Set key value (if c.nx then IfMissing else (if c.xx then IfThere else Always)) c.get)
+    else Ok (strings.Set key value (record { condition = if c.nx then IfMissing else (if c.xx then IfThere else Always); get = c.get }))
 
 -- a piece that would end past the greatest length is refused by the words
 abbrev pub set_range_of : List ℕ → ℕ → List ℕ → Read

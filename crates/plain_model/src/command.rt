@@ -18,13 +18,22 @@ pub enum Condition {
     IfThere,
 }
 
+/// The options of SET.
+#[derive(Clone, Copy, Debug, PartialEq, Eq)]
+pub struct SetOptions {
+    /// `NX` or `XX`.
+    pub condition: Condition,
+    /// `GET`: the old value is asked for.
+    pub get: bool,
+}
+
 /// A command on strings.
 #[derive(Drop)]
 pub enum StringCommand {
     /// `GET key`
     Get(Bytes),
-    /// `SET key value [NX or XX] [GET]`; the last tells whether the old value is asked for.
-    Set(Bytes, Bytes, Condition, bool),
+    /// `SET key value [NX or XX] [GET]`
+    Set(Bytes, Bytes, SetOptions),
     /// `SETNX key value`
     SetNx(Bytes, Bytes),
     /// `GETSET key value`

@@ -7,9 +7,13 @@ use Rattle.std.specs.Char.{to_ascii_lowercase}
 abbrev pub Words : Type 0
 Words = List (List ℕ)
 
+-- the greatest length of a word and of a string in bytes: 512 MiB
+abbrev pub longest : ℕ
+longest = 536870912
+
 -- a word has at most 512 MiB
 abbrev pub IsWord : List ℕ → Type 0
-IsWord word = length word ≤ 536870912
+IsWord word = length word ≤ longest
 
 -- a request has 1 to 1,048,576 words
 pub record IsRequest (words : Words) : Type 0 where
@@ -20,7 +24,3 @@ pub record IsRequest (words : Words) : Type 0 where
 -- a word, with ASCII case ignored
 abbrev pub in_lower_case : List ℕ → List ℕ
 in_lower_case word = map to_ascii_lowercase word
-
--- the word is this name, which is in lower case, whatever its own case
-abbrev pub is_name : List ℕ → List ℕ → Bool
-is_name name word = bytes_eq (in_lower_case word) name

@@ -6,6 +6,9 @@ use smallvec::SmallVec;
 use std::alloc::{AllocError, Global};
 use std::marker::Model;
 
+/// The greatest length of a word and of a string, in bytes: 512 MiB.
+pub const LONGEST: usize = 536_870_912;
+
 /// Bytes of one's own, which contracts see as a list. Up to 24 of them stand inline.
 #[derive(Drop)]
 pub struct Bytes {

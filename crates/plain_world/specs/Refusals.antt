@@ -1,7 +1,7 @@
 -- The texts of error replies (RESP2, "Simple errors").
 use Rattle.std.specs.Prelude.{ℕ, List, codes}
-use Rattle.plain_model.specs.declared.refusal.Refusal.{Refusal}
-use Rattle.plain_model.specs.declared.refusal.Refusal.TheVariants as refusals
+use Rattle.plain_world.specs.declared.refusal.Refusal.{Refusal}
+use Rattle.plain_world.specs.declared.refusal.Refusal.TheVariants as refusals
 
 abbrev pub refusal_text : Refusal → List ℕ
 refusal_text refusals.UnknownCommand = codes "-ERR unknown command"

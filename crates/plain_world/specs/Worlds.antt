@@ -1,14 +1,19 @@
 -- What a server holds (Redis command reference, "Data types", "SELECT", "EXPIRE").
-use Rattle.std.specs.Prelude.{◌≡◌, ◌==◌, ℕ, List, Option, None, Some, Bool, true, false, nat_le, if◌then◌else◌, refl}
-use Rattle.std.specs.Coded.{Coded, code_by, coded×, coded_ℕ, coded_list, coded_option}
+use Rattle.std.specs.Prelude.{◌≡◌, ◌==◌, ℕ, List, Option, None, Some, Bool, true, false, nat_le, if◌then◌else◌, ℤ}
+use Rattle.std.specs.FinSet.{FinSet}
 use Rattle.std.specs.FinMap.{FinMap, empty, get, insert, retain_keys}
 use Rattle.std.specs.FinMap as map
 use Rattle.std.specs.Cmp.Lexicographic.{slice_cmp}
 use Rattle.std.specs.Ordering.{nat_cmp}
 
--- a value: a string
+-- a value: a string; a list; a set; a hash, which is a finite map from fields to values; a sorted set, which is a finite map
+-- from members to whole scores
 pub data Value : Type 0 where
   Str : List ℕ → Value
+  ListOf : List (List ℕ) → Value
+  SetOf : FinSet (slice_cmp nat_cmp) → Value
+  HashOf : FinMap (slice_cmp nat_cmp) (List ℕ) → Value
+  SortedOf : FinMap (slice_cmp nat_cmp) ℤ → Value
 
 -- what stands at a key: its value, and a deadline in milliseconds where it has one
 pub record Entry : Type 0 where
@@ -64,16 +69,3 @@ put world key entry = with_base world (insert (world.bases world.selected) key e
 -- the world in which nothing stands at a key of the selected database
 abbrev pub remove : World → List ℕ → World
 remove world key = with_base world (map.remove (world.bases world.selected) key)
-
--- what stands at a key, as data that can be told apart
-abbrev pub value_bytes : Value → List ℕ
-value_bytes (Str bytes) = bytes
-
-pub value_again : (v : Value) → Str (value_bytes v) ≡ v
-value_again (Str bytes) = refl
-
-abbrev pub value_code : Coded Value
-value_code = code_by (List ℕ) (coded_list coded_ℕ) value_bytes Str value_again
-
-abbrev pub entry_code : Coded Entry
-entry_code = code_by (Value × Option ℕ) (coded× value_code (coded_option coded_ℕ)) (λ e. (e.value, e.deadline)) (λ p. record { value = p.0; deadline = p.1 }) (λ _. refl)

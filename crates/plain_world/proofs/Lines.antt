@@ -5,7 +5,7 @@ use Rattle.std.specs.Prelude.{ℤ, pos, negsuc}
 use Rattle.std.specs.List.{AllByRecursion}
 use Rattle.std.proofs.lemmas.Fmt.{digits_decimal}
 use lib.Signed.{mag}
-use Rattle.plain_model.proofs.Numerals.{AreDigits, own}
+use Rattle.plain_world.proofs.Numerals.{AreDigits, own}
 
 -- no CR
 abbrev pub Plain : List ℕ → Type 0

@@ -1,7 +1,7 @@
 //! Replies, as the lists of their parts (RESP2, "RESP protocol description").
 
 ghost use Rattle.std.specs.Prelude.{◌≡◌, ℕ, List, [], ◌∷◌, ◌++◌, IfOk, OnOk, OnErr, codes};
-ghost use Rattle.plain_model.specs.Parts.{IsReply};
+ghost use Rattle.plain_world.specs.Parts.{IsReply};
 
 use crate::{Bytes, Refusal};
 use smallvec::SmallVec;
@@ -16,7 +16,7 @@ pub struct Line {
 
 impl Model for Line {
     ghost use Rattle.std.specs.Prelude.{List, ℕ};
-    ghost use Rattle.plain_model.specs.Lines.{IsLine};
+    ghost use Rattle.plain_world.specs.Lines.{IsLine};
 
     ghost Value = { List ℕ };
 
@@ -69,7 +69,7 @@ pub struct Parts {
 
 impl Model for Parts {
     ghost use Rattle.std.specs.Prelude.{List};
-    ghost use Rattle.plain_model.specs.declared.reply.Part.{Part};
+    ghost use Rattle.plain_world.specs.declared.reply.Part.{Part};
 
     ghost Value = { List Part };
 
@@ -112,8 +112,8 @@ pub struct Reply {
 
 impl Model for Reply {
     ghost use Rattle.std.specs.Prelude.{List};
-    ghost use Rattle.plain_model.specs.Parts.{IsReply};
-    ghost use Rattle.plain_model.specs.declared.reply.Part.{Part};
+    ghost use Rattle.plain_world.specs.Parts.{IsReply};
+    ghost use Rattle.plain_world.specs.declared.reply.Part.{Part};
 
     ghost Value = { List Part };
 

@@ -5,17 +5,17 @@ use Rattle.std.specs.Fmt.{decimal, signed_decimal}
 use Rattle.std.specs.List.{AllByRecursion}
 use Rattle.std.proofs.lemmas.Fmt.{decimal_injective, signed_decimal_injective, digits_decimal}
 use Rattle.std.proofs.lemmas.List.{append_assoc, append_cancel_left}
-use Rattle.plain_model.specs.Laws.{IsPart, IsHeld}
-use Rattle.plain_model.specs.Parts.{following, AreReplies}
-use Rattle.plain_model.specs.Refusals.{refusal_text}
-use Rattle.plain_model.specs.Spelling.{line_end, part_bytes, spelling}
-use Rattle.plain_model.specs.Lines.{IsLine}
-use Rattle.plain_model.specs.declared.reply.Part.{Part}
-use Rattle.plain_model.specs.declared.reply.Part.TheVariants.{Simple, Refused, Number, Bulk, Null, NullArray, Array}
-use Rattle.plain_model.specs.declared.refusal.Refusal.{Refusal}
-use Rattle.plain_model.specs.declared.refusal.Refusal.TheVariants as refusals
-use Rattle.plain_model.proofs.Lines.{Plain, cut_unique, same_length, decimal_plain, signed_plain, is_plain, plain_from_test}
-use Rattle.plain_model.proofs.Numerals.{AreDigits, own}
+use Rattle.plain_world.specs.Laws.{IsPart, IsHeld}
+use Rattle.plain_world.specs.Parts.{following, AreReplies}
+use Rattle.plain_world.specs.Refusals.{refusal_text}
+use Rattle.plain_world.specs.Spelling.{line_end, part_bytes, spelling}
+use Rattle.plain_world.specs.Lines.{IsLine}
+use Rattle.plain_world.specs.declared.reply.Part.{Part}
+use Rattle.plain_world.specs.declared.reply.Part.TheVariants.{Simple, Refused, Number, Bulk, Null, NullArray, Array}
+use Rattle.plain_world.specs.declared.refusal.Refusal.{Refusal}
+use Rattle.plain_world.specs.declared.refusal.Refusal.TheVariants as refusals
+use Rattle.plain_world.proofs.Lines.{Plain, cut_unique, same_length, decimal_plain, signed_plain, is_plain, plain_from_test}
+use Rattle.plain_world.proofs.Numerals.{AreDigits, own}
 
 -- a part as one line, and what stands after the line
 

@@ -1,5 +1,0 @@
-use Rattle.plain_model.proofs.Apart.{spellings_apart}
-use Rattle.plain_model.proofs.laws.spellings_are_apart.Goals as goal
-
-pub returns : goal.returns
-returns c = spellings_apart

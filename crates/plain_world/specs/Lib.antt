@@ -1,0 +1,7 @@
+pub mod Lines
+pub mod Words
+pub mod Parts
+pub mod Refusals
+pub mod Spelling
+pub mod Worlds
+pub mod Laws
