@@ -1,0 +1,32 @@
+use Rattle.std.proofs.Common.{◌∙◌, ap, unwrap_or, []}
+use Rattle.std.specs.Prelude.{Some}
+use Rattle.std.proofs.lemmas.List.{get_or_read}
+use Rattle.blocks.specs.Blocks.{overwritten}
+use Rattle.class_heap.specs.declared.entry.Entry.TheVariants.{Vacant}
+use Rattle.class_heap.specs.Entries.{use_in, block_in, labels_of}
+use Rattle.class_heap.specs.Laws.{slab_there}
+use Rattle.class_heap.specs.Placing.{writes}
+use Rattle.class_heap.specs.Slab.{with_slot}
+use Rattle.class_heap.proofs.Returns.{sound_written, slabs_written, blocks_written}
+use Rattle.class_heap.proofs.heap.ClassHeapBlockStore.write.Goals as goal
+
+pub invariant_of-self : goal.invariant_of-self
+invariant_of-self c =
+    let s = c.args.self.now in let there = slab_there s.entries.items c.args.at.slab c.args.at.slot c.requires.live in
+    let is = get_or_read s.entries.items _ _ there c.index_mut.ensures.value Vacant in
+    record { sound = sound_written s.sound c.args.at.slab c.write.new.self there (c.write.ensures.same ∙ ap use_in is) (c.write.ensures.labels s.passing ∙ ap (labels_of s.passing) is) }
+
+pub returns-clause-written : goal.returns-clause-written
+returns-clause-written c =
+    let s = c.args.self.now in let there = slab_there s.entries.items c.args.at.slab c.args.at.slot c.requires.live in
+    let is = get_or_read s.entries.items _ _ there c.index_mut.ensures.value Vacant in
+    blocks_written s.entries.items c.args.at c.write.new.self _ c.requires.live (λ slot. c.write.ensures.written slot ∙ ap (λ x. with_slot (block_in x) c.args.at.slot (Some (overwritten (unwrap_or (block_in x c.args.at.slot) []) c.args.from c.args.piece.now)) slot) is)
+
+pub returns-clause-slabs : goal.returns-clause-slabs
+returns-clause-slabs c =
+    let s = c.args.self.now in let there = slab_there s.entries.items c.args.at.slab c.args.at.slot c.requires.live in
+    let is = get_or_read s.entries.items _ _ there c.index_mut.ensures.value Vacant in
+    slabs_written s.passing s.entries.items c.args.at.slab c.write.new.self (c.write.ensures.same ∙ ap use_in is)
+
+pub returns-clause-step : goal.returns-clause-step
+returns-clause-step c = writes c.args.at c.args.from c.args.piece.now (record { was = c.requires.live; room = c.requires.room; written = returns-clause-written c; slabs = returns-clause-slabs c })

@@ -1,0 +1,26 @@
+-- What a class heap holds.
+use Rattle.std.specs.Prelude.{ℕ}
+use Rattle.blocks.specs.declared.BlockRef.{BlockRef}
+use Rattle.blocks.specs.Blocks.{Blocks}
+use Rattle.blocks.specs.Slabs.{Heap}
+use Rattle.class_heap.specs.declared.heap.ClassHeap.{ClassHeap}
+use Rattle.class_heap.specs.Entries.{blocks_of, heap_of}
+use Rattle.class_heap.specs.Placing.{IsHeapStep, IsPlacing}
+
+-- its blocks
+abbrev pub heap_blocks : ClassHeap → Blocks
+heap_blocks h = blocks_of h.entries.items
+
+-- its slabs
+abbrev pub heap_slabs : ClassHeap → Heap
+heap_slabs h = heap_of h.passing h.entries.items
+
+-- a block of so many bytes was placed by the heap's rule
+abbrev pub Places : ClassHeap → ClassHeap → ℕ → BlockRef → Type 0
+Places before after len at =
+    IsPlacing (heap_blocks before) (heap_slabs before) (heap_blocks after) (heap_slabs after) len at
+
+-- a step by the heap's rule of placing
+abbrev pub IsClassHeapStep : ClassHeap → ClassHeap → Type 0
+IsClassHeapStep before after =
+    IsHeapStep (heap_blocks before) (heap_slabs before) (heap_blocks after) (heap_slabs after)

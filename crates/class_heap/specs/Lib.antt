@@ -1,0 +1,12 @@
+pub mod Classes
+pub mod Directory
+pub mod Entries
+pub mod Follows
+pub mod Heap
+pub mod Laws
+pub mod Live
+pub mod Marks
+pub mod Placing
+pub mod Slab
+pub mod Slots
+pub mod Tree

@@ -1,0 +1,159 @@
+ghost use Rattle.std.specs.Prelude.{◌≡◌, ◌≢◌, ℕ, ◌+◌, ◌*◌, ◌^◌, ◌<◌, ◌≤◌, Some, None, IsSome, IsTrue, IfOk, length, replicate, unwrap_or, [], if◌then◌else◌};
+ghost use Rattle.blocks.specs.Blocks.{overwritten};
+ghost use Rattle.blocks.specs.Slabs.{per_slab, IsClassOf, one_more_in};
+ghost use Rattle.class_heap.specs.Slots.{IsSlab};
+
+use crate::SlabMem;
+use crate::class::{size_in, slots_in};
+use blocks::Memory;
+use std::alloc::Global;
+
+/// The word of a free slot, less the number of the slot that is free after it.
+const FREE: u16 = 0x8000;
+
+/// As many zeros as the longest block of a class has bytes.
+const ZEROS: [u8; 14_336] = [0; 14_336];
+
+fn zeros(len: usize) -> &'static [u8]
+    requires { len ≤ 14336 }
+    ensures { result.now ≡ replicate len 0 }
+{
+    &ZEROS[..len]
+}
+
+/// A region of 65,536 bytes, cut into slots for the blocks of one class.
+#[derive(Drop)]
+pub(crate) struct Slab {
+    pub(crate) class: usize,
+    pub(crate) used: usize,
+    pub(crate) kept: bool,
+    size: usize,
+    // the first free slot, and a word for each: the length of its block, or `FREE` and the next free slot
+    head: u16,
+    words: Vec<u16>,
+    mem: SlabMem,
+    ghost sound: { IsSlab class size used head words.items mem },
+}
+
+impl Slab {
+    ghost use Rattle.class_heap.specs.Slab.{block_at, bytes_in, has_room, use_of, with_slot};
+
+    /// A slab without a block.
+    pub(crate) fn make(alloc: Global, class: usize, kept: bool) -> Result<Slab, Memory>
+        requires { class < 36 }
+        ensures empty { IfOk result (λ s. (slot : ℕ) → block_at s slot ≡ None) }
+        ensures made { IfOk result (λ s. use_of s ≡ record { class = class; used = 0; kept = kept }) }
+    {
+        let count = slots_in(class);
+        let mut words = Vec::with_capacity(alloc, count)?;
+        'fill: for slot in 0..count {
+            words.push_reserved(FREE + 1 + slot as u16);
+        }
+        let mem = SlabMem::make(alloc)?;
+        Ok(Slab {
+            class,
+            used: 0,
+            kept,
+            size: size_in(class),
+            head: 0,
+            words,
+            mem,
+        })
+    }
+
+    /// A mask of the slab's class where it takes blocks: it has room, and is kept while a pass is open.
+    pub(crate) fn label(&self, passing: bool) -> u64
+        ensures { result ≡ (if has_room passing (use_of self.now) then 2 ^ self.now.class else 0) }
+    {
+        if self.used < slots_in(self.class) && (!passing || self.kept) {
+            1 << self.class
+        } else {
+            0
+        }
+    }
+
+    /// Whether a block stands in the slot.
+    #[cfg(test)]
+    pub(crate) fn is_live(&self, slot: usize) -> bool
+        ensures { IsTrue result → IsSome (block_at self.now slot) }
+    {
+        slot < self.words.len() && self.words[slot] < FREE
+    }
+
+    /// The bytes of a block.
+    pub(crate) fn bytes(&self, slot: usize) -> &[u8]
+        requires { IsSome (block_at self.now slot) }
+        ensures { block_at self.now slot ≡ Some result.now }
+    {
+        self.mem.part(slot * self.size, self.words[slot] as usize)
+    }
+
+    /// Puts a piece into a block, from the byte `from` on.
+    pub(crate) fn write(&mut self, slot: usize, from: usize, piece: &[u8])
+        requires live { IsSome (block_at self.old slot) }
+        requires room { from + length piece.now ≤ length (bytes_in self.old slot) }
+        ensures written { (other : ℕ) → block_at self.new other ≡ with_slot (block_at self.old) slot (Some (overwritten (bytes_in self.old slot) from piece.now)) other }
+        ensures same { use_of self.new ≡ use_of self.old }
+    {
+        self.mem.put(slot * self.size + from, piece);
+    }
+
+    /// Takes a free slot for a block of `len` bytes, whatever they are.
+    fn take_slot(&mut self, len: usize) -> usize
+        requires room { self.old.used < per_slab self.old.class }
+        requires class { IsClassOf len self.old.class }
+        ensures fresh { block_at self.old result ≡ None }
+        ensures taken { IsSome (block_at self.new result) }
+        ensures long { length (bytes_in self.new result) ≡ len }
+        ensures others { (other : ℕ) → other ≢ result → block_at self.new other ≡ block_at self.old other }
+        ensures more { use_of self.new ≡ one_more_in (use_of self.old) }
+    {
+        let slot = self.head as usize;
+        self.head = self.words[slot] - FREE;
+        self.words[slot] = len as u16;
+        self.used += 1;
+        slot
+    }
+
+    /// Places a block of zeros.
+    pub(crate) fn place(&mut self, len: usize) -> usize
+        requires room { self.old.used < per_slab self.old.class }
+        requires class { IsClassOf len self.old.class }
+        ensures fresh { block_at self.old result ≡ None }
+        ensures placed { (other : ℕ) → block_at self.new other ≡ with_slot (block_at self.old) result (Some (replicate len 0)) other }
+        ensures more { use_of self.new ≡ one_more_in (use_of self.old) }
+    {
+        let slot = self.take_slot(len);
+        self.write(slot, 0, zeros(len));
+        slot
+    }
+
+    /// Copies a block into another slab of its class.
+    pub(crate) fn carry(&self, slot: usize, other: &mut Slab) -> usize
+        requires live { IsSome (block_at self.now slot) }
+        requires class { other.old.class ≡ self.now.class }
+        requires room { other.old.used < per_slab other.old.class }
+        ensures fresh { block_at other.old result ≡ None }
+        ensures carried { (at : ℕ) → block_at other.new at ≡ with_slot (block_at other.old) result (block_at self.now slot) at }
+        ensures more { use_of other.new ≡ one_more_in (use_of other.old) }
+    {
+        let len = self.words[slot] as usize;
+        let new = other.take_slot(len);
+        self.mem
+            .copy_across(slot * self.size, &mut other.mem, new * other.size, len);
+        new
+    }
+
+    /// Ends a block.
+    pub(crate) fn give_back(&mut self, slot: usize)
+        requires { IsSome (block_at self.old slot) }
+        ensures ended { (other : ℕ) → block_at self.new other ≡ with_slot (block_at self.old) slot None other }
+        ensures class { self.new.class ≡ self.old.class }
+        ensures kept { self.new.kept ≡ self.old.kept }
+        ensures fewer { self.new.used + 1 ≡ self.old.used }
+    {
+        self.words[slot] = FREE + self.head;
+        self.head = slot as u16;
+        self.used -= 1;
+    }
+}
