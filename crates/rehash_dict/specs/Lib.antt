@@ -1,0 +1,11 @@
+pub mod Tables
+pub mod Table
+pub mod TableCode
+pub mod Placed
+pub mod Chains
+pub mod Grown
+pub mod Keyed
+pub mod Sides
+pub mod Steps
+pub mod Scan
+pub mod ScanPlaces

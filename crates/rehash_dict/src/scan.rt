@@ -1,0 +1,223 @@
+//! Moves of a scan over the tables.
+
+ghost use Rattle.std.specs.Prelude.{◌≡◌, ℕ, ◌+◌, ◌-◌, ◌*◌, ◌/◌, ◌%◌, ◌^◌, ◌<◌, ◌≤◌, ◌++◌, ◌∷◌, List, length, Option, Some, None, OnOk, OnErr, IfOk, IsTrue, ◌↔◌};
+ghost use Rattle.std.specs.Option.{option_copied};
+ghost use Rattle.rev_cursor.specs.Span.{times};
+ghost use Rattle.rehash_dict.specs.declared.chains.Side.{Side};
+ghost use Rattle.rehash_dict.specs.Table.{Element, Table, item, at_item};
+ghost use Rattle.rehash_dict.specs.Tables.{bucket};
+ghost use Rattle.rehash_dict.specs.Placed.{Stand, IsSize};
+ghost use Rattle.rehash_dict.specs.Sides.{side_rows};
+ghost use Rattle.rehash_dict.specs.Chains.{chain_left};
+ghost use Rattle.rehash_dict.specs.Scan.{bits_of, smaller_of, larger_of, first_block, last_block, scanned, turns_of, turn_at, turns_from, first_of, after_in, Extends};
+
+use crate::Memory;
+use crate::chains::{Chain, Chains, Side, bucket_of};
+use crate::dict::Dict;
+use rev_cursor::{BucketScan, next, place};
+
+/// The table with fewer buckets.
+fn smaller<V>(chains: &Chains<V>) -> Side
+    ensures { side_rows result chains.now ≡ smaller_of chains.now.older chains.now.newer }
+{
+    let newer = chains.buckets(Side::Newer);
+    if newer > 0 && newer < chains.buckets(Side::Older) {
+        Side::Newer
+    } else {
+        Side::Older
+    }
+}
+
+/// The other table.
+fn larger<V>(chains: &Chains<V>) -> Side
+    ensures { side_rows result chains.now ≡ larger_of chains.now.older chains.now.newer }
+{
+    let newer = chains.buckets(Side::Newer);
+    if newer > 0 && newer < chains.buckets(Side::Older) {
+        Side::Older
+    } else {
+        Side::Newer
+    }
+}
+
+/// How many bits of a hash tell the buckets of a table apart.
+fn bits<V>(chains: &Chains<V>, side: Side) -> u32
+    requires size { IsSize (length (side_rows side chains.now)) }
+    requires table { 0 < length (side_rows side chains.now) }
+    ensures bits { result ≡ bits_of (length (side_rows side chains.now)) }
+    ensures power { 2 ^ result ≡ length (side_rows side chains.now) }
+    ensures many { 2 ≤ result }
+    ensures few { result < 64 }
+{
+    chains.buckets(side).ilog2()
+}
+
+/// How many buckets a move gives: one of the smaller table, and those of the larger one that its elements would be in.
+fn turns<V>(chains: &Chains<V>, cursor: u64) -> u64
+    requires { Stand chains.now.items chains.now.older chains.now.newer }
+    ensures { result ≡ turns_of chains.now.older chains.now.newer cursor }
+{
+    if chains.buckets(Side::Older) == 0 {
+        return 0;
+    }
+    if chains.buckets(Side::Newer) == 0 {
+        return 1;
+    }
+    let small = bits(chains, smaller(chains));
+    let large = bits(chains, larger(chains));
+    let start = place(cursor);
+    let last = ((start >> (64 - small)) + 1) << (large - small);
+    1 + (last - (start >> (64 - large)))
+}
+
+/// The bucket of a turn of a move.
+fn turn<V>(chains: &Chains<V>, cursor: u64, number: u64) -> Chain<'_, V>
+    requires stand { Stand chains.now.items chains.now.older chains.now.newer }
+    requires turn { number < turns_of chains.now.older chains.now.newer cursor }
+    ensures { chain_left result ≡ turn_at chains.now.older chains.now.newer cursor number }
+{
+    if number == 0 {
+        let side = smaller(chains);
+        let bucket = bucket_of(cursor, chains.buckets(side));
+        return chains.chain(side, bucket);
+    }
+    let side = larger(chains);
+    let large = bits(chains, side);
+    let block = (place(cursor) >> (64 - large)) + (number - 1);
+    let bucket = bucket_of(place(block << (64 - large)), chains.buckets(side));
+    chains.chain(side, bucket)
+}
+
+/// Whether a chain has an item.
+fn contains<V>(chain: Chain<'_, V>, at: usize) -> bool
+    ensures { IsTrue result ↔ (0 < times at (chain_left chain.entry)) }
+{
+    for other in chain {
+        if other == at {
+            return true;
+        }
+    }
+    false
+}
+
+/// The item behind another one of a chain.
+fn next_in<V>(chain: Chain<'_, V>, at: usize) -> Option<usize>
+    ensures { result ≡ first_of (after_in at (chain_left chain.entry)) }
+{
+    let mut met = false;
+    for other in chain {
+        if met {
+            return Some(other);
+        }
+        met = other == at;
+    }
+    None
+}
+
+/// Appends the items of a chain.
+fn push_all<V>(chain: Chain<'_, V>, found: &mut Vec<usize>) -> Result<(), Memory>
+    ensures found { OnOk result (found.new.items ≡ found.old.items ++ chain_left chain.entry) }
+    ensures kept { Extends found.old.items found.new.items }
+{
+    for at in chain {
+        found.push(at)?;
+    }
+    Ok(())
+}
+
+/// Appends the items of a move.
+fn push_move<V>(chains: &Chains<V>, cursor: u64, found: &mut Vec<usize>) -> Result<(), Memory>
+    requires { Stand chains.now.items chains.now.older chains.now.newer }
+    ensures found { OnOk result (found.new.items ≡ found.old.items ++ turns_from chains.now.older chains.now.newer cursor (turns_of chains.now.older chains.now.newer cursor) 0) }
+    ensures kept { Extends found.old.items found.new.items }
+{
+    for number in 0..turns(chains, cursor) {
+        push_all(turn(chains, cursor, number), found)?;
+    }
+    Ok(())
+}
+
+/// The first item of a move, from a turn on.
+fn first_from<V>(chains: &Chains<V>, cursor: u64, from: u64) -> Option<usize>
+    requires stand { Stand chains.now.items chains.now.older chains.now.newer }
+    requires turn { from ≤ turns_of chains.now.older chains.now.newer cursor }
+    ensures { result ≡ first_of (turns_from chains.now.older chains.now.newer cursor (turns_of chains.now.older chains.now.newer cursor - from) from) }
+{
+    for number in from..turns(chains, cursor) {
+        if let Some(at) = turn(chains, cursor, number).next() {
+            return Some(at);
+        }
+    }
+    None
+}
+
+/// The turn that gives an item of a move.
+fn turn_of<V>(chains: &Chains<V>, cursor: u64, at: usize) -> u64
+    requires stand { Stand chains.now.items chains.now.older chains.now.newer }
+    requires there { 0 < times at (turns_from chains.now.older chains.now.newer cursor (turns_of chains.now.older chains.now.newer cursor) 0) }
+    ensures turn { result < turns_of chains.now.older chains.now.newer cursor }
+    ensures gives { 0 < times at (turn_at chains.now.older chains.now.newer cursor result) }
+    ensures fits { result ≤ 2 ^ 63 }
+{
+    if contains(turn(chains, cursor, 0), at) {
+        return 0;
+    }
+    let Some(entry) = chains.entry(at) else {
+        unreachable!()
+    };
+    let large = bits(chains, larger(chains));
+    1 + ((place(entry.hash) >> (64 - large)) - (place(cursor) >> (64 - large)))
+}
+
+impl<V> Dict<V> {
+    /// The first item of a move at a cursor, or `None` where the move has none.
+    pub fn scan_first(&self, cursor: u64) -> Option<usize>
+        ensures { result ≡ first_of (scanned self.now.older self.now.newer cursor).0 }
+    {
+        first_from(self.chains(), cursor, 0)
+    }
+
+    /// The item behind another one of a move at a cursor.
+    pub fn scan_after(&self, cursor: u64, at: usize) -> Option<usize>
+        requires { 0 < times at (scanned self.now.older self.now.newer cursor).0 }
+        ensures { result ≡ first_of (after_in at (scanned self.now.older self.now.newer cursor).0) }
+    {
+        let chains = self.chains();
+        let number = turn_of(chains, cursor, at);
+        match next_in(turn(chains, cursor, number), at) {
+            Some(next) => Some(next),
+            None => first_from(chains, cursor, number + 1),
+        }
+    }
+
+    /// The cursor behind a move.
+    pub fn scan_end(&self, cursor: u64) -> u64
+        ensures { result ≡ (scanned self.now.older self.now.newer cursor).1 }
+    {
+        let chains = self.chains();
+        if chains.buckets(Side::Older) == 0 {
+            return 0;
+        }
+        next(cursor, bits(chains, smaller(chains)))
+    }
+}
+
+impl<V> BucketScan for Dict<V> {
+    ghost use Rattle.rehash_dict.specs.Scan.{scanned};
+    ghost use Rattle.rehash_dict.specs.ScanPlaces.{CanStand};
+
+    ghost can_stand = { CanStand };
+
+    ghost move_at = { λ t cursor. (scanned t.older t.newer cursor).0 };
+
+    ghost after = { λ t cursor. (scanned t.older t.newer cursor).1 };
+
+    fn scan_at(&self, cursor: u64, found: &mut Vec<usize>) -> Result<u64, Memory> {
+        let before = found.len();
+        if let Err(error) = push_move(self.chains(), cursor, found) {
+            found.truncate(before);
+            return Err(error);
+        }
+        Ok(self.scan_end(cursor))
+    }
+}
