@@ -1,0 +1,303 @@
+-- Chains of nodes over blocks that change.
+use Rattle.std.proofs.Common.{◌≡◌, ℕ, ◌+◌, ◌<◌, ◌≤◌, List, [], ◌∷◌, ◌++◌, Some, None, IsSome, length, map, take, drop, get_or, refl, ap, ◌∙◌, sym, subst, inl, inr, arith, unwrap_or, flat_map, take-add}
+use Rattle.std.specs.List.{All, remove_range}
+use Rattle.std.proofs.lemmas.Bool.{cond-true, cond-false}
+use Rattle.std.proofs.lemmas.List.{append_assoc, take-append-drop, drop_more, take-map, drop-map, map-append, length-append, length-map, length-drop, drop-drop, take_at, drop_at, length-take-le}
+use Rattle.std.proofs.lemmas.List.Concat.{flat_map-append}
+use Rattle.std.proofs.lemmas.List.Elements.{All-nil, All-cons, All-append, All-take, All-drop}
+use Rattle.blocks.specs.declared.BlockRef.{BlockRef}
+use Rattle.blocks.specs.Blocks.{Blocks, ref_eq, with_block, bytes_at, live, times, IsIn, Changes, Owned}
+use Rattle.blocks.proofs.Refs.{apart_live, ref_eq-refl, ref_eq-sym, cases_ref, with_block-other}
+use Rattle.blocks.proofs.Times.{times-append}
+use Rattle.blocks.proofs.Written.{bytes_at-placed}
+use Rattle.blocks.proofs.Change.{one, live-is, live-Some, live-once, Counts, Counts-placed, Counts-ended, Counts-changed, Changes-counted, Changes-then, Changes-both, Changes-same, Changes-owned}
+use Rattle.quicklist.specs.declared.node.Container.{Container}
+use Rattle.quicklist.specs.declared.node.Node.{Node}
+use Rattle.quicklist.specs.declared.piece.Piece.{Piece}
+use Rattle.quicklist.specs.Nodes.{IsNode, IsChain, IsPiece, Placed, Exchanged, Inserted, refs_of, elements_of, node_list, bytes_of, piece_list, held, IsHeld, container_of, container_of_piece}
+
+pub one_self : (at : BlockRef) → one at at ≡ 1
+one_self at = cond-true _ _ _ (ref_eq-refl at)
+
+-- the references of parts
+pub refs-append : (xs ys : List Node) → refs_of (xs ++ ys) ≡ refs_of xs ++ refs_of ys
+refs-append xs ys = map-append (λ (node : Node). node.at) xs ys
+
+pub times-refs : (r : BlockRef) (xs ys : List Node) → times r (refs_of (xs ++ ys)) ≡ times r (refs_of xs) + times r (refs_of ys)
+times-refs r xs ys = ap (times r) (refs-append xs ys) ∙ times-append r (refs_of xs) (refs_of ys)
+
+-- the blocks of these nodes are the same
+abbrev pub Same : Blocks → Blocks → List Node → Type 0
+Same m n nodes = (r : BlockRef) → IsIn r (refs_of nodes) → n r ≡ m r
+
+Same-rest : (m n : Blocks) (node : Node) (nodes : List Node) → Same m n (node ∷ nodes) → Same m n nodes
+Same-rest m n node nodes same r isin = same r (omega (arith, isin))
+
+Same-bytes : (m n : Blocks) (node : Node) (nodes : List Node) → Same m n (node ∷ nodes) → bytes_of n node ≡ bytes_of m node
+Same-bytes m n node nodes same = ap (λ o. unwrap_or o []) (same node.at (omega (arith, one_self node.at)))
+
+pub Same-left : (m n : Blocks) (xs ys : List Node) → Same m n (xs ++ ys) → Same m n xs
+Same-left m n xs ys same r isin = same r (omega (arith, isin, times-refs r xs ys))
+
+pub Same-right : (m n : Blocks) (xs ys : List Node) → Same m n (xs ++ ys) → Same m n ys
+Same-right m n xs ys same r isin = same r (omega (arith, isin, times-refs r xs ys))
+
+-- so their elements are
+pub elements-same : (m n : Blocks) (nodes : List Node) → Same m n nodes → elements_of n nodes ≡ elements_of m nodes
+elements-same m n [] same = refl
+elements-same m n (node ∷ nodes) same =
+    ap (λ (bytes : List ℕ). held node.container bytes ++ elements_of n nodes) (Same-bytes m n node nodes same)
+    ∙ ap (λ (xs : List (List ℕ)). node_list m node ++ xs) (elements-same m n nodes (Same-rest m n node nodes same))
+
+-- and they stay nodes
+IsNode-as : (m n : Blocks) (node : Node) → bytes_of n node ≡ bytes_of m node → IsNode m node → IsNode n node
+IsNode-as m n node same is = record {
+  is_held = subst (IsHeld node.container) (sym same) is.is_held;
+  counted = is.counted ∙ ap (λ (bytes : List ℕ). length (held node.container bytes)) (sym same);
+  some = is.some;
+}
+
+pub each-same : (m n : Blocks) (nodes : List Node) → Same m n nodes → All (IsNode m) nodes → All (IsNode n) nodes
+each-same m n [] same all = All-nil (IsNode n)
+each-same m n (node ∷ nodes) same all = All-cons (IsNode n) node nodes (IsNode-as m n node (Same-bytes m n node nodes same) (all 0 node (omega arith))) (each-same m n nodes (Same-rest m n node nodes same) (All-drop (IsNode m) 1 (node ∷ nodes) all))
+
+-- a chain, cut at a node
+pub cut_at : (nodes : List Node) (k : ℕ) (node : Node) → k < length nodes → node ≡ get_or nodes k node → nodes ≡ take k nodes ++ (node ∷ drop (k + 1) nodes)
+cut_at nodes k node h is =
+    sym (take-append-drop k nodes) ∙ ap (λ (xs : List Node). take k nodes ++ xs) (drop_more nodes k node h)
+    ∙ ap (λ (n : Node). take k nodes ++ (n ∷ drop (k + 1) nodes)) (sym is)
+
+pub node_live : (m : Blocks) (nodes : List Node) (k : ℕ) (node : Node) → k < length nodes → node ≡ get_or nodes k node → Owned (refs_of nodes) m → IsSome (m node.at)
+node_live m nodes k node h is own =
+    let whole = ap (λ (xs : List Node). times node.at (refs_of xs)) (cut_at nodes k node h is) in
+    live-is m node.at (omega (arith, own node.at, whole, times-refs node.at (take k nodes) (node ∷ drop (k + 1) nodes), one_self node.at))
+
+-- a part of the nodes
+abbrev pub part : ℕ → ℕ → List Node → List Node
+part k count nodes = take count (drop k nodes)
+
+part_one : (nodes : List Node) (k : ℕ) (node : Node) → k < length nodes → node ≡ get_or nodes k node → part k 1 nodes ≡ node ∷ []
+part_one nodes k node h is = ap (take 1) (drop_more nodes k node h) ∙ ap (λ (n : Node). n ∷ []) (sym is)
+
+-- a node was taken out and its block given back
+pub one_ended : (m n : Blocks) (nodes : List Node) (k : ℕ) (node : Node) → k < length nodes → node ≡ get_or nodes k node → IsSome (m node.at) → n ≡ with_block m node.at None
+    → Changes m n (refs_of (part k 1 nodes)) []
+one_ended m n nodes k node h is was gone =
+    subst (λ (xs : List Node). Changes m n (refs_of xs) []) (sym (part_one nodes k node h is))
+    (Changes-counted m n (node.at ∷ []) [] (λ r. own r) (Counts-ended m n node.at (node.at ∷ []) [] was gone (λ r. omega arith)))
+  where
+    own : (r : BlockRef) → times r (node.at ∷ []) ≤ live m r
+    own r = elim (cases_ref r node.at) [
+      | inl same ↦ subst (λ (q : BlockRef). times q (node.at ∷ []) ≤ live m q) (sym same) (omega (arith, one_self node.at, live-Some m node.at was))
+      | inr other ↦ omega (arith, cond-false {A = ℕ} (ref_eq node.at r) 1 0 (ref_eq-sym node.at r ∙ other))
+    ]
+
+times_cut : (r : BlockRef) (nodes : List Node) (k count : ℕ)
+    → times r (refs_of nodes) ≡ times r (refs_of (take k nodes)) + (times r (refs_of (part k count nodes)) + times r (refs_of (drop (k + count) nodes)))
+times_cut r nodes k count =
+    let one = ap (λ (xs : List Node). times r (refs_of xs)) (take-append-drop k nodes) in
+    let two = ap (λ (xs : List Node). times r (refs_of xs)) (take-append-drop count (drop k nodes)) in
+    let rest = ap (λ (xs : List Node). times r (refs_of xs)) (drop-drop count k nodes) in
+    omega (arith, one, two, rest, times-refs r (take k nodes) (drop k nodes), times-refs r (part k count nodes) (drop count (drop k nodes)))
+
+Owned-part : (m : Blocks) (nodes : List Node) (k count : ℕ) → Owned (refs_of nodes) m → Owned (refs_of (part k count nodes)) m
+Owned-part m nodes k count own r = omega (arith, own r, times_cut r nodes k count)
+
+-- what is left of the nodes owns its blocks
+pub left_owned : (m mid : Blocks) (nodes : List Node) (k count : ℕ) → Owned (refs_of nodes) m → Changes m mid (refs_of (part k count nodes)) [] → Owned (refs_of (remove_range nodes k (k + count))) mid
+left_owned m mid nodes k count own p r =
+    let b = (Counts-changed m mid (refs_of (part k count nodes)) [] (Owned-part m nodes k count own) p).balance r in
+    omega (arith, own r, b, times_cut r nodes k count, times-refs r (take k nodes) (drop (k + count) nodes))
+
+-- the next node behind those that were taken out
+next_part : (nodes : List Node) (k i : ℕ) → k ≤ length nodes → part k 1 (remove_range nodes k (k + i)) ≡ part (k + i) 1 nodes
+next_part nodes k i h = ap (take 1) (drop_at (take k nodes) (drop (k + i) nodes) k (length-take-le k nodes h))
+
+more_part : (nodes : List Node) (k i : ℕ) → part k (i + 1) nodes ≡ part k i nodes ++ part (k + i) 1 nodes
+more_part nodes k i = take-add i 1 (drop k nodes) ∙ ap (λ (xs : List Node). part k i nodes ++ take 1 xs) (drop-drop i k nodes)
+
+pub more_ended : (m mid n : Blocks) (nodes left : List Node) (k i : ℕ) → k ≤ length nodes → Owned (refs_of nodes) m → left ≡ remove_range nodes k (k + i) → Changes m mid (refs_of (part k i nodes)) []
+    → Changes mid n (refs_of (part k 1 left)) [] → Changes m n (refs_of (part k (i + 1) nodes)) []
+more_ended m mid n nodes left k i h own is p q =
+    let here' : part k 1 left ≡ part (k + i) 1 nodes = ap (part k 1) is ∙ next_part nodes k i h in
+    let second : Changes mid n (refs_of (part (k + i) 1 nodes)) [] = subst (λ (xs : List Node). Changes mid n (refs_of xs) []) here' q in
+    let whole : refs_of (part k (i + 1) nodes) ≡ refs_of (part k i nodes) ++ refs_of (part (k + i) 1 nodes) = ap refs_of (more_part nodes k i) ∙ refs-append (part k i nodes) (part (k + i) 1 nodes) in
+    let both : Owned (refs_of (part k i nodes) ++ refs_of (part (k + i) 1 nodes)) m = subst (λ (xs : List BlockRef). Owned xs m) whole (Owned-part m nodes k (i + 1) own) in
+    subst (λ (xs : List BlockRef). Changes m n xs []) (sym whole) (Changes-both m mid n (refs_of (part k i nodes)) [] (refs_of (part (k + i) 1 nodes)) [] both p second)
+
+-- one node fewer, counted from the front
+pub one_fewer_node : (nodes left after : List Node) (k i : ℕ) → k ≤ length nodes → left ≡ remove_range nodes k (k + i) → after ≡ remove_range left k (k + 1) → after ≡ remove_range nodes k (k + (i + 1))
+one_fewer_node nodes left after k i h is gone =
+    let front : take k left ≡ take k nodes = ap (take k) is ∙ take_at (take k nodes) (drop (k + i) nodes) k (length-take-le k nodes h) in
+    let back : drop (k + 1) left ≡ drop (k + (i + 1)) nodes =
+    sym (drop-drop 1 k left) ∙ ap (drop 1) (ap (drop k) is ∙ drop_at (take k nodes) (drop (k + i) nodes) k (length-take-le k nodes h)) ∙ drop-drop 1 (k + i) nodes
+    ∙ (let e : k + i + 1 ≡ k + (i + 1) = omega arith in ap (λ (j : ℕ). drop j nodes) e) in
+    gone ∙ ap (λ (xs : List Node). xs ++ drop (k + 1) left) front ∙ ap (λ (xs : List Node). take k nodes ++ xs) back
+
+pub none_out : (nodes : List Node) (k : ℕ) → nodes ≡ remove_range nodes k (k + 0)
+none_out nodes k = let e : k ≡ k + 0 = omega arith in sym (take-append-drop k nodes) ∙ ap (λ (j : ℕ). take k nodes ++ drop j nodes) e
+
+-- no block changed
+pub all_same : (m n : Blocks) → Changes m n [] [] → n ≡ m
+all_same m n p = λ i r. p.kept r refl refl i
+
+-- nothing is placed yet
+pub none_placed : (m : Blocks) → Placed m m [] []
+none_placed m = record { changes = Changes-same m [] (λ r. omega arith); each = All-nil (IsNode m); list = refl; containers = refl }
+
+node_of_piece : (m n : Blocks) (piece : Piece) (node : Node) → IsPiece piece → n ≡ with_block m node.at (Some piece.bytes.now) → node.count ≡ piece.count → node.container ≡ piece.container
+    → IsNode n node × (node_list n node ≡ piece_list piece)
+node_of_piece m n piece node is placed count container =
+    let bytes : bytes_of n node ≡ piece.bytes.now = ap (λ k. bytes_at k node.at) placed ∙ bytes_at-placed m node.at piece.bytes.now in
+    let list : node_list n node ≡ piece_list piece = ap (λ (c : Container). held c (bytes_of n node)) container ∙ ap (held piece.container) bytes in (
+      record {
+        is_held = subst (λ (c : Container). IsHeld c (bytes_of n node)) (sym container) (subst (IsHeld piece.container) (sym bytes) is.is_held);
+        counted = count ∙ is.counted ∙ ap length (sym list);
+        some = omega (arith, is.some, count);
+      },
+      list,
+    )
+
+-- one node more is placed
+pub one_placed : (m mid n : Blocks) (pieces : List Piece) (piece : Piece) (fresh : List Node) (node : Node) → Placed m mid pieces fresh → IsPiece piece → mid node.at ≡ None
+    → n ≡ with_block mid node.at (Some piece.bytes.now) → node.count ≡ piece.count → node.container ≡ piece.container → Placed m n (pieces ++ piece ∷ []) (fresh ++ node ∷ [])
+one_placed m mid n pieces piece fresh node p is free placed count container =
+    let own = Changes-owned m mid [] (refs_of fresh) p.changes in
+    let same : Same mid n fresh = λ r isin.
+    ap (λ k. k r) placed ∙ with_block-other mid node.at r (Some piece.bytes.now) (apart_live mid r node.at (live-is mid r (omega (arith, own r, isin))) free) in
+    let one' = node_of_piece mid n piece node is placed count container in
+    let step : Changes mid n (refs_of fresh) (refs_of (fresh ++ node ∷ [])) =
+    Changes-counted mid n (refs_of fresh) (refs_of (fresh ++ node ∷ [])) own
+    (Counts-placed mid n node.at piece.bytes.now (refs_of fresh) (refs_of (fresh ++ node ∷ [])) free placed (λ r. omega (arith, times-refs r fresh (node ∷ [])))) in
+    record {
+      changes = Changes-then m mid n [] (refs_of fresh) (refs_of (fresh ++ node ∷ [])) p.changes step;
+      each = All-append (IsNode n) fresh (node ∷ []) (each-same mid n fresh same p.each) (All-cons (IsNode n) node [] one'.0 (All-nil (IsNode n)));
+      list = flat_map-append (node_list n) fresh (node ∷ []) ∙ ap (λ (xs : List (List ℕ)). xs ++ (node_list n node ++ [])) (elements-same mid n fresh same ∙ p.list)
+          ∙ ap (λ (xs : List (List ℕ)). flat_map piece_list pieces ++ (xs ++ [])) one'.1 ∙ sym (flat_map-append piece_list pieces (piece ∷ []));
+      containers = map-append container_of fresh (node ∷ []) ∙ ap (λ (xs : List Container). xs ++ node.container ∷ []) p.containers
+          ∙ ap (λ (c : Container). map container_of_piece pieces ++ c ∷ []) container ∙ sym (map-append container_of_piece pieces (piece ∷ []));
+    }
+
+-- where it stands
+pub inserted_behind : (old now after fresh : List Node) (node : Node) (k i : ℕ) → k ≤ length old → length fresh ≡ i → now ≡ take k old ++ (fresh ++ drop k old)
+    → after ≡ take (k + i) now ++ (node ∷ drop (k + i) now) → after ≡ take k old ++ ((fresh ++ node ∷ []) ++ drop k old)
+inserted_behind old now after fresh node k i h long is at =
+    let front = take k old in
+    let back = drop k old in
+    let whole : now ≡ (front ++ fresh) ++ back = is ∙ sym (append_assoc front fresh back) in
+    let size : length (front ++ fresh) ≡ k + i = omega (arith, length-append front fresh, length-take-le k old h, long) in
+    at ∙ ap (λ (xs : List Node). xs ++ (node ∷ drop (k + i) now)) (ap (take (k + i)) whole ∙ take_at (front ++ fresh) back (k + i) size)
+    ∙ ap (λ (xs : List Node). (front ++ fresh) ++ (node ∷ xs)) (ap (drop (k + i)) whole ∙ drop_at (front ++ fresh) back (k + i) size)
+    ∙ append_assoc front fresh (node ∷ back) ∙ ap (λ (xs : List Node). front ++ xs) (sym (append_assoc fresh (node ∷ []) back))
+
+-- what was placed is given back
+pub unplaced : (m mid n : Blocks) (old now : List Node) (pieces : List Piece) (fresh : List Node) (k i : ℕ) → k ≤ length old → length fresh ≡ i → Placed m mid pieces fresh
+    → now ≡ take k old ++ (fresh ++ drop k old) → Changes mid n (refs_of (part k i now)) [] → n ≡ m
+unplaced m mid n old now pieces fresh k i h long p is ended =
+    let back = drop k old in
+    let behind : drop k now ≡ fresh ++ back = ap (drop k) is ∙ drop_at (take k old) (fresh ++ back) k (length-take-le k old h) in
+    let same : part k i now ≡ fresh = ap (take i) behind ∙ take_at fresh back i long in
+    all_same m n (Changes-then m mid n [] (refs_of fresh) [] p.changes (subst (λ (xs : List Node). Changes mid n (refs_of xs) []) same ended))
+
+pub nodes_unplaced : (old now after fresh : List Node) (k i : ℕ) → k ≤ length old → length fresh ≡ i → now ≡ take k old ++ (fresh ++ drop k old) → after ≡ remove_range now k (k + i) → after ≡ old
+nodes_unplaced old now after fresh k i h long is gone =
+    let front = take k old in
+    let back = drop k old in
+    let whole : now ≡ (front ++ fresh) ++ back = is ∙ sym (append_assoc front fresh back) in
+    let size : length (front ++ fresh) ≡ k + i = omega (arith, length-append front fresh, length-take-le k old h, long) in
+    gone ∙ ap (λ (xs : List Node). xs ++ drop (k + i) now) (ap (take k) is ∙ take_at front (fresh ++ back) k (length-take-le k old h))
+    ∙ ap (λ (xs : List Node). front ++ xs) (ap (drop (k + i)) whole ∙ drop_at (front ++ fresh) back (k + i) size) ∙ take-append-drop k old
+
+pub length-placed : (m n : Blocks) (pieces : List Piece) (fresh : List Node) → Placed m n pieces fresh → length fresh ≡ length pieces
+length-placed m n pieces fresh p = sym (length-map fresh container_of) ∙ ap length p.containers ∙ length-map pieces container_of_piece
+
+-- nodes with others placed among them own their blocks
+pub placed_owned : (m mid : Blocks) (old now fresh : List Node) (pieces : List Piece) (k : ℕ) → Owned (refs_of old) m → Placed m mid pieces fresh → now ≡ take k old ++ (fresh ++ drop k old) → Owned (refs_of now) mid
+placed_owned m mid old now fresh pieces k own p is r =
+    let was = ap (λ (xs : List Node). times r (refs_of xs)) (take-append-drop k old) in
+    let here' = ap (λ (xs : List Node). times r (refs_of xs)) is in
+    let b = (Counts-changed m mid [] (refs_of fresh) (λ q. omega arith) p.changes).balance r in
+    omega (arith, own r, was, here', b, times-refs r (take k old) (drop k old), times-refs r (take k old) (fresh ++ drop k old), times-refs r fresh (drop k old))
+
+-- the chain before and after nodes have taken the place of others
+module _ (m mid n : Blocks) (front gone back fresh : List Node) (pieces : List Piece) (own : Owned (refs_of (front ++ (gone ++ back))) m) (p : Placed m mid pieces fresh) (ended : Changes mid n (refs_of gone) []) where
+  abbrev parts : BlockRef → ℕ
+  parts r = times r (refs_of front) + (times r (refs_of gone) + times r (refs_of back))
+
+  count_old : (r : BlockRef) → times r (refs_of (front ++ (gone ++ back))) ≡ parts r
+  count_old r = omega (arith, times-refs r front (gone ++ back), times-refs r gone back)
+
+  count_new : (r : BlockRef) → times r (refs_of (front ++ (fresh ++ back))) ≡ times r (refs_of front) + (times r (refs_of fresh) + times r (refs_of back))
+  count_new r = omega (arith, times-refs r front (fresh ++ back), times-refs r fresh back)
+
+  placing : Counts m mid [] (refs_of fresh)
+  placing = Counts-changed m mid [] (refs_of fresh) (λ r. omega arith) p.changes
+
+  gone_owned : Owned (refs_of gone) mid
+  gone_owned r = omega (arith, own r, count_old r, placing.balance r)
+
+  ending : Counts mid n (refs_of gone) []
+  ending = Counts-changed mid n (refs_of gone) [] gone_owned ended
+
+  pub exchange_changes : Changes m n (refs_of (front ++ (gone ++ back))) (refs_of (front ++ (fresh ++ back)))
+  exchange_changes = Changes-counted m n (refs_of (front ++ (gone ++ back))) (refs_of (front ++ (fresh ++ back))) own (record {
+    balance = λ r. omega (arith, placing.balance r, ending.balance r, count_old r, count_new r);
+    kept = λ r out in_new. ending.kept r (omega (arith, out, count_old r)) (omega arith) ∙ placing.kept r (omega arith) (omega (arith, in_new, count_new r));
+  })
+
+  stays : (r : BlockRef) → 0 < times r (refs_of front) + times r (refs_of back) → n r ≡ m r
+  stays r isin =
+      let was : times r (refs_of fresh) ≡ 0 = omega (arith, own r, isin, count_old r, placing.balance r, live-once mid r) in
+      let not_gone : times r (refs_of gone) ≡ 0 = omega (arith, own r, isin, count_old r, live-once m r) in
+      ending.kept r not_gone (omega arith) ∙ placing.kept r (omega arith) was
+
+  same_fresh : Same mid n fresh
+  same_fresh r isin = ending.kept r (omega (arith, isin, gone_owned r, placing.balance r, own r, count_old r, live-once mid r)) (omega arith)
+
+  pub exchange_chain : All (IsNode m) front → All (IsNode m) back → IsChain n (front ++ (fresh ++ back))
+  exchange_chain a b = record {
+    owned = Changes-owned m n (refs_of (front ++ (gone ++ back))) (refs_of (front ++ (fresh ++ back))) exchange_changes;
+    each = All-append (IsNode n) front (fresh ++ back) (each-same m n front (λ r isin. stays r (omega (arith, isin))) a)
+        (All-append (IsNode n) fresh back (each-same mid n fresh same_fresh p.each) (each-same m n back (λ r isin. stays r (omega (arith, isin))) b));
+  }
+
+  pub exchange_list : elements_of n (front ++ (fresh ++ back)) ≡ elements_of m front ++ (flat_map piece_list pieces ++ elements_of m back)
+  exchange_list =
+      flat_map-append (node_list n) front (fresh ++ back)
+      ∙ ap (λ (xs : List (List ℕ)). elements_of n front ++ xs) (flat_map-append (node_list n) fresh back)
+      ∙ ap (λ (xs : List (List ℕ)). xs ++ (elements_of n fresh ++ elements_of n back)) (elements-same m n front (λ r isin. stays r (omega (arith, isin))))
+      ∙ ap (λ (xs : List (List ℕ)). elements_of m front ++ (xs ++ elements_of n back)) (elements-same mid n fresh same_fresh ∙ p.list)
+      ∙ ap (λ (xs : List (List ℕ)). elements_of m front ++ (flat_map piece_list pieces ++ xs)) (elements-same m n back (λ r isin. stays r (omega (arith, isin))))
+
+-- Nodes placed before the node k, and then the `gone` nodes behind them taken out.
+pub exchanged : (m mid n : Blocks) (old now after : List Node) (pieces : List Piece) (k gone placed : ℕ) → k + gone ≤ length old → placed ≡ length pieces → IsChain m old
+    → Inserted m mid old now k pieces → after ≡ remove_range now (k + placed) (k + placed + gone) → Changes mid n (refs_of (part (k + placed) gone now)) [] → Exchanged m n old after k (k + gone) pieces
+exchanged m mid n old now after pieces k gone placed h long c ins removed ended =
+    let fresh = ins.0 in
+    let p = ins.1 in
+    let front = take k old in
+    let middle = part k gone old in
+    let back = drop (k + gone) old in
+    let size : length (front ++ fresh) ≡ k + placed = omega (arith, length-append front fresh, length-take-le k old (omega arith), length-placed m mid pieces fresh p, long) in
+    let rest : drop k old ≡ middle ++ back = sym (take-append-drop gone (drop k old)) ∙ ap (λ (xs : List Node). middle ++ xs) (drop-drop gone k old) in
+    let whole : old ≡ front ++ (middle ++ back) = sym (take-append-drop k old) ∙ ap (λ (xs : List Node). front ++ xs) rest in
+    let now_is : now ≡ (front ++ fresh) ++ (middle ++ back) = ins.2 ∙ sym (append_assoc front fresh (drop k old)) ∙ ap (λ (xs : List Node). (front ++ fresh) ++ xs) rest in
+    let behind : drop (k + placed) now ≡ middle ++ back = ap (drop (k + placed)) now_is ∙ drop_at (front ++ fresh) (middle ++ back) (k + placed) size in
+    let long_middle : length middle ≡ gone = length-take-le gone (drop k old) (omega (arith, length-drop k old)) in
+    let gone_is : part (k + placed) gone now ≡ middle = ap (take gone) behind ∙ take_at middle back gone long_middle in
+    let tail : drop (k + placed + gone) now ≡ back = sym (drop-drop gone (k + placed) now) ∙ ap (drop gone) behind ∙ drop_at middle back gone long_middle in
+    let after_is : after ≡ front ++ (fresh ++ back) =
+    removed ∙ ap (λ (xs : List Node). xs ++ drop (k + placed + gone) now) (ap (take (k + placed)) now_is ∙ take_at (front ++ fresh) (middle ++ back) (k + placed) size)
+    ∙ ap (λ (xs : List Node). (front ++ fresh) ++ xs) tail ∙ append_assoc front fresh back in
+    let own : Owned (refs_of (front ++ (middle ++ back))) m = subst (λ (xs : List Node). Owned (refs_of xs) m) whole c.owned in
+    let end : Changes mid n (refs_of middle) [] = subst (λ (xs : List Node). Changes mid n (refs_of xs) []) gone_is ended in
+    record {
+      chain = subst (IsChain n) (sym after_is) (exchange_chain m mid n front middle back fresh pieces own p end (All-take (IsNode m) k old c.each) (All-drop (IsNode m) (k + gone) old c.each));
+      list = ap (elements_of n) after_is ∙ exchange_list m mid n front middle back fresh pieces own p end;
+      changes = subst (λ (xs : List Node). Changes m n (refs_of old) (refs_of xs)) (sym after_is)
+          (subst (λ (xs : List Node). Changes m n (refs_of xs) (refs_of (front ++ (fresh ++ back)))) (sym whole) (exchange_changes m mid n front middle back fresh pieces own p end));
+      containers = ap (map container_of) after_is ∙ map-append container_of front (fresh ++ back) ∙ ap (λ (xs : List Container). map container_of front ++ xs) (map-append container_of fresh back)
+          ∙ ap (λ (xs : List Container). map container_of front ++ (xs ++ map container_of back)) p.containers
+          ∙ ap (λ (xs : List Container). xs ++ (map container_of_piece pieces ++ map container_of back)) (sym (take-map container_of k old))
+          ∙ ap (λ (xs : List Container). take k (map container_of old) ++ (map container_of_piece pieces ++ xs)) (sym (drop-map container_of (k + gone) old));
+    }

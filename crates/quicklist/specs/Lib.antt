@@ -1,0 +1,4 @@
+pub mod Nodes
+pub mod Chain
+pub mod Cursor
+pub mod Laws

@@ -1,0 +1,23 @@
+//! Lists of elements over the blocks of a store: the quicklist of Redis.
+#![tactic(auto)]
+
+mod copies;
+mod cursor;
+mod edits;
+mod exchange;
+mod laws;
+mod locate;
+mod node;
+mod packs;
+mod piece;
+mod quick;
+mod ranges;
+
+pub use blocks::Memory;
+pub use cursor::Cursor;
+pub use laws::quick_laws;
+pub use node::{Container, Node};
+pub use quick::Quick;
+
+#[cfg(test)]
+mod tests;

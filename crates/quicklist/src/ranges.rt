@@ -1,0 +1,207 @@
+// Ranges of elements taken out.
+
+ghost use Rattle.std.specs.Prelude.{◌≡◌, ◌∷◌, ◌<◌, ◌≤◌, ◌^◌, ◌+◌, ◌-◌, ◌++◌, [], length, take, drop, IfOk, IfSome, OnOk, OnErr};
+ghost use Rattle.std.specs.List.{remove_range as range_removed, flat_map};
+ghost use Rattle.blocks.specs.Blocks.{Served};
+ghost use Rattle.listpack.specs.Pack.{texts};
+ghost use Rattle.quicklist.specs.Nodes.{IsHeld, IsPacked, IsPiece, held, piece_list, node_at, node_list, left_list, rest_list};
+ghost use Rattle.quicklist.specs.Chain.{elements, IsQuick, IsChanged, IsFormed, respelled};
+
+use crate::locate::find;
+use crate::node::Container;
+use crate::packs::{packed_piece, without};
+use crate::piece::Piece;
+use crate::quick::Quick;
+use blocks::{BlockStore, Memory};
+use std::alloc::Global;
+
+// The bytes of a node of `count` elements without those from the index `from` to below `to`, or none where no element is left.
+fn rest_of(
+    alloc: Global,
+    container: Container,
+    bytes: &[u8],
+    count: usize,
+    from: usize,
+    to: usize,
+) -> Result<Option<Vec<u8>>, Memory>
+    requires held { IsHeld container bytes.now }
+    requires counted { count ≡ length (held container bytes.now) }
+    requires order { from < to }
+    requires inside { to ≤ count }
+    ensures packed { IfOk result (λ pack. IfSome pack (λ v. IsPacked v.items × (length (texts v.items) + (to - from) ≡ count) × (0 < length (texts v.items)))) }
+    ensures list { IfOk result (λ pack. left_list pack ≡ range_removed (held container bytes.now) from to) }
+{
+    if to - from == count {
+        return Ok(None);
+    }
+    match container {
+        Container::Plain => unreachable!(),
+        Container::Packed => Ok(Some(without(alloc, bytes, from, to)?)),
+    }
+}
+
+impl Quick {
+    // Two pieces in the place of the nodes from k on, of which there are `gone`.
+    fn place_two<'a, B: BlockStore>(
+        &mut self,
+        store: &mut B,
+        k: usize,
+        gone: usize,
+        before: Piece<'a>,
+        behind: Piece<'a>,
+        len: usize,
+    ) -> Result<(), Memory>
+        requires quick { IsQuick (B.blocks store.old) self.old }
+        requires inside { k + gone ≤ length self.old.nodes }
+        requires many { 1 < length self.old.nodes }
+        requires before { IsPiece before }
+        requires behind { IsPiece behind }
+        requires len { len ≡ length (respelled (B.blocks store.old) self.old k (piece_list before ++ piece_list behind) (k + gone)) }
+        ensures changed { OnOk result (IsChanged (B.blocks store.old) (B.blocks store.new) self.old self.new (respelled (B.blocks store.old) self.old k (piece_list before.entry ++ piece_list behind.entry) (k + gone))) }
+        ensures form { self.new.form ≡ self.old.form }
+        ensures served { Served B.step store.old store.new }
+        ensures err_list { OnErr result (self.new ≡ self.old) }
+        ensures err_blocks { OnErr result (B.blocks store.new ≡ B.blocks store.old) }
+    {
+        let form = self.form;
+        self.exchange(store, k, gone, &[before, behind], len, form)
+    }
+
+    // Pieces in the place of the nodes from k on, of which there are `gone`: none, or one.
+    fn place_rest<B: BlockStore>(
+        &mut self,
+        store: &mut B,
+        k: usize,
+        gone: usize,
+        rest: Option<&Vec<u8>>,
+        count: usize,
+        len: usize,
+    ) -> Result<(), Memory>
+        requires quick { IsQuick (B.blocks store.old) self.old }
+        requires some { 0 < gone }
+        requires inside { k + gone ≤ length self.old.nodes }
+        requires rest { IfSome rest (λ v. IsPacked v.now.items × (count ≡ length (texts v.now.items)) × (0 < count) × (count < 2 ^ 32)) }
+        requires len { len ≡ length (respelled (B.blocks store.old) self.old k (rest_list rest) (k + gone)) }
+        ensures changed { OnOk result (IsChanged (B.blocks store.old) (B.blocks store.new) self.old self.new (respelled (B.blocks store.old) self.old k (rest_list rest.entry) (k + gone))) }
+        ensures form { self.new.form ≡ self.old.form }
+        ensures served { Served B.step store.old store.new }
+        ensures err_list { OnErr result (self.new ≡ self.old) }
+        ensures err_blocks { OnErr result (B.blocks store.new ≡ B.blocks store.old) }
+    {
+        let form = self.form;
+        match rest {
+            Some(bytes) => {
+                let piece = Piece {
+                    container: Container::Packed,
+                    count: count as u32,
+                    bytes,
+                };
+                self.exchange(store, k, gone, &[piece], len, form)
+            }
+            None => self.exchange(store, k, gone, &[], len, form),
+        }
+    }
+
+    // Takes out the elements of the node `first` from its element i on, those of the node `last` before its element j, and the nodes
+    // between them.
+    fn remove_across<B: BlockStore>(
+        &mut self,
+        store: &mut B,
+        first: usize,
+        i: usize,
+        last: usize,
+        j: usize,
+        len: usize,
+    ) -> Result<(), Memory>
+        requires quick { IsQuick (B.blocks store.old) self.old }
+        requires order { first < last }
+        requires inside { last < length self.old.nodes }
+        requires from { i < length (node_list (B.blocks store.old) (node_at self.old.nodes first)) }
+        requires some { 0 < j }
+        requires to { j ≤ length (node_list (B.blocks store.old) (node_at self.old.nodes last)) }
+        requires len { len ≡ length (respelled (B.blocks store.old) self.old first (take i (node_list (B.blocks store.old) (node_at self.old.nodes first)) ++ drop j (node_list (B.blocks store.old) (node_at self.old.nodes last))) (last + 1)) }
+        ensures changed { OnOk result (IsChanged (B.blocks store.old) (B.blocks store.new) self.old self.new (respelled (B.blocks store.old) self.old first (take i (node_list (B.blocks store.old) (node_at self.old.nodes first)) ++ drop j (node_list (B.blocks store.old) (node_at self.old.nodes last))) (last + 1))) }
+        ensures form { self.new.form ≡ self.old.form }
+        ensures served { Served B.step store.old store.new }
+        ensures err_list { OnErr result (self.new ≡ self.old) }
+        ensures err_blocks { OnErr result (B.blocks store.new ≡ B.blocks store.old) }
+    {
+        let alloc = self.alloc;
+        let (head, tail) = (self.nodes[first], self.nodes[last]);
+        let (head_count, tail_count) = (head.count as usize, tail.count as usize);
+        let gone = last + 1 - first;
+        let before = rest_of(
+            alloc,
+            head.container,
+            store.bytes(head.at),
+            head_count,
+            i,
+            head_count,
+        )?;
+        let behind = rest_of(
+            alloc,
+            tail.container,
+            store.bytes(tail.at),
+            tail_count,
+            0,
+            j,
+        )?;
+        match (&before, &behind) {
+            (Some(a), Some(b)) => {
+                let behind_piece = packed_piece(b, (tail_count - j) as u32);
+                self.place_two(
+                    store,
+                    first,
+                    gone,
+                    packed_piece(a, i as u32),
+                    behind_piece,
+                    len,
+                )
+            }
+            (Some(a), None) => self.place_rest(store, first, gone, Some(a), i, len),
+            (None, Some(b)) => self.place_rest(store, first, gone, Some(b), tail_count - j, len),
+            (None, None) => self.place_rest(store, first, gone, None, 0, len),
+        }
+    }
+
+    /// Takes out the elements from the index `from` to below `to`. Nodes of which all elements go are given back whole.
+    ///
+    /// `Memory` leaves all as before.
+    pub fn remove_range<B: BlockStore>(
+        &mut self,
+        store: &mut B,
+        from: usize,
+        to: usize,
+    ) -> Result<(), Memory>
+        requires quick { IsQuick (B.blocks store.old) self.old }
+        requires order { from ≤ to }
+        requires inside { to ≤ length (elements (B.blocks store.old) self.old) }
+        ensures changed { OnOk result (IsChanged (B.blocks store.old) (B.blocks store.new) self.old self.new (range_removed (elements (B.blocks store.old) self.old) from to)) }
+        ensures form { self.new.form ≡ self.old.form }
+        ensures served { Served B.step store.old store.new }
+        ensures err_list { OnErr result (self.new ≡ self.old) }
+        ensures err_blocks { OnErr result (B.blocks store.new ≡ B.blocks store.old) }
+    {
+        if from == to {
+            return Ok(());
+        }
+        let len = self.len;
+        let (first, i) = find(&self.nodes, from, len);
+        let (last, j) = find(&self.nodes, to - 1, len);
+        let left = len - (to - from);
+        if first < last {
+            return self.remove_across(store, first, i, last, j + 1, left);
+        }
+        let node = self.nodes[first];
+        let count = node.count as usize;
+        let rest = rest_of(
+            self.alloc,
+            node.container,
+            store.bytes(node.at),
+            count,
+            i,
+            j + 1,
+        )?;
+        self.place_rest(store, first, 1, rest.as_ref(), count - (j + 1 - i), left)
+    }
+}
