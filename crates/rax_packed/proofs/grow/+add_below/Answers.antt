@@ -1,0 +1,59 @@
+use Rattle.std.proofs.Common.{◌∙◌, ◌<◌, sym, subst, arith, length, drop}
+use Rattle.std.proofs.lemmas.List.{take_rest}
+use Rattle.blocks.proofs.Serve.{Served-then}
+use Rattle.rax_packed.specs.Trees.{refs_at}
+use Rattle.rax_packed.proofs.Looks.{tree_live, tree_node, found_leaf, found_link, link_below, shorter}
+use Rattle.rax_packed.proofs.Steps.{own_below, kept_block, add_link, link_ready}
+use Rattle.rax_packed.proofs.grow.+add_below.Goals as goal
+
+pub bytes-requires : goal.bytes-requires
+bytes-requires g t c = tree_live _ _ _ _ c.requires.tree
+
+pub way_of-requires : goal.way_of-requires
+way_of-requires g t c = tree_node _ _ _ _ c.bytes.result.now c.requires.tree c.bytes.ensures
+
+pub unreachable-requires : goal.unreachable-requires
+unreachable-requires g t c =
+    let found = found_leaf (g.B.BlockStore.blocks c.args.store.now) c.args.at c.bytes.result.now c.args.rest.now c.requires.tree c.bytes.ensures c.in-Leaf.field-0 c.in-Leaf.ensures in
+    let both = sym found ∙ c.requires.missing in cc
+
+pub add_below-requires : goal.add_below-requires
+add_below-requires g t c κs within =
+    let all = take_rest c.args.rest.now c.in-Link.from in
+    let b = g.B.BlockStore.blocks c.args.store.now in
+    let less = shorter _ _ c.args.rest.now _ _ t c.decreases c.in-Link.ensures in
+    let found = found_link b c.args.at c.bytes.result.now c.args.rest.now c.requires.tree c.bytes.ensures c.in-Link.place c.in-Link.from c.in-Link.to c.in-Link.ensures in (
+      subst (λ xs. length xs < t) (sym all) less,
+      (
+        within,
+        (
+          rw all ((link_below b c.args.at c.bytes.result.now c.args.rest.now c.requires.tree c.bytes.ensures c.in-Link.place c.in-Link.from c.in-Link.to c.in-Link.ensures).tree),
+          (
+            rw all (own_below b c.args.at c.in-Link.to c.bytes.result.now c.args.rest.now c.in-Link.place c.in-Link.from c.requires.tree c.bytes.ensures c.in-Link.ensures c.requires.owned),
+            (
+              rw all (omega (arith, c.decreases)),
+              rw all (sym found ∙ c.requires.missing),
+            ),
+          ),
+        ),
+      ),
+    )
+
+pub relink-requires : goal.relink-requires
+relink-requires g t c =
+    let b = g.B.BlockStore.blocks c.args.store.now in
+    let mid = g.B.BlockStore.blocks c.add_below.new.store in
+    let below = rw (take_rest c.args.rest.now c.in-Link.from) at c.in_ok-new-in-Link.ensures.added in
+    let same = kept_block b c.args.at c.in-Link.to c.bytes.result.now c.args.rest.now c.in-Link.place c.in-Link.from c.requires.tree c.bytes.ensures c.in-Link.ensures mid (refs_at (length (drop c.in-Link.from c.args.rest.now)) mid c.in_ok-new-in-Link.new) c.requires.owned below.changes in
+    let ready = link_ready b mid c.args.at c.in-Link.to c.bytes.result.now c.args.rest.now c.in-Link.place c.in-Link.from c.requires.tree c.bytes.ensures c.in-Link.ensures c.requires.short same in
+    record { live = ready.live; inner = ready.inner; place = ready.within }
+
+pub returns-in_ok-new-in-Link-clause-added : goal.returns-in_ok-new-in-Link-clause-added
+returns-in_ok-new-in-Link-clause-added g t c =
+    let b = g.B.BlockStore.blocks c.args.store.now in
+    let mid = g.B.BlockStore.blocks c.add_below.new.store in
+    let below = rw (take_rest c.args.rest.now c.in-Link.from) at c.in_ok-new-in-Link.ensures.added in
+    add_link b mid (g.B.BlockStore.blocks c.relink.new.store) c.args.at c.in-Link.to c.in_ok-new-in-Link.new c.bytes.result.now c.args.rest.now c.in-Link.place c.in-Link.from c.args.value c.requires.tree c.bytes.ensures c.in-Link.ensures c.requires.owned below c.relink.ensures.fits c.relink.ensures.written
+
+pub returns-in_ok-new-in-Link-clause-served : goal.returns-in_ok-new-in-Link-clause-served
+returns-in_ok-new-in-Link-clause-served g t c = Served-then _ _ _ c.in_ok-new-in-Link.ensures.served c.relink.ensures.served

@@ -1,0 +1,40 @@
+use Rattle.std.proofs.Common.{◌∙◌, ap, sym, arith, IsSome, subst, []}
+use Rattle.std.proofs.lemmas.List.{take_rest}
+use Rattle.blocks.proofs.Serve.{Served-next, Served-then}
+use Rattle.rax_packed.specs.Nodes.{Leaf, spelled}
+use Rattle.rax_packed.proofs.Looks.{tree_live}
+use Rattle.rax_packed.proofs.Growths.{puts_none, puts_more, attach_ready, attach_done}
+use Rattle.rax_packed.proofs.grow.attach.Goals as goal
+
+pub bytes-requires : goal.bytes-requires
+bytes-requires g c =
+    let b = g.B.BlockStore.blocks c.args.store.now in
+    let b1 = g.B.BlockStore.blocks c.put_block.new.store in
+    let puts = puts_more b b b1 [] c.in_ok-leaf.leaf c.as_slice.result.now (puts_none b) c.in_ok-leaf.ensures.fresh c.in_ok-leaf.ensures.placed in
+    let was = tree_live _ _ b c.args.at c.requires.tree in
+    subst (λ o. IsSome o) (sym (puts.kept c.args.at was)) was
+
+pub widened-wider-requires : goal.widened-wider-requires
+widened-wider-requires g c =
+    let b = g.B.BlockStore.blocks c.args.store.now in
+    let b1 = g.B.BlockStore.blocks c.put_block.new.store in
+    let puts = puts_more b b b1 [] c.in_ok-leaf.leaf c.as_slice.result.now (puts_none b) c.in_ok-leaf.ensures.fresh c.in_ok-leaf.ensures.placed in
+    let ready = attach_ready b b1 c.args.at c.in_ok-leaf.leaf c.args.rest.now c.args.place c.args.from c.requires.tree c.requires.short c.requires.lacks puts c.bytes.result.now c.bytes.ensures (λ i. omega (arith, c.type_inv.rest i)) in
+    record { inner = ready.0; place = ready.1; room = ready.2 }
+
+pub returns-in-Ok-clause-added : goal.returns-in-Ok-clause-added
+returns-in-Ok-clause-added g c =
+    let b = g.B.BlockStore.blocks c.args.store.now in
+    let b1 = g.B.BlockStore.blocks c.put_block.new.store in
+    let b2 = g.B.BlockStore.blocks c.put_block-2.new.store in
+    let later = g.B.BlockStore.blocks c.give_back.new.self in
+    attach_done b b1 b2 later c.args.at c.in_ok-leaf.leaf c.in-Ok.new c.args.rest.now c.args.place c.args.from c.args.value c.requires.tree c.requires.owned c.requires.lacks
+    c.in_ok-leaf.ensures.fresh c.as_slice.result.now c.in_ok-leaf.ensures.placed (c.as_slice.ensures.value ∙ c.leaf_bytes.ensures.bytes ∙ ap (λ k. spelled (Leaf k c.args.value)) (take_rest c.args.rest.now c.args.from))
+    c.bytes.result.now c.bytes.ensures c.as_slice-2.result.now (c.as_slice-2.ensures.value ∙ c.widened-wider.ensures.bytes)
+    c.in-Ok.ensures.fresh c.in-Ok.ensures.placed c.give_back.ensures.ended (λ i. omega (arith, c.type_inv.rest i)) c.widened-wider.ensures.fits c.leaf_bytes.ensures.fits
+
+pub returns-in-Ok-clause-served : goal.returns-in-Ok-clause-served
+returns-in-Ok-clause-served g c = Served-next _ _ _ (Served-then _ _ _ c.in_ok-leaf.ensures.served c.in-Ok.ensures.served) c.give_back.ensures.step
+
+pub returns-in-Err-clause-served : goal.returns-in-Err-clause-served
+returns-in-Err-clause-served g c = Served-next _ _ _ (Served-then _ _ _ c.in_ok-leaf.ensures.served c.in-Err.ensures.served) c.give_back-in-Err.ensures.step

@@ -1,0 +1,66 @@
+use Rattle.std.proofs.Common.{◌∙◌, ◌+◌, ap, sym, arith, IsSome, subst, []}
+use Rattle.std.proofs.lemmas.List.{take_rest}
+use Rattle.blocks.proofs.Serve.{Served-next, Served-then}
+use Rattle.rax_packed.specs.Nodes.{Leaf, spelled}
+use Rattle.rax_packed.proofs.Looks.{tree_live}
+use Rattle.rax_packed.proofs.Growths.{puts_none, puts_more}
+use Rattle.rax_packed.proofs.Splits.{split_ready, split_done, undone_two}
+use Rattle.rax_packed.proofs.grow.split.Goals as goal
+
+pub bytes-requires : goal.bytes-requires
+bytes-requires g c =
+    let b = g.B.BlockStore.blocks c.args.store.now in
+    let b1 = g.B.BlockStore.blocks c.put_block.new.store in
+    let puts = puts_more b b b1 [] c.in_ok-leaf.leaf c.as_slice.result.now (puts_none b) c.in_ok-leaf.ensures.fresh c.in_ok-leaf.ensures.placed in
+    let was = tree_live _ _ b c.args.at c.requires.tree in
+    subst (λ o. IsSome o) (sym (puts.kept c.args.at was)) was
+
+pub bounds-bytes-shared : goal.bounds-bytes-shared
+bounds-bytes-shared g c =
+    let b = g.B.BlockStore.blocks c.args.store.now in
+    let b1 = g.B.BlockStore.blocks c.put_block.new.store in
+    let puts = puts_more b b b1 [] c.in_ok-leaf.leaf c.as_slice.result.now (puts_none b) c.in_ok-leaf.ensures.fresh c.in_ok-leaf.ensures.placed in
+    (split_ready b b1 c.args.at c.in_ok-leaf.leaf c.args.rest.now c.args.shared c.requires.tree c.requires.short c.requires.parts puts c.bytes.result.now c.bytes.ensures).within
+
+pub shortened-short-requires : goal.shortened-short-requires
+shortened-short-requires g c =
+    let b = g.B.BlockStore.blocks c.args.store.now in
+    let b1 = g.B.BlockStore.blocks c.put_block.new.store in
+    let puts = puts_more b b b1 [] c.in_ok-leaf.leaf c.as_slice.result.now (puts_none b) c.in_ok-leaf.ensures.fresh c.in_ok-leaf.ensures.placed in
+    let ready = split_ready b b1 c.args.at c.in_ok-leaf.leaf c.args.rest.now c.args.shared c.requires.tree c.requires.short c.requires.parts puts c.bytes-2.result.now c.bytes-2.ensures in
+    record { few = ready.node; from = ready.from }
+
+pub returns-in-Err-clause-served : goal.returns-in-Err-clause-served
+returns-in-Err-clause-served g c = Served-next _ _ _ (Served-then _ _ _ c.in_ok-leaf.ensures.served c.in-Err.ensures.served) c.give_back.ensures.step
+
+pub returns-in-Ok-put_block-clause-added : goal.returns-in-Ok-put_block-clause-added
+returns-in-Ok-put_block-clause-added g c =
+    let b = g.B.BlockStore.blocks c.args.store.now in
+    let b1 = g.B.BlockStore.blocks c.put_block.new.store in
+    let b2 = g.B.BlockStore.blocks c.put_block-2.new.store in
+    let b3 = g.B.BlockStore.blocks c.put_block-3.new.store in
+    let later = g.B.BlockStore.blocks c.give_back-in-Ok-put_block.new.self in
+    split_done b b1 b2 b3 later c.args.at c.in_ok-leaf.leaf c.in-Ok.moved c.in-Ok-put_block.new c.args.rest.now c.args.shared c.args.value c.requires.tree c.requires.short c.requires.owned c.requires.parts
+    c.in_ok-leaf.ensures.fresh c.as_slice.result.now c.in_ok-leaf.ensures.placed (c.as_slice.ensures.value ∙ c.leaf_bytes.ensures.bytes ∙ ap (λ k. spelled (Leaf k c.args.value)) (take_rest c.args.rest.now (c.args.shared + 1)))
+    c.bytes.result.now c.bytes-2.result.now c.bytes.ensures c.bytes-2.ensures c.as_slice-2.result.now (c.as_slice-2.ensures.value ∙ c.shortened-short.ensures)
+    c.in-Ok.ensures.fresh c.in-Ok.ensures.placed c.as_slice-3.result.now (c.as_slice-3.ensures.value ∙ c.forked-fork.ensures.bytes)
+    c.in-Ok-put_block.ensures.fresh c.in-Ok-put_block.ensures.placed c.give_back-in-Ok-put_block.ensures.ended
+    (λ i. omega (arith, c.type_inv.rest i)) c.forked-fork.ensures.byte c.forked-fork.ensures.fits.0 c.forked-fork.ensures.fits.1 c.leaf_bytes.ensures.fits
+
+pub returns-in-Ok-put_block-clause-served : goal.returns-in-Ok-put_block-clause-served
+returns-in-Ok-put_block-clause-served g c =
+    Served-next _ _ _ (Served-then _ _ _ (Served-then _ _ _ c.in_ok-leaf.ensures.served c.in-Ok.ensures.served) c.in-Ok-put_block.ensures.served) c.give_back-in-Ok-put_block.ensures.step
+
+pub returns-in-Err-put_block-clause-served : goal.returns-in-Err-put_block-clause-served
+returns-in-Err-put_block-clause-served g c =
+    Served-next _ _ _ (Served-next _ _ _ (Served-then _ _ _ (Served-then _ _ _ c.in_ok-leaf.ensures.served c.in-Ok.ensures.served) c.in-Err-put_block.ensures.served) c.give_back-in-Err-put_block.ensures.step) c.give_back-in-Err-put_block-2.ensures.step
+
+pub returns-in-Err-put_block-clause-err : goal.returns-in-Err-put_block-clause-err
+returns-in-Err-put_block-clause-err g c =
+    let b = g.B.BlockStore.blocks c.args.store.now in
+    let b1 = g.B.BlockStore.blocks c.put_block.new.store in
+    let b2 = g.B.BlockStore.blocks c.put_block-2.new.store in
+    let b3 = g.B.BlockStore.blocks c.give_back-in-Err-put_block.new.self in
+    undone_two b b1 b2 b3 (g.B.BlockStore.blocks c.give_back-in-Err-put_block-2.new.self) c.in_ok-leaf.leaf c.in-Ok.moved c.as_slice.result.now c.as_slice-2.result.now
+    c.in_ok-leaf.ensures.fresh c.in_ok-leaf.ensures.placed c.in-Ok.ensures.fresh c.in-Ok.ensures.placed
+    (rw c.in-Err-put_block.ensures.err_blocks at c.give_back-in-Err-put_block.ensures.ended) c.give_back-in-Err-put_block-2.ensures.ended

@@ -1,0 +1,36 @@
+// Changing what stands at a key.
+
+ghost use Rattle.std.specs.Prelude.{◌≡◌, Some, None, IfSome, IfNone, length};
+ghost use Rattle.blocks.specs.Blocks.{Owned, Served};
+ghost use Rattle.rax_packed.specs.Nodes.{ref_bytes};
+ghost use Rattle.rax_packed.specs.Packed.{value_at, with_entry};
+ghost use Rattle.rax_packed.specs.Trees.{entries_at, refs_at, IsTreeAt, Becomes};
+
+use crate::node::{Way, pack, way_of};
+use blocks::{BlockRef, BlockStore};
+
+/// Puts a value at a key that stands in the tree, and answers what stood there.
+pub(crate) fn set_below<B: BlockStore>(
+    store: &mut B,
+    at: BlockRef,
+    rest: &[u8],
+    value: BlockRef,
+) -> Option<BlockRef>
+    requires tree { IsTreeAt (length rest.now) (B.blocks store.old) at }
+    requires owned { Owned (refs_at (length rest.now) (B.blocks store.old) at) (B.blocks store.old) }
+    ensures old { result ≡ value_at (entries_at (length rest.now) (B.blocks store.old) at) rest.now }
+    ensures set { IfSome result (λ old. Becomes (length rest.now) (B.blocks store.old) (B.blocks store.new) at at
+        (with_entry (entries_at (length rest.now) (B.blocks store.old) at) rest.now value)) }
+    ensures missing { IfNone result (store.new ≡ store.old) }
+    ensures served { Served B.step store.old store.new }
+{
+    match way_of(store.bytes(at), rest) {
+        Way::Leaf(old) => {
+            store.write(at, 2 + rest.len(), &pack(value));
+            Some(old)
+        }
+        Way::Parts(_) => None,
+        Way::Missing(_, _) => None,
+        Way::Link(_, from, to) => set_below(store, to, &rest[from..], value),
+    }
+}

@@ -1,0 +1,153 @@
+//! The map.
+
+ghost use Rattle.std.specs.Prelude.{◌≡◌, Some, None, [], true, false, IfOk, OnOk, OnErr, IfSome, IfNone, OnSome};
+ghost use Rattle.blocks.specs.Blocks.{Blocks, Changes, Served};
+
+use crate::Memory;
+use crate::build::leaf_bytes;
+use crate::cut::cut_below;
+use crate::edit::set_below;
+use crate::grow::add_below;
+use crate::look::find_below;
+use crate::release::release_below;
+use crate::seek::seek_below;
+use blocks::{BlockRef, BlockStore, put_block};
+
+/// An ordered map from keys of sixteen bytes to references, in the order of the keys' bytes. It owns the blocks of its
+/// nodes in the store that each call is lent, and no other block: not those that its values name.
+#[derive(Debug, Drop)]
+pub struct PackedTree {
+    root: Option<BlockRef>,
+}
+
+impl PackedTree {
+    ghost use Rattle.std.specs.Option.{option_map};
+    ghost use Rattle.rax_packed.specs.Packed.{value_at, with_entry, without, nearest};
+    ghost use Rattle.rax_packed.specs.Maps.{entries_of, refs_of, IsSound};
+
+    /// The map of no key. It takes no memory.
+    pub fn new() -> PackedTree
+        ensures entries { (blocks : Blocks) → entries_of blocks result ≡ [] }
+        ensures refs { (blocks : Blocks) → refs_of blocks result ≡ [] }
+        ensures sound { (blocks : Blocks) → IsSound blocks result }
+    {
+        PackedTree { root: None }
+    }
+
+    /// The value at a key, and `None` where the map has no such key.
+    pub fn find<B: BlockStore>(&self, store: &B, key: &[u8; 16]) -> Option<BlockRef>
+        requires { IsSound (B.blocks store.now) self.now }
+        ensures { result ≡ value_at (entries_of (B.blocks store.now) self.now) key.now }
+    {
+        match self.root {
+            None => None,
+            Some(at) => find_below(store, at, key),
+        }
+    }
+
+    /// The least key of the map that is this one or comes after it, in the order of the bytes, and `None` where there is
+    /// none.
+    pub fn seek_at_or_after<B: BlockStore>(&self, store: &B, key: &[u8; 16]) -> Option<[u8; 16]>
+        requires { IsSound (B.blocks store.now) self.now }
+        ensures { result ≡ option_map (λ e. e.key) (nearest true (entries_of (B.blocks store.now) self.now) key.now) }
+    {
+        match self.root {
+            None => None,
+            Some(at) => seek_below(store, at, key, 0, true),
+        }
+    }
+
+    /// The greatest key of the map that is this one or comes before it, in the order of the bytes, and `None` where there
+    /// is none.
+    pub fn seek_at_or_before<B: BlockStore>(&self, store: &B, key: &[u8; 16]) -> Option<[u8; 16]>
+        requires { IsSound (B.blocks store.now) self.now }
+        ensures { result ≡ option_map (λ e. e.key) (nearest false (entries_of (B.blocks store.now) self.now) key.now) }
+    {
+        match self.root {
+            None => None,
+            Some(at) => seek_below(store, at, key, 0, false),
+        }
+    }
+
+    /// Puts a value at a key, and answers what stood there. `Memory` leaves the map and all blocks.
+    pub fn insert<B: BlockStore>(
+        &mut self,
+        store: &mut B,
+        key: &[u8; 16],
+        value: BlockRef,
+    ) -> Result<Option<BlockRef>, Memory>
+        requires { IsSound (B.blocks store.old) self.old }
+        ensures sound { IsSound (B.blocks store.new) self.new }
+        ensures old { IfOk result (λ old. old ≡ value_at (entries_of (B.blocks store.old) self.old) key.now) }
+        ensures inserted { OnOk result (entries_of (B.blocks store.new) self.new ≡ with_entry (entries_of (B.blocks store.old) self.old) key.now value) }
+        ensures changes { Changes (B.blocks store.old) (B.blocks store.new) (refs_of (B.blocks store.old) self.old) (refs_of (B.blocks store.new) self.new) }
+        ensures served { Served B.step store.old store.new }
+
+        // Want of memory changes nothing.
+        ensures err_tree { OnErr result (self.new ≡ self.old) }
+        ensures err_blocks { OnErr result (B.blocks store.new ≡ B.blocks store.old) }
+    {
+        let Some(at) = self.root else {
+            self.root = Some(put_block(store, leaf_bytes(key, value).as_slice())?);
+            return Ok(None);
+        };
+        match set_below(store, at, key, value) {
+            Some(old) => Ok(Some(old)),
+            None => {
+                self.root = Some(add_below(store, at, key, value)?);
+                Ok(None)
+            }
+        }
+    }
+
+    /// Puts a value at a key that stands in the map, and answers whether it does. It takes no memory.
+    pub fn set<B: BlockStore>(&mut self, store: &mut B, key: &[u8; 16], value: BlockRef) -> bool
+        requires { IsSound (B.blocks store.old) self.old }
+        ensures sound { IsSound (B.blocks store.new) self.new }
+        ensures set { result ≡ true → entries_of (B.blocks store.new) self.new ≡ with_entry (entries_of (B.blocks store.old) self.old) key.now value }
+        ensures missing { result ≡ false → value_at (entries_of (B.blocks store.old) self.old) key.now ≡ None }
+        ensures changes { Changes (B.blocks store.old) (B.blocks store.new) (refs_of (B.blocks store.old) self.old) (refs_of (B.blocks store.new) self.new) }
+        ensures served { Served B.step store.old store.new }
+        ensures unchanged { result ≡ false → B.blocks store.new ≡ B.blocks store.old }
+    {
+        match self.root {
+            None => false,
+            Some(at) => set_below(store, at, key, value).is_some(),
+        }
+    }
+
+    /// Takes a key out, and answers what stood there. It takes no memory.
+    pub fn remove<B: BlockStore>(&mut self, store: &mut B, key: &[u8; 16]) -> Option<BlockRef>
+        requires { IsSound (B.blocks store.old) self.old }
+        ensures sound { IsSound (B.blocks store.new) self.new }
+        ensures old { result ≡ value_at (entries_of (B.blocks store.old) self.old) key.now }
+        ensures removed { entries_of (B.blocks store.new) self.new ≡ without (entries_of (B.blocks store.old) self.old) key.now }
+        ensures changes { Changes (B.blocks store.old) (B.blocks store.new) (refs_of (B.blocks store.old) self.old) (refs_of (B.blocks store.new) self.new) }
+        ensures served { Served B.step store.old store.new }
+    {
+        let Some(at) = self.root else {
+            return None;
+        };
+        let Some(value) = find_below(store, at, key) else {
+            return None;
+        };
+        if cut_below(store, at, key) {
+            self.root = None;
+        }
+        Some(value)
+    }
+
+    /// Gives back all nodes. It takes no memory.
+    pub fn release<B: BlockStore>(self, store: &mut B)
+        requires { IsSound (B.blocks store.old) self }
+        ensures changes { Changes (B.blocks store.old) (B.blocks store.new) (refs_of (B.blocks store.old) self) [] }
+        ensures served { Served B.step store.old store.new }
+    {
+        if let Some(at) = self.root {
+            release_below(store, at, 16);
+        }
+    }
+}
+
+#[cfg(test)]
+mod tests;
