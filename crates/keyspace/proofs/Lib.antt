@@ -1,9 +1,5 @@
-pub mod Lists
-pub mod Tables
-pub mod Searches
-pub mod Edits
-pub mod Bases
-pub mod Calls
 pub mod Uses
 pub mod Running
 pub mod Serving
+pub mod Tables
+pub mod Calls

@@ -1,27 +1,20 @@
 -- When databases over the blocks of a store are sound: they own every live block, and each once.
-use Rattle.std.specs.Prelude.{◌≡◌, ℕ, ◌+◌, ◌≤◌, List, [], length}
+use Rattle.std.specs.Prelude.{List}
 use Rattle.blocks.specs.declared.BlockRef.{BlockRef}
-use Rattle.blocks.specs.Blocks.{Blocks, times, live}
-use Rattle.object_codec.specs.Limits.{AreInRange}
-use Rattle.keyspace.specs.Table.{Keyed}
-use Rattle.keyspace.specs.Databases.{Bases, table_at, owned}
-
--- There are 16 databases, in each the keys are live blocks whose bytes differ, and the limits are in their ranges.
-pub record IsArranged (bases : Bases) (blocks : Blocks) : Type 0 where
-  pub keyed : (db : ℕ) → Keyed blocks (table_at bases db)
-  pub sixteen : length bases.tables ≡ 16
-  pub limits : AreInRange bases.limits
+use Rattle.blocks.specs.Blocks.{Blocks}
+use Rattle.held.specs.Sound as held
+use Rattle.keyspace.specs.Values.{value_refs}
+use Rattle.keyspace.specs.Databases.{Bases}
+pub use Rattle.held.specs.Sound.{IsArranged}
 
 -- The databases, and the values that are out of them with these references, name live blocks, none of them twice.
-pub record IsIntact (bases : Bases) (blocks : Blocks) (out : List BlockRef) : Type 0 where
-  pub owned : (r : BlockRef) → times r (owned bases) + times r out ≤ live blocks r
-  pub arranged : IsArranged bases blocks
+abbrev pub IsIntact : Bases → Blocks → List BlockRef → Type 0
+IsIntact bases blocks out = held.IsIntact value_refs bases blocks out
 
 -- The databases, and the values that are out of them with these references, name each live block exactly once, and no other.
-pub record SoundBeside (bases : Bases) (blocks : Blocks) (out : List BlockRef) : Type 0 where
-  pub owns : (r : BlockRef) → times r (owned bases) + times r out ≡ live blocks r
-  pub arranged : IsArranged bases blocks
+abbrev pub SoundBeside : Bases → Blocks → List BlockRef → Type 0
+SoundBeside bases blocks out = held.SoundBeside value_refs bases blocks out
 
 -- The databases name each live block exactly once, and no other.
 abbrev pub Sound : Bases → Blocks → Type 0
-Sound bases blocks = SoundBeside bases blocks []
+Sound bases blocks = held.Sound value_refs bases blocks

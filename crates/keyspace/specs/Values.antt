@@ -1,10 +1,13 @@
 -- What a value over the blocks of a store means, and the blocks that it owns: a line for each type of value.
 use Rattle.std.specs.Prelude.{List}
+use Rattle.std.proofs.Common.{ap}
 use Rattle.blocks.specs.declared.BlockRef.{BlockRef}
 use Rattle.blocks.specs.Blocks.{Blocks}
 use Rattle.string_object.specs.Text.{text_bytes, text_refs}
-use Rattle.plain_model.specs.Worlds.{Str}
-use Rattle.plain_model.specs.Worlds as model
+use Rattle.string_object.proofs.Texts.{text-own}
+use Rattle.held.specs.Databases.{ReadsOwn}
+use Rattle.plain_world.specs.Worlds.{Str}
+use Rattle.plain_world.specs.Worlds as model
 use Rattle.keyspace.specs.declared.value.Value.{Value}
 use Rattle.keyspace.specs.declared.value.Value.TheVariants.{Text}
 
@@ -15,3 +18,7 @@ value_of blocks (Text text) = Str (text_bytes blocks text)
 -- the references that it owns
 abbrev pub value_refs : Value → List BlockRef
 value_refs (Text text) = text_refs text
+
+-- what it means is read out of its own blocks
+pub value_own : ReadsOwn value_refs value_of
+value_own m after (Text text) same = ap Str (text-own m after text same)

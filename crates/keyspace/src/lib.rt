@@ -1,14 +1,19 @@
 //! The sixteen databases of a server over a block store: every key and value stands in its blocks.
 #![tactic(auto)]
 
-mod databases;
-mod keyspace;
-mod table;
+mod kind;
 #[cfg(test)]
 mod tests;
 mod value;
 
-pub use databases::Databases;
-pub use keyspace::{Keyspace, Lifted};
-pub use table::Element;
+pub use held::Element;
 pub use value::Value;
+
+/// A store, and the databases over it.
+pub type Keyspace<B> = held::Keyspace<Value, B>;
+
+/// The 16 databases.
+pub type Databases = held::Databases<Value>;
+
+/// A value taken out of its place.
+pub type Lifted = held::Lifted<Value>;

@@ -1,8 +1,5 @@
-ghost use Rattle.std.specs.Prelude.{◌≡◌, []};
-ghost use Rattle.blocks.specs.Blocks.{Changes, Owned, Served};
-ghost use Rattle.keyspace.specs.Values.{value_refs};
+ghost use Rattle.std.specs.Prelude.{◌≡◌};
 
-use blocks::BlockStore;
 use string_object::Text;
 
 /// A value. It owns its blocks in the store that each call is lent, and no other block.
@@ -30,17 +27,6 @@ impl Value {
     {
         match self {
             Value::Text(text) => text,
-        }
-    }
-
-    /// Gives back all blocks of the value.
-    pub fn release<B: BlockStore>(self, store: &mut B)
-        requires { Owned (value_refs self) (B.blocks store.old) }
-        ensures changes { Changes (B.blocks store.old) (B.blocks store.new) (value_refs self) [] }
-        ensures served { Served B.step store.old store.new }
-    {
-        match self {
-            Value::Text(text) => text.release(store),
         }
     }
 }

@@ -1,0 +1,121 @@
+-- For whoever calls a keyspace: what a command function needs to say that the keyspace is sound after it, and which
+-- world it leaves. Each lemma takes the clauses of the calls as they stand.
+use Rattle.std.proofs.Common.{Some, None, ◌≡◌, ℕ, ◌+◌, ◌≤◌, List, [], ◌++◌, Option, sym, ap, ◌∙◌, subst, arith}
+use Rattle.blocks.specs.declared.BlockRef.{BlockRef}
+use Rattle.blocks.specs.Blocks.{Blocks, times, Changes, Owned}
+use Rattle.blocks.proofs.Times.{times-append}
+use Rattle.std.proofs.lemmas.Bool.{cond-true}
+use Rattle.blocks.proofs.Refs.{ref_eq-refl}
+use Rattle.blocks.proofs.Change.{one, Counts-changed}
+use Rattle.plain_world.specs.Worlds.{Value, Entry, World, look, put}
+use Rattle.plain_world.specs.Worlds as model
+use Rattle.held.specs.declared.keyspace.Lifted.{Lifted}
+use Rattle.held.specs.Databases.{ReadsOwn, Bases, means}
+use Rattle.held.specs.Sound.{IsIntact, Sound, SoundBeside}
+use Rattle.held.specs.Calls.{IsPlace, IsVacant, Lifts, AreParts}
+use Rattle.held.proofs.Bases.{arranged_out, means_out, kept_inside, sound_intact}
+use Rattle.held.proofs.Calls.{live_means, item_owned, no_deadline, put_twice, look_put}
+
+module _ {V : Type 0} (refs_of : V → List BlockRef) (value_of : Blocks → V → Value) (own : ReadsOwn refs_of value_of) where
+  -- what each call asks follows from soundness
+  pub Sound-intact : (bases : Bases V) (m : Blocks) (out : List BlockRef) → SoundBeside refs_of bases m out → IsIntact refs_of bases m out
+  Sound-intact = sound_intact refs_of value_of own
+
+  -- nothing is gone at any moment, so the live world is the whole one
+  pub Live-means : (db : ℕ) (bases : Bases V) (m : Blocks) (moment : ℕ) → model.live (means value_of db bases m) moment ≡ means value_of db bases m
+  Live-means = live_means refs_of value_of own
+
+  -- what stands at a key has no deadline yet
+  pub No-deadline : (db : ℕ) (bases : Bases V) (m : Blocks) (moment : ℕ) (key : List ℕ) (e : Entry) → look (model.live (means value_of db bases m) moment) key ≡ Some e → e.deadline ≡ None
+  No-deadline = no_deadline refs_of value_of own
+
+  -- what was put at a key stands there, and what is put there next takes its place
+  pub Look-put : (w : World) (key : List ℕ) (a : Entry) → look (put w key a) key ≡ Some a
+  Look-put = look_put refs_of value_of own
+
+  pub Put-twice : (w : World) (key : List ℕ) (a b : Entry) → put (put w key a) key b ≡ put w key b
+  Put-twice = put_twice refs_of value_of own
+
+  -- ---- what is out of the databases changes: a value is made, changed or released
+
+  module _ (bases : Bases V) (m after : Blocks) (out later xs ys : List BlockRef) (sound : SoundBeside refs_of bases m out) (p : Changes m after xs ys) (part : (r : BlockRef) → times r xs ≤ times r out) where
+    pub Changed-sound : ((r : BlockRef) → times r later + times r xs ≡ times r out + times r ys) → SoundBeside refs_of bases after later
+    Changed-sound same = record {
+      owns = λ r. omega (arith, sound.owns r, same r, (Counts-changed m after xs ys (λ q. omega (arith, sound.owns q, part q)) p).balance r);
+      arranged = arranged_out refs_of value_of own bases m after out xs ys (sound_intact refs_of value_of own bases m out sound) p part;
+    }
+
+    pub Changed-means : (db : ℕ) → means value_of db bases after ≡ means value_of db bases m
+    Changed-means db = means_out refs_of value_of own bases m after out xs ys (sound_intact refs_of value_of own bases m out sound) p part db
+
+  -- ---- a value is made and put in place of what stands at a key
+
+  module _ (bases : Bases V) (m after : Blocks) (value : V) (sound : Sound refs_of bases m) (p : Changes m after [] (refs_of value)) where
+    pub Made-sound : SoundBeside refs_of bases after (refs_of value)
+    Made-sound = Changed-sound bases m after [] (refs_of value) [] (refs_of value) sound p (λ r. omega arith) (λ r. omega arith)
+
+    -- what `put` asks
+    pub Made-intact : IsIntact refs_of bases after (refs_of value)
+    Made-intact = sound_intact refs_of value_of own bases after (refs_of value) Made-sound
+
+    pub Made-means : (db : ℕ) → means value_of db bases after ≡ means value_of db bases m
+    Made-means db = Changed-means bases m after [] (refs_of value) [] (refs_of value) sound p (λ r. omega arith) db
+
+    module _ (new : Bases V) (later : Blocks) where
+      -- from the clause `sound` of `put`
+      pub Put-sound : ((all out : List BlockRef) → SoundBeside refs_of bases after all → AreParts all (refs_of value) out → SoundBeside refs_of new later out) → Sound refs_of new later
+      Put-sound clause = clause (refs_of value) [] Made-sound (λ r. omega arith)
+
+      -- from the clause `means` of `put`, or its clause `kept`: the world that the step speaks of
+      pub Put-means : (db moment : ℕ) (key : List ℕ) (entry : Entry) → means value_of db new later ≡ put (means value_of db bases after) key entry → means value_of db new later ≡ put (model.live (means value_of db bases m) moment) key entry
+      Put-means db moment key entry clause = clause ∙ ap (λ w. put w key entry) (Made-means db ∙ sym (live_means refs_of value_of own db bases m moment))
+
+      pub Put-kept : (db moment : ℕ) → means value_of db new later ≡ means value_of db bases after → means value_of db new later ≡ model.live (means value_of db bases m) moment
+      Put-kept db moment clause = clause ∙ Made-means db ∙ sym (live_means refs_of value_of own db bases m moment)
+
+  -- ---- a value is lifted, changed and lowered again
+
+  module _ (old mid : Bases V) (m after : Blocks) (db moment : ℕ) (key : List ℕ) (lifted changed : Lifted V) (out : List BlockRef) (lifts : Lifts refs_of value_of old mid m db key moment lifted) (sound : SoundBeside refs_of mid m (refs_of lifted.value ++ out))
+      (p : Changes m after (refs_of lifted.value) (refs_of changed.value)) (same_db : changed.db ≡ lifted.db) (same_item : changed.item ≡ lifted.item) where
+    part : (r : BlockRef) → times r (refs_of lifted.value) ≤ times r (refs_of lifted.value ++ out)
+    part r = omega (arith, times-append r (refs_of lifted.value) out)
+
+    changed_sound : SoundBeside refs_of mid after (refs_of changed.value ++ out)
+    changed_sound = Changed-sound mid m after (refs_of lifted.value ++ out) (refs_of changed.value ++ out) (refs_of lifted.value) (refs_of changed.value) sound p part
+        (λ r. omega (arith, times-append r (refs_of lifted.value) out, times-append r (refs_of changed.value) out))
+
+    -- what `lower` asks
+    pub Lower-intact : IsIntact refs_of mid after (refs_of changed.value)
+    Lower-intact = record { owned = λ r. omega (arith, changed_sound.owns r, times-append r (refs_of changed.value) out); arranged = changed_sound.arranged }
+
+    pub Lower-vacant : IsVacant refs_of mid changed.db changed.item
+    Lower-vacant = subst (λ d. IsVacant refs_of mid d changed.item) (sym (same_db ∙ lifts.same_db)) (subst (IsVacant refs_of mid db) (sym same_item) lifts.vacant)
+
+    -- the place is that of the key still
+    place : IsPlace mid after changed.db changed.item key lifts.deadline
+    place =
+        subst (λ d. IsPlace mid after d changed.item key lifts.deadline) (sym (same_db ∙ lifts.same_db)) (subst (λ at. IsPlace mid after db at key lifts.deadline) (sym same_item) (record {
+          element = lifts.place.element;
+          found = lifts.place.found;
+          bytes = kept_inside refs_of value_of own mid m after (refs_of lifted.value ++ out) (refs_of lifted.value) (refs_of changed.value) (sound_intact refs_of value_of own mid m (refs_of lifted.value ++ out) sound) p part lifts.place.element.key
+              (omega (arith, key_itself lifts.place.element.key, item_owned refs_of value_of own mid db lifted.item lifts.place.element lifts.place.element.key lifts.place.found)) ∙ lifts.place.bytes;
+          lasts = lifts.place.lasts;
+        }))
+      where
+        key_itself : (r : BlockRef) → one r r ≡ 1
+        key_itself r = cond-true _ _ _ (ref_eq-refl r)
+
+    module _ (new : Bases V) where
+      -- from the clause `sound` of `lower`
+      pub Lower-sound : ((all rest : List BlockRef) → SoundBeside refs_of mid after all → AreParts all (refs_of changed.value) rest → SoundBeside refs_of new after rest) → SoundBeside refs_of new after out
+      Lower-sound clause = clause (refs_of changed.value ++ out) out changed_sound (λ r. times-append r (refs_of changed.value) out)
+
+      -- from the clause `means` of `lower`: the value stands at the key, with the deadline that was there
+      pub Lower-means : ((k : List ℕ) (deadline : Option ℕ) → IsPlace mid after changed.db changed.item k deadline → means value_of changed.db new after ≡ put (means value_of changed.db mid after) k (record { value = value_of after changed.value; deadline = deadline }))
+          → means value_of db new after ≡ put (model.live (means value_of db old m) moment) key (record { value = value_of after changed.value; deadline = lifts.deadline })
+      Lower-means clause =
+          let entry : Entry = record { value = value_of after changed.value; deadline = lifts.deadline } in
+          subst (λ d. means value_of d new after ≡ put (means value_of d mid after) key entry) (same_db ∙ lifts.same_db) (clause key lifts.deadline place)
+          ∙ ap (λ w. put w key entry) (means_out refs_of value_of own mid m after (refs_of lifted.value ++ out) (refs_of lifted.value) (refs_of changed.value) (sound_intact refs_of value_of own mid m (refs_of lifted.value ++ out) sound) p part db)
+          ∙ lifts.back entry
+          ∙ ap (λ w. put w key entry) (sym (live_means refs_of value_of own db old m moment))

@@ -1,0 +1,6 @@
+pub mod Each
+pub mod Table
+pub mod Databases
+pub mod Sound
+pub mod Worlds
+pub mod Calls

@@ -1,0 +1,12 @@
+//! The sixteen databases of a server over a block store, whatever type their values have.
+#![tactic(auto)]
+
+mod databases;
+mod held;
+mod keyspace;
+mod table;
+
+pub use databases::Databases;
+pub use held::Held;
+pub use keyspace::{Keyspace, Lifted};
+pub use table::Element;

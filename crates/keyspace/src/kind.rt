@@ -1,0 +1,26 @@
+ghost use Rattle.keyspace.specs.Values.{value_refs, value_own};
+ghost use Rattle.keyspace.specs.Values as values;
+
+use crate::Value;
+use blocks::BlockStore;
+use held::Held;
+use string_object::Text;
+
+impl Held for Value {
+    ghost refs_of = { value_refs };
+
+    ghost value_of = { values.value_of };
+
+    ghost reads_own = { value_own };
+
+    // The string of the number 0.
+    fn zero() -> Self {
+        Value::Text(Text::Number(0))
+    }
+
+    fn release<B: BlockStore>(self, store: &mut B) {
+        match self {
+            Value::Text(text) => text.release(store),
+        }
+    }
+}
