@@ -1,3 +1,3 @@
 pub mod Ranges
-pub mod Strings
+pub mod StringLemmas
 pub mod Lowering

@@ -4,12 +4,12 @@ use Rattle.blocks.specs.declared.BlockRef.{BlockRef}
 use Rattle.blocks.specs.Blocks.{Blocks, Changes}
 use Rattle.string_object.specs.declared.text.Text.{Text}
 use Rattle.string_object.specs.Text.{text_bytes, text_refs}
-use Rattle.plain_model.specs.Worlds.{Str, Entry, look, put}
-use Rattle.plain_model.specs.Worlds as model
+use Rattle.plain_world.specs.Worlds.{Str, Entry, look, put}
+use Rattle.plain_world.specs.Worlds as model
 use Rattle.plain_model.specs.StringSteps.{change, deadline_of}
 use Rattle.plain_model.specs.declared.ctx.Ctx.{Ctx}
 use Rattle.keyspace.specs.declared.value.Value.TheVariants as values
-use Rattle.keyspace.specs.declared.keyspace.Lifted.{Lifted}
+use Rattle.keyspace.specs.Calls.{Lifted}
 use Rattle.keyspace.specs.Values.{value_of, value_refs}
 use Rattle.keyspace.specs.Databases.{Bases, means}
 use Rattle.keyspace.specs.Sound.{IsIntact, Sound, SoundBeside}
@@ -21,6 +21,7 @@ use Rattle.cmd_values.specs.Found.{Becomes}
 -- the string of a value, and of what stands at a key
 abbrev value_string : model.Value → List ℕ
 value_string (Str bytes) = bytes
+value_string other = []
 
 abbrev string_of : Option Entry → List ℕ
 string_of None = []

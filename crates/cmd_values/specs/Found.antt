@@ -3,12 +3,15 @@ use Rattle.std.specs.Prelude.{◌≡◌, ◌<◌, ◌^◌, ℕ, ℤ, List, [], �
 use Rattle.blocks.specs.Blocks.{Blocks, Owned}
 use Rattle.string_object.specs.declared.text.Text.{Text}
 use Rattle.string_object.specs.Text.{text_bytes, text_refs}
-use Rattle.plain_model.specs.Worlds.{Str, World, look}
-use Rattle.plain_model.specs.Outcomes.{Outcome, IsRefusal, leaves}
+use Rattle.plain_world.specs.Worlds.{Str, World, look}
+use Rattle.plain_model.specs.Outcomes.{Outcome, leaves}
+use Rattle.plain_model.specs.declared.ctx.Ctx.{Ctx}
+use Rattle.keyspace.specs.Databases.{Keyspace}
+use Rattle.keyspace.specs.Commands.{sight}
 use Rattle.plain_model.specs.StringSteps.{string_outcome, on_string, or_null, string_or_null, number_at, change, ok}
 use Rattle.plain_model.specs.declared.command.StringCommand.{StringCommand}
-use Rattle.plain_model.specs.declared.reply.Part.{Part}
-use Rattle.plain_model.specs.declared.reply.Part.TheVariants.{Null}
+use Rattle.plain_world.specs.declared.reply.Part.{Part}
+use Rattle.plain_world.specs.declared.reply.Part.TheVariants.{Null}
 
 -- the string stands at the key, and its blocks are live
 pub record FoundText (world : World) (blocks : Blocks) (key : List ℕ) (text : Text) : Type 0 where
@@ -55,12 +58,12 @@ abbrev pub values_at : World → List (List ℕ) → List Part
 values_at world keys = map (value_at world) keys
 
 -- from the old world the command gives this reply, and leaves the new one
-abbrev pub Gives : {E : Type 0} → World → StringCommand → World → Result (List Part) E → Type 0
-Gives old command new result = IfOk result (λ reply. string_outcome old command ≡ leaves reply new)
+abbrev pub GivesIn : {E : Type 0} → ℕ → World → StringCommand → World → Result (List Part) E → Type 0
+GivesIn moment old command new result = IfOk result (λ reply. string_outcome moment old command ≡ leaves reply new)
 
--- the reply is no error
-abbrev pub NoRefusal : {E : Type 0} → Result (List Part) E → Type 0
-NoRefusal result = IfOk result (λ reply. IsRefusal reply → ⊥)
+-- from what the old keyspace means the command gives this reply, and leaves what the new one means
+abbrev pub Gives : {S E : Type 0} → (S → Blocks) → Keyspace S → Keyspace S → Ctx → StringCommand → Result (List Part) E → Type 0
+Gives blocks old new at command result = GivesIn at.moment (sight blocks old at) command (sight blocks new at) result
 
 -- the reply of SET: the old value where it is asked for, else OK, or null where nothing is written
 abbrev pub IsSetReply : World → List ℕ → Bool → Bool → List Part → Type 0

@@ -4,10 +4,10 @@ use Rattle.std.specs.Prelude.{◌%◌, ◌-◌, ◌==◌, ◌&&◌, nat_lt, nat_
 use Rattle.std.specs.Result.{MatchResult, IsOkAnd}
 use Rattle.std.proofs.Math.Seq.{drop-cons}
 use Rattle.std.proofs.lemmas.Bool.{eqb-true, leb-true, ltb-true}
-use Rattle.plain_model.specs.Words.{Words}
+use Rattle.plain_world.specs.Words.{Words}
 use Rattle.plain_model.specs.Shapes.{Kind, AllTold, told, all_told, and_then, fixed, repeated, with_choices, Choice, chosen}
-use Rattle.plain_model.specs.declared.refusal.Refusal.{Refusal}
-use Rattle.plain_model.specs.declared.refusal.Refusal.TheVariants.{WrongNumberOfArguments}
+use Rattle.plain_world.specs.declared.refusal.Refusal.{Refusal}
+use Rattle.plain_world.specs.declared.refusal.Refusal.TheVariants.{WrongNumberOfArguments}
 use Rattle.command_table.specs.declared.fault.ReadingFault.{ReadingFault}
 use Rattle.command_table.specs.declared.fault.ReadingFault.TheVariants.{Refused, Memory}
 use Rattle.command_table.specs.Readings.{at, told_at, TellsAs}

@@ -1,12 +1,12 @@
 -- The rows of string commands: what a shape's lemma says of a row.
 use Rattle.std.proofs.Common.{◌≡◌, List, ◌∷◌, length, drop, true, Result, Ok, Err, sym, ap, subst}
 use Rattle.std.specs.Prelude.{◌==◌}
-use Rattle.plain_model.specs.Words.{Words}
+use Rattle.plain_world.specs.Words.{Words}
 use Rattle.plain_model.specs.Shapes.{Kind, AllTold, and_then, fixed}
 use Rattle.plain_model.specs.Meant.{meant}
 use Rattle.plain_model.specs.declared.command.Command.TheVariants.{Strings}
 use Rattle.plain_model.specs.declared.command.StringCommand.{StringCommand}
-use Rattle.plain_model.specs.declared.refusal.Refusal.{Refusal}
+use Rattle.plain_world.specs.declared.refusal.Refusal.{Refusal}
 use Rattle.command_table.specs.declared.fault.ReadingFault.{ReadingFault}
 use Rattle.command_table.specs.declared.fault.ReadingFault.TheVariants.{Refused, Memory}
 use Rattle.command_table.specs.declared.table.StringName.{StringName}

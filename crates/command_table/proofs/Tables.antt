@@ -6,14 +6,14 @@ use Rattle.std.specs.List.{AllByRecursion}
 use Rattle.std.specs.Char.{to_ascii_lowercase}
 use Rattle.std.proofs.lemmas.Bool.{eq-eqb}
 use Rattle.std.proofs.lemmas.Slice.Eq.{bytes_eq-Decides}
-use Rattle.plain_model.specs.Words.{Words, in_lower_case}
+use Rattle.plain_world.specs.Words.{Words, in_lower_case}
 use Rattle.plain_model.specs.StringWords.{string_rows, Row as Definition}
 use Rattle.plain_model.specs.Shapes.{and_then}
 use Rattle.plain_model.specs.Meant.{string_command}
 use Rattle.plain_model.specs.declared.command.Command.{Command}
 use Rattle.plain_model.specs.declared.command.Command.TheVariants.{Strings}
-use Rattle.plain_model.specs.declared.refusal.Refusal.{Refusal}
-use Rattle.plain_model.specs.declared.refusal.Refusal.TheVariants.{UnknownCommand}
+use Rattle.plain_world.specs.declared.refusal.Refusal.{Refusal}
+use Rattle.plain_world.specs.declared.refusal.Refusal.TheVariants.{UnknownCommand}
 use Rattle.command_table.specs.declared.table.Row.{Row}
 use Rattle.command_table.specs.declared.table.Name.{Name}
 use Rattle.command_table.specs.declared.table.Shape.{Shape}

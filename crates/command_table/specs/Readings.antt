@@ -1,12 +1,12 @@
 -- What is read of words.
 use Rattle.std.specs.Prelude.{◌≡◌, ℕ, ◌+◌, List, [], ◌∷◌, slice_index_or, false, codes, Option, Some, None, Result, Ok, Err}
-use Rattle.plain_model.specs.Words.{Words, in_lower_case}
+use Rattle.plain_world.specs.Words.{Words, in_lower_case}
 use Rattle.plain_model.specs.Shapes.{Kind, AllTold, told, and_then, choice_of}
 use Rattle.plain_model.specs.Meant.{meant}
 use Rattle.plain_model.specs.declared.command.Command.{Command}
 use Rattle.plain_model.specs.StringWords.{SetChoices, set_choices}
-use Rattle.plain_model.specs.declared.refusal.Refusal.{Refusal}
-use Rattle.command_table.specs.declared.set_options.SetOptions.{SetOptions}
+use Rattle.plain_world.specs.declared.refusal.Refusal.{Refusal}
+use Rattle.command_table.specs.declared.set_options.SetFlags.{SetFlags}
 use Rattle.command_table.specs.declared.set_options.SetOption.{SetOption}
 use Rattle.command_table.specs.declared.set_options.SetOption.TheVariants as option
 use Rattle.command_table.specs.declared.fault.ReadingFault.{ReadingFault}
@@ -31,7 +31,7 @@ told_at [] words i = Ok tt
 told_at (kind ∷ kinds) words i = and_then (told kind (at words i)) (λ a. and_then (told_at kinds words (i + 1)) (λ rest. Ok (a, rest)))
 
 -- the options of SET, as the definition has them
-abbrev pub choices_of : SetOptions → SetChoices
+abbrev pub choices_of : SetFlags → SetChoices
 choices_of o = record { nx = o.nx; xx = o.xx; get = o.get }
 
 abbrev pub no_choices : SetChoices

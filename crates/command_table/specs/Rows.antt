@@ -1,9 +1,9 @@
 -- Which words each row of the code's table takes.
 use Rattle.std.specs.Prelude.{◌≡◌, ℕ, ◌-◌, ◌%◌, ◌==◌, List, [], ◌∷◌, length, map, Bool, true, false, ◌||◌, ◌&&◌, if◌then◌else◌, bytes_eq, nat_lt, nat_le, Option, Some, None, codes, Err}
-use Rattle.plain_model.specs.Words.{Words, in_lower_case}
+use Rattle.plain_world.specs.Words.{Words, in_lower_case}
 use Rattle.plain_model.specs.StringWords.{string_rows}
 use Rattle.plain_model.specs.Meant.{meant}
-use Rattle.plain_model.specs.declared.refusal.Refusal.TheVariants.{UnknownCommand}
+use Rattle.plain_world.specs.declared.refusal.Refusal.TheVariants.{UnknownCommand}
 use Rattle.command_table.specs.declared.table.Shape.{Shape}
 use Rattle.command_table.specs.declared.table.Shape.TheVariants as shape
 use Rattle.command_table.specs.declared.table.StringName.{StringName}

@@ -1,7 +1,7 @@
 //! The options of SET.
 
 ghost use Rattle.std.specs.Prelude.{◌≡◌, ◌<◌, length, drop, codes, true, if◌then◌else◌};
-ghost use Rattle.plain_model.specs.Words.{in_lower_case};
+ghost use Rattle.plain_world.specs.Words.{in_lower_case};
 ghost use Rattle.plain_model.specs.Shapes.{chosen};
 ghost use Rattle.plain_model.specs.StringWords.{set_choices};
 ghost use Rattle.command_table.specs.Readings.{TellsAs, choices_of, no_choices, IsOption};
@@ -13,7 +13,7 @@ use resp_frames::Request;
 
 /// Which options stand.
 #[derive(Clone, Copy)]
-pub struct SetOptions {
+pub struct SetFlags {
     pub nx: bool,
     pub xx: bool,
     pub get: bool,
@@ -44,11 +44,11 @@ fn option_of(word: &[u8]) -> Option<SetOption>
 }
 
 /// Reads the options, which stand from the fourth word on.
-pub fn read_options(request: &Request<'_>) -> Result<SetOptions, ReadingFault>
+pub fn read_options(request: &Request<'_>) -> Result<SetFlags, ReadingFault>
     requires { 2 < length request.now }
     ensures { TellsAs choices_of (chosen set_choices no_choices 0 (drop 3 request.now)) result }
 {
-    let mut options = SetOptions {
+    let mut options = SetFlags {
         nx: false,
         xx: false,
         get: false,
@@ -65,7 +65,7 @@ pub fn read_options(request: &Request<'_>) -> Result<SetOptions, ReadingFault>
 }
 
 /// When SET writes.
-pub fn condition(options: SetOptions) -> Condition
+pub fn condition(options: SetFlags) -> Condition
     ensures { result ≡ (if options.nx then Condition.IfMissing else (if options.xx then Condition.IfThere else Condition.Always)) }
 {
     if options.nx {

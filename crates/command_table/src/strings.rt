@@ -3,7 +3,8 @@
 ghost use Rattle.std.specs.Prelude.{◌≡◌, ◌<◌, [], ◌∷◌, length, drop, true, ◌==◌, ◌||◌, ◌+◌, nat_le};
 ghost use Rattle.plain_model.specs.Meant.{meant};
 ghost use Rattle.plain_model.specs.Shapes.{Plain, Whole, Offset, and_then, chosen};
-ghost use Rattle.plain_model.specs.StringWords.{longest, set_choices, set_of, set_range_of, decrease_of};
+ghost use Rattle.plain_model.specs.StringWords.{set_choices, set_of, set_range_of, decrease_of};
+ghost use Rattle.plain_world.specs.Words.{longest};
 ghost use Rattle.plain_model.specs.declared.command.Command.TheVariants as commands;
 ghost use Rattle.command_table.specs.Readings.{Tells, TellsAs, at, told_at, no_choices};
 ghost use Rattle.command_table.specs.Rows.{fits, string_row};
@@ -14,12 +15,9 @@ use crate::table::StringName;
 use crate::words::{
     copied, key_and_number, key_and_numbers, key_and_value, number, offset, pairs, words,
 };
-use plain_model::{Refusal, StringCommand};
+use plain_model::{LONGEST, Refusal, SetOptions, StringCommand};
 use resp_frames::Request;
 use std::alloc::Global;
-
-/// The greatest length of a string, in bytes.
-const LONGEST: u64 = 536_870_912;
 
 // SET: a key, a value and options.
 fn set(alloc: Global, request: &Request<'_>) -> Result<StringCommand, ReadingFault>
@@ -31,14 +29,21 @@ fn set(alloc: Global, request: &Request<'_>) -> Result<StringCommand, ReadingFau
         return Err(ReadingFault::Refused(Refusal::Syntax));
     }
     let (key, value) = key_and_value(alloc, request)?;
-    Ok(StringCommand::Set(key, value, condition(options), options.get))
+    Ok(StringCommand::Set(
+        key,
+        value,
+        SetOptions {
+            condition: condition(options),
+            get: options.get,
+        },
+    ))
 }
 
 // Whether a piece that is put at this place ends within the greatest length. An empty one puts nothing.
 fn ends_within(at: u64, piece: &[u8]) -> bool
     ensures { result ≡ ((length piece.now == 0) || nat_le (at + length piece.now) longest) }
 {
-    piece.len() as u64 <= LONGEST.saturating_sub(at)
+    piece.len() as u64 <= (LONGEST as u64).saturating_sub(at)
 }
 
 // SETRANGE: a key, a place and a piece.

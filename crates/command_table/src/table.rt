@@ -1,7 +1,7 @@
 //! The table of commands: a row for each name, under the name's length.
 
 ghost use Rattle.std.specs.Prelude.{◌≡◌, bytes_eq, length};
-ghost use Rattle.plain_model.specs.Words.{in_lower_case};
+ghost use Rattle.plain_world.specs.Words.{in_lower_case};
 ghost use Rattle.command_table.specs.Rows.{fits, found_in, Finds, IsTable};
 
 use self::Name::Strings;

@@ -3,7 +3,7 @@
 ghost use Rattle.std.specs.Prelude.{IsSome};
 
 use crate::{ReadingFault, read};
-use plain_model::{Command, Condition, PairList, StringCommand, WordList};
+use plain_model::{Command, PairList, SetOptions, StringCommand, WordList};
 use resp_frames::Feeder;
 use std::alloc::{AllocError, Global};
 use std::test::Fail;
@@ -194,9 +194,9 @@ fn set_line(
     alloc: Global,
     key: &[u8],
     value: &[u8],
-    condition: Condition,
-    get: bool,
+    options: SetOptions,
 ) -> Result<Vec<u8>, AllocError> {
+    let SetOptions { condition, get } = options;
     let rest = format!(in alloc; "{condition:?} {get}")?;
     line(alloc, "Set", &[key, value, rest.as_bytes()])
 }
@@ -214,8 +214,8 @@ fn piece_line(alloc: Global, key: &[u8], at: u64, piece: &[u8]) -> Result<Vec<u8
 // The command's name, and what it keeps.
 fn spelled(alloc: Global, command: &StringCommand) -> Result<Vec<u8>, AllocError> {
     match command {
-        StringCommand::Set(key, value, condition, get) => {
-            set_line(alloc, key.as_slice(), value.as_slice(), *condition, *get)
+        StringCommand::Set(key, value, options) => {
+            set_line(alloc, key.as_slice(), value.as_slice(), *options)
         }
         StringCommand::MGet(keys) => list_line(alloc, "MGet", keys),
         StringCommand::MSet(pairs) => pairs_line(alloc, "MSet", pairs),

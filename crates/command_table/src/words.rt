@@ -1,7 +1,7 @@
 //! Words of a request, one by one.
 
 ghost use Rattle.std.specs.Prelude.{◌≡◌, ◌<◌, ◌≤◌, [], ◌∷◌, length, drop, bytes_eq, Ok};
-ghost use Rattle.plain_model.specs.Words.{in_lower_case};
+ghost use Rattle.plain_world.specs.Words.{in_lower_case};
 ghost use Rattle.plain_model.specs.Shapes.{Plain, Whole, Offset, told};
 ghost use Rattle.plain_model.specs.StringWords.{pairs_of};
 ghost use Rattle.command_table.specs.Readings.{Tells, TellsAs, at, told_at};

@@ -1,0 +1,220 @@
+-- Commands on strings as steps of the model.
+use Rattle.std.proofs.Common.{◌≡◌, ℕ, ◌<◌, ◌≤◌, refl, length-append, ◌+◌, ◌++◌, length, arith, List, [], ◌∷◌, Option, Some, None, Result, Ok, Err, IfOk, OnOk, sym, ap, subst, ◌∙◌}
+use Rattle.blocks.specs.Blocks.{Blocks, Changes}
+use Rattle.string_object.specs.declared.text.Text.{Text}
+use Rattle.string_object.specs.Text.{text_bytes, text_refs}
+use Rattle.plain_world.specs.Worlds.{World, Value, Str, Entry, look, put, remove}
+use Rattle.plain_world.specs.Parts.{following, AreReplies, IsReply}
+use Rattle.plain_model.specs.Steps.{may}
+use Rattle.plain_model.specs.declared.command.Command.{Command}
+use Rattle.plain_model.specs.declared.command.Command.TheVariants.{Strings}
+use Rattle.plain_model.specs.declared.command.StringCommand.{StringCommand}
+use Rattle.plain_world.specs.declared.reply.Part.{Part}
+use Rattle.plain_world.specs.declared.reply.Part.TheVariants.{Refused, Number, Bulk, Array}
+use Rattle.plain_model.specs.StringSteps.{string_outcome, on_string, or_null, string_part, string_or_null, replace}
+use Rattle.keyspace.proofs.Running.{outcome_is, unchanged}
+use Rattle.plain_model.specs.declared.ctx.Ctx.{Ctx}
+use Rattle.keyspace.specs.declared.value.Value.TheVariants as values
+use Rattle.keyspace.specs.Databases.{Bases, means}
+use Rattle.keyspace.specs.Worlds.{without}
+use Rattle.plain_model.specs.Outcomes.{leaves}
+use Rattle.plain_model.specs.declared.command.StringCommand.TheVariants as strings
+use Rattle.keyspace.specs.Sound.{Sound}
+use Rattle.keyspace.specs.Databases.{Keyspace}
+use Rattle.keyspace.specs.Commands.{seen, sight, Ready, Kept, Runs}
+use Rattle.std.specs.Prelude.{ℤ, pos, max, nat_le, ◌==◌, true, false, if◌then◌else◌, FitsSigned}
+use Rattle.std.specs.Int.{w64}
+use Rattle.std.proofs.lemmas.Bool.{le-leb, ne_eqb}
+use Rattle.int_text.specs.Decimal.{canonical, Reads}
+use Rattle.plain_model.proofs.Asked.{meant_fits}
+use Rattle.plain_model.specs.Meant.{IsAsked}
+use Rattle.std.specs.Prelude.{is_some}
+use Rattle.int_text.proofs.NumberOf.{reads_number_of, fits_to, no_fit}
+use Rattle.plain_model.specs.Outcomes.{Outcome, tells, refused}
+use Rattle.plain_model.specs.StringSteps.{or_empty, append, set_range, change, written_over, deadline_of, plain, counted, count, count_on, number_at}
+use Rattle.plain_world.specs.Words.{longest}
+use Rattle.plain_world.specs.declared.refusal.Refusal.TheVariants.{ValueOutOfRange, Overflow, NotAnInteger}
+use Rattle.cmd_values.proofs.Ranges.{written_length}
+use Rattle.keyspace.proofs.Uses.{Live-means, Put-means, Look-put, Put-twice, No-deadline}
+use Rattle.cmd_values.specs.Found.{GivesIn, Gives, FoundText, IsThere, Becomes, IsBefore, OldValue, NumberAt, values_at}
+
+-- what a command gives is a step of the model
+pub step_of : {E : Type 0} (seed moment : ℕ) (old new : World) (command : Command) (own same : StringCommand) (result : Result (List Part) E)
+    → command ≡ Strings own → own ≡ same → GivesIn moment old same new result → IfOk result (λ reply. may seed old moment command reply new)
+step_of seed moment old new command own same (Ok reply) e f given =
+    subst (λ c. may seed old moment c reply new) (sym (e ∙ ap Strings f)) (outcome_is (string_outcome moment old same) reply new given)
+step_of seed moment old new command own same (Err x) e f given = tt
+
+-- a string that stands at a key
+pub some_before : (world : World) (key bytes : List ℕ) (deadline : Option ℕ) → look world key ≡ Some (record { value = Str bytes; deadline = deadline }) → IsBefore world key (Some bytes)
+some_before world key bytes deadline e = λ answer. ap (λ o. on_string world o answer) e
+
+-- the old value as a reply
+pub old_some : {E : Type 0} (world : World) (blocks : Blocks) (key : List ℕ) (text : Text) (bytes : List ℕ) (result : Result (List Part) E)
+    → FoundText world blocks key text → bytes ≡ text_bytes blocks text → IfOk result (λ reply. reply ≡ Bulk bytes ∷ []) → IfOk result (λ reply. OldValue world key reply)
+old_some world blocks key text bytes (Ok reply) found same is = record {
+  before = Some (text_bytes blocks text);
+  is = some_before world key (text_bytes blocks text) found.deadline found.stands;
+  reply_is = is ∙ ap (λ b. Bulk b ∷ []) same;
+}
+old_some world blocks key text bytes (Err x) found same is = tt
+
+-- a string that was made is put at a key
+pub replaced : {E : Type 0} (at : Ctx) (bases : Bases) (m after : Blocks) (text : Text) (sound : Sound bases m) (p : Changes m after [] (text_refs text)) (new : Bases) (later : Blocks) (key value : List ℕ)
+    → text_bytes after text ≡ value → (result : Result (Unit {0}) E)
+    → OnOk result (means at.db new later ≡ put (means at.db bases after) key (record { value = Str (text_bytes after text); deadline = None }))
+    → OnOk result (seen at new later ≡ replace (seen at bases m) key value)
+replaced at bases m after text sound p new later key value is (Ok u) h =
+    Live-means at.db new later at.moment ∙ Put-means bases m after (values.Text text) sound p new later at.db at.moment key _ h
+    ∙ ap (λ b. replace (seen at bases m) key b) is
+replaced at bases m after text sound p new later key value is (Err x) h = tt
+
+none_in : (value : Value) (n : ℕ) → n + following (string_part value) ≡ n
+none_in (Str bytes) n = omega arith
+none_in other n = omega arith
+
+none_follows : (entry : Option Entry) (n : ℕ) → n + following (string_or_null entry) ≡ n
+none_follows None n = omega arith
+none_follows (Some entry) n = none_in entry.value n
+
+-- an array's values are so many replies
+pub values_are_replies : (world : World) (keys : List (List ℕ)) → AreReplies (length keys) (values_at world keys)
+values_are_replies world [] = tt
+values_are_replies world (key ∷ keys) = subst (λ n. AreReplies n (values_at world keys)) (sym (none_follows (look world key) (length keys))) (values_are_replies world keys)
+
+values_are_one : (world : World) (keys : List (List ℕ)) → IsReply (Array (length keys) ∷ values_at world keys)
+values_are_one world keys = let e : 0 + length keys ≡ length keys = omega arith in subst (λ n. AreReplies n (values_at world keys)) (sym e) (values_are_replies world keys)
+
+-- a head and the values behind it are one reply
+pub values_reply : (world : World) (keys : List (List ℕ)) (first mid new : List Part) → first ≡ [] → mid ≡ first ++ Array (length keys) ∷ [] → new ≡ mid ++ values_at world keys → IsReply new
+values_reply world keys first mid new e f h =
+    let P : List Part → Type 0 = IsReply in
+    subst P (sym (h ∙ ap (λ l. l ++ values_at world keys) (f ∙ ap (λ l. l ++ Array (length keys) ∷ []) e))) (values_are_one world keys)
+
+-- what stood at a key is answered, and removed
+pub removed : (at : Ctx) (bases new : Bases) (m later : Blocks) (key : List ℕ) (reply : List Part)
+    → OldValue (seen at bases m) key reply → means at.db new later ≡ without (means at.db bases m) key
+    → string_outcome at.moment (seen at bases m) (strings.GetDel key) ≡ leaves reply (seen at new later)
+removed at bases new m later key reply old h =
+    let world : seen at new later ≡ remove (seen at bases m) key = Live-means at.db new later at.moment ∙ h ∙ ap (λ w. remove w key) (sym (Live-means at.db bases m at.moment)) in
+    old.is (λ before. leaves (or_null before ∷ []) (remove (seen at bases m) key))
+    ∙ ap (λ r. leaves r (remove (seen at bases m) key)) (sym old.reply_is) ∙ ap (leaves reply) (sym world)
+
+-- ---- APPEND and SETRANGE
+
+there_before : (world : World) (key bytes : List ℕ) → IsThere world key bytes → IsBefore world key (Some bytes)
+there_before world key bytes t = some_before world key bytes t.deadline t.stands
+
+-- a string that is there is appended to
+pub append_some : {E : Type 0} (moment : ℕ) (old new : World) (key tail bytes : List ℕ) (n : ℕ) (result : Result (List Part) E)
+    → IsThere old key bytes → n ≡ length bytes + length tail → n ≤ 536870912 → Becomes old key (λ b. b ++ tail) new
+    → IfOk result (λ reply. reply ≡ Number (pos n) ∷ []) → GivesIn moment old (strings.Append key tail) new result
+append_some moment old new key tail bytes n (Ok reply) there long few becomes is =
+    let len : length (bytes ++ tail) ≡ n = length-append bytes tail ∙ sym long in
+    let fits : nat_le (length (bytes ++ tail)) longest ≡ true = le-leb (length (bytes ++ tail)) longest (omega arith) in
+    there_before old key bytes there (append old key tail)
+    ∙ ap (λ b. if b then leaves (Number (pos (length (bytes ++ tail))) ∷ []) (change old key (bytes ++ tail)) else refused ValueOutOfRange old) fits
+    ∙ ap (λ k. leaves (Number (pos k) ∷ []) (change old key (bytes ++ tail))) len
+    ∙ ap (λ r. leaves r (change old key (bytes ++ tail))) (sym is) ∙ ap (leaves reply) (sym (becomes bytes there))
+append_some moment old new key tail bytes n (Err x) there long few becomes is = tt
+
+-- a piece is written into the string that counts as being there
+written_reply : {E : Type 0} (moment : ℕ) (old new : World) (key piece bytes : List ℕ) (at n : ℕ) (result : Result (List Part) E) (before : Option (List ℕ))
+    → IsBefore old key before → or_empty before ≡ bytes → 0 < length piece → n ≡ max (length bytes) (at + length piece) → new ≡ change old key (written_over bytes at piece)
+    → IfOk result (λ reply. reply ≡ Number (pos n) ∷ []) → GivesIn moment old (strings.SetRange key at piece) new result
+written_reply moment old new key piece bytes at n (Ok reply) before was same some long becomes is =
+    let none : (length piece == 0) ≡ false = ne_eqb (length piece) 0 (λ e. omega arith) in
+    let outcome : List ℕ → Outcome = λ b. leaves (Number (pos (length (written_over b at piece))) ∷ []) (change old key (written_over b at piece)) in
+    was (set_range old key at piece)
+    ∙ ap (λ b. if b then tells (Number (pos (length (or_empty before))) ∷ []) old else outcome (or_empty before)) none
+    ∙ ap outcome same
+    ∙ ap (λ k. leaves (Number (pos k) ∷ []) (change old key (written_over bytes at piece))) (written_length bytes at piece ∙ sym long)
+    ∙ ap (λ r. leaves r (change old key (written_over bytes at piece))) (sym is) ∙ ap (leaves reply) (sym becomes)
+written_reply moment old new key piece bytes at n (Err x) before was same some long becomes is = tt
+
+pub range_some : {E : Type 0} (moment : ℕ) (old new : World) (key piece bytes : List ℕ) (at n : ℕ) (result : Result (List Part) E)
+    → IsThere old key bytes → 0 < length piece → n ≡ max (length bytes) (at + length piece) → Becomes old key (λ b. written_over b at piece) new
+    → IfOk result (λ reply. reply ≡ Number (pos n) ∷ []) → GivesIn moment old (strings.SetRange key at piece) new result
+range_some moment old new key piece bytes at n result there some long becomes is =
+    written_reply moment old new key piece bytes at n result (Some bytes) (there_before old key bytes there) refl some long (becomes bytes there) is
+
+-- the empty string was put first
+pub range_none : {E : Type 0} (moment : ℕ) (old mid new : World) (key piece : List ℕ) (at n : ℕ) (result : Result (List Part) E)
+    → look old key ≡ None → mid ≡ replace old key [] → 0 < length piece → n ≡ at + length piece → Becomes mid key (λ b. written_over b at piece) new
+    → IfOk result (λ reply. reply ≡ Number (pos n) ∷ []) → GivesIn moment old (strings.SetRange key at piece) new result
+range_none moment old mid new key piece at n result none put_first some long becomes is =
+    let empty : Entry = plain [] in
+    let stands : look mid key ≡ Some empty = ap (λ w. look w key) put_first ∙ Look-put old key empty in
+    let written = written_over [] at piece in
+    let world : new ≡ change old key written =
+    becomes [] (record { deadline = None; stands = stands })
+    ∙ ap (λ d. put mid key (record { value = Str written; deadline = d })) (ap deadline_of stands)
+    ∙ ap (λ w. put w key (plain written)) put_first ∙ Put-twice old key empty (plain written)
+    ∙ ap (λ d. put old key (record { value = Str written; deadline = d })) (sym (ap deadline_of none)) in
+    written_reply moment old new key piece [] at n result None (λ answer. ap (λ o. on_string old o answer) none) refl some (omega arith) world is
+
+-- ---- numbers
+
+on_ok : {A E P : Type 0} (result : Result A E) → P → OnOk result P
+on_ok (Ok a) h = h
+on_ok (Err e) h = tt
+
+-- the text of a number is written, with the deadline that was there: none has one yet
+pub number_written : {A E : Type 0} (at : Ctx) (bases new : Bases) (m later : Blocks) (key : List ℕ) (n : ℤ) (result : Result A E)
+    → means at.db new later ≡ put (means at.db bases m) key (plain (canonical n)) → OnOk result (seen at new later ≡ change (seen at bases m) key (canonical n))
+number_written at bases new m later key n result h =
+    let none : (o : Option Entry) → ((e : Entry) → o ≡ Some e → e.deadline ≡ None) → deadline_of o ≡ None = λ o. elim o as (λ p. ((e : Entry) → p ≡ Some e → e.deadline ≡ None) → deadline_of p ≡ None) [
+      | None ↦ λ f. refl
+      | Some e ↦ λ f. f e refl
+    ] in
+    on_ok result (Live-means at.db new later at.moment ∙ h ∙ ap (λ w. put w key (plain (canonical n))) (sym (Live-means at.db bases m at.moment))
+    ∙ ap (λ d. put (seen at bases m) key (record { value = Str (canonical n); deadline = d })) (sym (none (look (seen at bases m) key) (No-deadline at.db bases m at.moment key))))
+
+-- the number at a key, from the text there
+pub number_read : (world : World) (blocks : Blocks) (key : List ℕ) (text : Text) (answer : Option ℤ) → FoundText world blocks key text → Reads (text_bytes blocks text) answer → NumberAt world key answer
+number_read world blocks key text answer found reads = record {
+  before = Some (text_bytes blocks text);
+  is = some_before world key (text_bytes blocks text) found.deadline found.stands;
+  number_is = reads_number_of (text_bytes blocks text) answer reads;
+}
+
+-- a count that fits
+pub counted_on : (old : World) (key : List ℕ) (n : ℤ) → FitsSigned w64 n → counted old key n ≡ leaves (Number n ∷ []) (change old key (canonical n))
+counted_on old key n fits = ap (λ b. if b then leaves (Number n ∷ []) (change old key (canonical n)) else refused Overflow old) (fits_to n fits)
+
+pub not_counted : (old : World) (key : List ℕ) (n : ℤ) → ¬ (FitsSigned w64 n) → counted old key n ≡ refused Overflow old
+not_counted old key n large = ap (λ b. if b then leaves (Number n ∷ []) (change old key (canonical n)) else refused Overflow old) (no_fit n large)
+
+-- no number stands at the key
+pub not_number : {E : Type 0} (old : World) (key : List ℕ) (next : ℤ → ℤ) (result : Result (List Part) E) → NumberAt old key None → IfOk result (λ reply. reply ≡ Refused NotAnInteger ∷ [])
+    → IfOk result (λ reply. count old key next ≡ leaves reply old)
+not_number old key next (Ok reply) at is =
+    at.is (λ before. count_on old key next (number_at before)) ∙ ap (count_on old key next) at.number_is ∙ ap (λ r. leaves r old) (sym is)
+not_number old key next (Err x) at is = tt
+
+-- the new number doesn't fit
+pub overflowed : {E : Type 0} (old : World) (key : List ℕ) (n : ℤ) (next : ℤ → ℤ) (result : Result (List Part) E) → NumberAt old key (Some n) → ¬ (FitsSigned w64 (next n)) → IfOk result (λ reply. reply ≡ Refused Overflow ∷ [])
+    → IfOk result (λ reply. count old key next ≡ leaves reply old)
+overflowed old key n next (Ok reply) at large is =
+    at.is (λ before. count_on old key next (number_at before)) ∙ ap (count_on old key next) at.number_is ∙ not_counted old key (next n) large ∙ ap (λ r. leaves r old) (sym is)
+overflowed old key n next (Err x) at large is = tt
+
+-- a command on strings ran
+pub ran_strings : {S E : Type 0} (blocks : S → Blocks) (step : S → S → Type 0) (old new : Keyspace S) (at : Ctx) (command : Command) (own same : StringCommand) (result : Result (List Part) E)
+    → command ≡ Strings own → own ≡ same → Gives blocks old new at same result → Kept blocks step old new result → Runs blocks step old new at command result
+ran_strings blocks step old new at command own same result e f given kept =
+    record { answers = step_of old.bases.seed at.moment (sight blocks old at) (sight blocks new at) command own same result e f given; kept = kept }
+
+-- a command on strings only looked
+pub looked_strings : {S E : Type 0} (blocks : S → Blocks) (step : S → S → Type 0) (keyspace : Keyspace S) (at : Ctx) (command : Command) (own same : StringCommand) (result : Result (List Part) E)
+    → command ≡ Strings own → own ≡ same → Gives blocks keyspace keyspace at same result → Ready blocks keyspace at → Runs blocks step keyspace keyspace at command result
+looked_strings blocks step keyspace at command own same result e f given ready =
+    ran_strings blocks step keyspace keyspace at command own same result e f given (unchanged blocks step keyspace result ready.sound)
+
+-- what was put stands there
+pub put_there : (old mid : World) (key bytes : List ℕ) → mid ≡ replace old key bytes → is_some (look mid key) ≡ true
+put_there old mid key bytes e = ap is_some (ap (λ w. look w key) e ∙ Look-put old key (plain bytes))
+
+-- the piece of a request's SETRANGE ends at the greatest length at most
+pub asked_fits : (command : Command) (own : StringCommand) (key piece : List ℕ) (at : ℕ) → IsAsked command → command ≡ Strings own → own ≡ strings.SetRange key at piece → 0 < length piece → at + length piece ≤ 536870912
+asked_fits command own key piece at asked e f = meant_fits asked.words (strings.SetRange key at piece) (asked.means ∙ ap Ok (e ∙ ap Strings f))

@@ -1,0 +1,32 @@
+use Rattle.std.proofs.Common.{rules, [], ◌++◌, ap}
+use Rattle.cmd_values.proofs.Lowering.{text_intact, text_sound, text_becomes}
+use Rattle.cmd_values.proofs.strings.changing.append_there.Goals as goal
+
+pub lower-requires-clause-intact : goal.lower-requires-clause-intact
+lower-requires-clause-intact g c =
+    text_intact c.args.at.now _ _ _ _ _ c.args.key.now c.in-Some.lifted c.into_text-text.result c.append-appended.new.self c.into_text-text.ensures (ap g.B.BlockStore.blocks c.in-Some.ensures.store)
+    c.in-Some.ensures.lifts (c.in-Some.ensures.sound [] c.requires.ready.sound) c.append-appended.ensures.changes
+
+pub returns-in-Ok-clause-held : goal.returns-in-Ok-clause-held
+returns-in-Ok-clause-held g c = record {
+  sound =
+      text_sound c.args.at.now _ _ _ _ _ c.args.key.now c.in-Some.lifted c.into_text-text.result c.append-appended.new.self c.into_text-text.ensures (ap g.B.BlockStore.blocks c.in-Some.ensures.store)
+      c.in-Some.ensures.lifts (c.in-Some.ensures.sound [] c.requires.ready.sound) c.append-appended.ensures.changes _ _ (ap g.B.BlockStore.blocks c.lower.ensures.store) c.lower.ensures.sound;
+  served = search rules;
+  settings = search rules;
+}
+
+pub returns-in-Err-clause-held : goal.returns-in-Err-clause-held
+returns-in-Err-clause-held g c = record {
+  sound =
+      text_sound c.args.at.now _ _ _ _ _ c.args.key.now c.in-Some.lifted c.into_text-text.result c.append-appended.new.self c.into_text-text.ensures (ap g.B.BlockStore.blocks c.in-Some.ensures.store)
+      c.in-Some.ensures.lifts (c.in-Some.ensures.sound [] c.requires.ready.sound) c.append-appended.ensures.changes _ _ (ap g.B.BlockStore.blocks c.lower.ensures.store) c.lower.ensures.sound;
+  served = search rules;
+  settings = search rules;
+}
+
+pub returns-in-Ok-clause-becomes : goal.returns-in-Ok-clause-becomes
+returns-in-Ok-clause-becomes g c =
+    text_becomes c.args.at.now c.args.keyspace.now.bases c.lift.new.self.bases _ _ _ c.args.key.now c.in-Some.lifted c.into_text-text.result c.append-appended.new.self c.into_text-text.ensures (ap g.B.BlockStore.blocks c.in-Some.ensures.store)
+    c.in-Some.ensures.lifts (c.in-Some.ensures.sound [] c.requires.ready.sound) c.append-appended.ensures.changes c.lower.new.self.bases _ (ap g.B.BlockStore.blocks c.lower.ensures.store) c.lower.ensures.means
+    (λ bytes. bytes ++ c.args.tail.now) c.in-Ok.ensures.bytes

@@ -1,0 +1,21 @@
+use Rattle.std.proofs.Common.{refl, rules, ap, ◌∙◌}
+use Rattle.std.specs.Prelude.{max, ◌+◌, length}
+use Rattle.keyspace.specs.Commands.{seen}
+use Rattle.cmd_values.proofs.StringLemmas.{put_there, range_none, range_some}
+use Rattle.cmd_values.proofs.strings.changing.setrange.Goals as goal
+
+pub write_there-requires-clause-there : goal.write_there-requires-clause-there
+write_there-requires-clause-there g c =
+    put_there (seen c.args.at.now c.args.keyspace.now.bases (g.B.BlockStore.blocks c.args.keyspace.now.store)) (seen c.args.at.now c.put_string.new.keyspace.bases (g.B.BlockStore.blocks c.put_string.new.keyspace.store))
+    c.args.key.now _ c.in_ok-put_string-in-None.ensures.world
+
+pub returns-in_ok-write_there-in-None-clause-gives : goal.returns-in_ok-write_there-in-None-clause-gives
+returns-in_ok-write_there-in-None-clause-gives g c =
+    range_none c.args.at.now.moment (seen c.args.at.now c.args.keyspace.now.bases (g.B.BlockStore.blocks c.args.keyspace.now.store)) (seen c.args.at.now c.put_string.new.keyspace.bases (g.B.BlockStore.blocks c.put_string.new.keyspace.store)) _ c.args.key.now c.args.piece.now c.args.place _ c.length_reply-in-None.result
+    c.in-None.ensures c.in_ok-put_string-in-None.ensures.world (search rules) refl c.in_ok-write_there-in-None.ensures.becomes c.length_reply-in-None.ensures
+
+pub returns-in_ok-write_there-in-Some-clause-gives : goal.returns-in_ok-write_there-in-Some-clause-gives
+returns-in_ok-write_there-in-Some-clause-gives g c =
+    let there = c.in-Some.ensures in
+    let e = ap (λ n. max n (c.args.place + length c.args.piece.now)) there.2 in
+    range_some c.args.at.now.moment _ _ c.args.key.now c.args.piece.now there.0 c.args.place c.max.result c.length_reply-in-Some.result there.1 (search rules) (c.max.ensures ∙ e) c.in_ok-write_there-in-Some.ensures.becomes c.length_reply-in-Some.ensures

@@ -1,0 +1,16 @@
+use Rattle.std.specs.Prelude.{◌-ℤ◌}
+use Rattle.std.specs.Int.{w64}
+use Rattle.std.proofs.lemmas.Int.{to_z-of_z}
+use Rattle.keyspace.specs.Commands.{seen}
+use Rattle.cmd_values.proofs.StringLemmas.{not_number, overflowed}
+use Rattle.cmd_values.proofs.strings.counting.decrby.Goals as goal
+
+pub returns-in-None-clause-gives : goal.returns-in-None-clause-gives
+returns-in-None-clause-gives g c =
+    not_number (seen c.args.at.now c.args.keyspace.now.bases (g.B.BlockStore.blocks c.args.keyspace.now.store)) c.args.key.now (λ n. n -ℤ c.args.by) c.refused.result c.in-None.ensures c.refused.ensures
+
+pub returns-in-None-checked_sub-clause-gives : goal.returns-in-None-checked_sub-clause-gives
+returns-in-None-checked_sub-clause-gives g c =
+    let typed = rw c.in-Some.is at c.number_at.type_inv in
+    let large = rw (to_z-of_z w64 c.in-Some.n (record { sfits = typed.1.1.1.1.0.1 }), to_z-of_z w64 c.args.by c.ranges.by) at c.in-None-checked_sub.ensures in
+    overflowed (seen c.args.at.now c.args.keyspace.now.bases (g.B.BlockStore.blocks c.args.keyspace.now.store)) c.args.key.now c.in-Some.n (λ n. n -ℤ c.args.by) c.refused-in-None-checked_sub.result c.in-Some.ensures large c.refused-in-None-checked_sub.ensures

@@ -1,0 +1,14 @@
+use Rattle.std.proofs.Common.{[], rules}
+use Rattle.cmd_values.proofs.StringLemmas.{removed}
+use Rattle.cmd_values.proofs.strings.writing.getdel.Goals as goal
+
+pub returns-clause-gives : goal.returns-clause-gives
+returns-clause-gives g c = removed c.args.at.now c.args.keyspace.now.bases c.drop_key.new.self.bases _ _ c.args.key.now c.in_ok-reply.reply c.in_ok-reply.ensures c.drop_key.ensures.means
+
+pub returns-clause-kept : goal.returns-clause-kept
+returns-clause-kept g c = record {
+  refusals = search rules;
+  sound = c.drop_key.ensures.sound [] c.requires.ready.sound;
+  served = c.drop_key.ensures.served;
+  settings = c.drop_key.ensures.settings;
+}

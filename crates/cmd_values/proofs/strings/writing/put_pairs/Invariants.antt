@@ -1,0 +1,20 @@
+use Rattle.std.proofs.Common.{◌≡◌, length}
+use Rattle.blocks.specs.Blocks.{Served}
+use Rattle.plain_model.specs.StringSteps.{replace_all}
+use Rattle.keyspace.specs.Databases.{SameSettings}
+use Rattle.keyspace.specs.Sound.{Sound}
+use Rattle.keyspace.specs.Commands.{seen}
+use Rattle.cmd_values.proofs.strings.writing.put_pairs.Given as goal
+
+abbrev pub invariant-pairs : goal.invariant-pairs
+invariant-pairs g l =
+    let blocks = g.B.BlockStore.blocks in
+    record {
+      world : replace_all (seen l.at l.keyspace.bases (blocks l.keyspace.store)) l.rest ≡ replace_all (seen l.at l.fn.keyspace.bases (blocks l.fn.keyspace.store)) l.pairs;
+      sound : Sound l.keyspace.bases (blocks l.keyspace.store);
+      served : Served g.B.BlockStore.step l.fn.keyspace.store l.keyspace.store;
+      settings : SameSettings l.fn.keyspace.bases l.keyspace.bases;
+    }
+
+abbrev pub decreases-pairs : goal.decreases-pairs
+decreases-pairs g l = length l.rest

@@ -1,0 +1,14 @@
+//! Commands on strings.
+
+mod changing;
+mod counting;
+mod dispatch;
+mod look;
+mod reading;
+mod writing;
+
+pub use changing::{append, setrange};
+pub use counting::{decr, decrby, incr, incrby};
+pub use dispatch::run_strings;
+pub use reading::{get, getrange, mget, strlen};
+pub use writing::{getdel, getset, mset, msetnx, set, setnx};

@@ -1,0 +1,137 @@
+//! Commands that change a part of a string.
+
+ghost use Rattle.std.specs.Prelude.{◌≡◌, ◌<◌, ◌≤◌, ◌+◌, ◌++◌, List, ℕ, [], IfOk, OnOk, length, is_some, true};
+ghost use Rattle.plain_world.specs.Words.{longest};
+ghost use Rattle.plain_world.specs.Worlds.{look};
+ghost use Rattle.plain_model.specs.StringSteps.{written_over};
+ghost use Rattle.plain_model.specs.declared.command.StringCommand.TheVariants as strings;
+ghost use Rattle.keyspace.specs.Commands.{Ready, Held, Kept, sight};
+ghost use Rattle.cmd_values.specs.Found.{Gives, IsThere, Becomes};
+
+use crate::strings::look::{length_at, length_reply, own};
+use crate::strings::writing::put_string;
+use blocks::BlockStore;
+use keyspace::{Keyspace, Lifted, Value};
+use plain_model::{Ctx, LONGEST, Memory, Refusal, Reply};
+
+// Appends to the string at a key.
+fn append_there<B: BlockStore>(
+    keyspace: &mut Keyspace<B>,
+    at: &Ctx,
+    key: &[u8],
+    tail: &[u8],
+) -> Result<(), Memory>
+    requires ready { Ready B.blocks keyspace.old at.now }
+    requires there { is_some (look (sight B.blocks keyspace.old at.now) key.now) ≡ true }
+    requires room { (bytes : List ℕ) → IsThere (sight B.blocks keyspace.old at.now) key.now bytes → length bytes + length tail.now ≤ longest }
+    ensures becomes { OnOk result (Becomes (sight B.blocks keyspace.old at.now) key.now (λ bytes. bytes ++ tail.now) (sight B.blocks keyspace.new at.now)) }
+    ensures held { Held B.blocks B.step keyspace.old keyspace.new }
+{
+    let Some(lifted) = keyspace.lift(at.db, key, at.moment) else {
+        unreachable!();
+    };
+    let Lifted { db, item, value } = lifted;
+    let mut text = value.into_text();
+    let appended = text.append(&mut keyspace.store, tail);
+    let value = Value::Text(text);
+    keyspace.lower(Lifted { db, item, value });
+    match appended {
+        Ok(_) => Ok(()),
+        Err(error) => Err(error),
+    }
+}
+
+// Writes a piece that isn't empty into the string at a key.
+fn write_there<B: BlockStore>(
+    keyspace: &mut Keyspace<B>,
+    at: &Ctx,
+    key: &[u8],
+    place: u64,
+    piece: &[u8],
+) -> Result<(), Memory>
+    requires ready { Ready B.blocks keyspace.old at.now }
+    requires there { is_some (look (sight B.blocks keyspace.old at.now) key.now) ≡ true }
+    requires some { 0 < length piece.now }
+    requires room { place + length piece.now ≤ longest }
+    ensures becomes { OnOk result (Becomes (sight B.blocks keyspace.old at.now) key.now (λ bytes. written_over bytes place piece.now) (sight B.blocks keyspace.new at.now)) }
+    ensures held { Held B.blocks B.step keyspace.old keyspace.new }
+{
+    let Some(lifted) = keyspace.lift(at.db, key, at.moment) else {
+        unreachable!();
+    };
+    let Lifted { db, item, value } = lifted;
+    let mut text = value.into_text();
+    let written = text.set_range(&mut keyspace.store, place, piece);
+    let value = Value::Text(text);
+    keyspace.lower(Lifted { db, item, value });
+    match written {
+        Ok(_) => Ok(()),
+        Err(error) => Err(error),
+    }
+}
+
+/// `APPEND key tail`: the new length in bytes, which is at most 536,870,912.
+#[tactic(auto, using(keyspace::proofs::Serving::nothing))]
+pub fn append<B: BlockStore>(
+    keyspace: &mut Keyspace<B>,
+    at: &Ctx,
+    key: &[u8],
+    tail: &[u8],
+) -> Result<Reply, Memory>
+    requires ready { Ready B.blocks keyspace.old at.now }
+    ensures gives { Gives B.blocks keyspace.old keyspace.new at.now (strings.Append key.now tail.now) result }
+    ensures kept { Kept B.blocks B.step keyspace.old keyspace.new result }
+{
+    let alloc = keyspace.alloc();
+    match length_at(keyspace, at, key) {
+        None => {
+            if tail.len() > LONGEST {
+                return Reply::refused(alloc, Refusal::ValueOutOfRange);
+            }
+            put_string(keyspace, at, key, tail)?;
+            length_reply(alloc, tail.len())
+        }
+        Some(length) => {
+            let length = length + tail.len();
+            if length > LONGEST {
+                return Reply::refused(alloc, Refusal::ValueOutOfRange);
+            }
+            append_there(keyspace, at, key, tail)?;
+            length_reply(alloc, length)
+        }
+    }
+}
+
+/// `SETRANGE key at piece`: the new length in bytes; the piece ends at byte 536,870,912 at most.
+#[tactic(auto, using(keyspace::proofs::Serving::nothing, keyspace::proofs::Serving::both))]
+pub fn setrange<B: BlockStore>(
+    keyspace: &mut Keyspace<B>,
+    at: &Ctx,
+    key: &[u8],
+    place: u64,
+    piece: &[u8],
+) -> Result<Reply, Memory>
+    requires ready { Ready B.blocks keyspace.old at.now }
+    requires room { 0 < length piece.now → place + length piece.now ≤ longest }
+    ensures gives { Gives B.blocks keyspace.old keyspace.new at.now (strings.SetRange key.now place piece.now) result }
+    ensures kept { Kept B.blocks B.step keyspace.old keyspace.new result }
+{
+    let alloc = keyspace.alloc();
+    match length_at(keyspace, at, key) {
+        None => {
+            if piece.is_empty() {
+                return length_reply(alloc, 0);
+            }
+            put_string(keyspace, at, key, &[])?;
+            write_there(keyspace, at, key, place, piece)?;
+            length_reply(alloc, place as usize + piece.len())
+        }
+        Some(length) => {
+            if piece.is_empty() {
+                return length_reply(alloc, length);
+            }
+            write_there(keyspace, at, key, place, piece)?;
+            length_reply(alloc, length.max(place as usize + piece.len()))
+        }
+    }
+}

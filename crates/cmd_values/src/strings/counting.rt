@@ -1,0 +1,116 @@
+//! Commands that count on a string that is a number.
+
+ghost use Rattle.std.specs.Prelude.{◌≡◌, ◌<◌, List, ℕ, ℤ, [], ◌∷◌, IfOk, OnOk};
+ghost use Rattle.int_text.specs.Decimal.{canonical};
+ghost use Rattle.plain_model.specs.StringSteps.{change};
+ghost use Rattle.plain_world.specs.declared.reply.Part.TheVariants as parts;
+ghost use Rattle.plain_model.specs.declared.command.StringCommand.TheVariants as strings;
+ghost use Rattle.keyspace.specs.Commands.{Ready, Held, Kept, sight};
+ghost use Rattle.cmd_values.specs.Found.{Gives, NumberAt};
+
+use crate::strings::look::{own, text_at};
+use blocks::BlockStore;
+use keyspace::{Keyspace, Value};
+use plain_model::{Ctx, Memory, Refusal, Reply, StringCommand};
+use string_object::Text;
+
+// The number that the string at a key is, 0 where there is none.
+fn number_at<B: BlockStore>(keyspace: &Keyspace<B>, at: &Ctx, key: &[u8]) -> Option<i64>
+    requires ready { Ready B.blocks keyspace.now at.now }
+    ensures { NumberAt (sight B.blocks keyspace.now at.now) key.now result }
+{
+    match text_at(keyspace, at, key) {
+        None => Some(0),
+        Some(text) => match text.number(&keyspace.store) {
+            Some(n) => Some(n),
+            None => None,
+        },
+    }
+}
+
+// Lets the text of a number stand at a key, and answers the number.
+fn write_number<B: BlockStore>(
+    keyspace: &mut Keyspace<B>,
+    at: &Ctx,
+    key: &[u8],
+    n: i64,
+) -> Result<Reply, Memory>
+    requires ready { Ready B.blocks keyspace.old at.now }
+    ensures reply { IfOk result (λ reply. reply ≡ parts.Number n ∷ []) }
+    ensures world { OnOk result (sight B.blocks keyspace.new at.now ≡ change (sight B.blocks keyspace.old at.now) key.now (canonical n)) }
+    ensures held { Held B.blocks B.step keyspace.old keyspace.new }
+{
+    let value = Value::Text(Text::Number(n));
+    match keyspace.put(at.db, key, value, None) {
+        Ok(()) => Reply::number(keyspace.alloc(), n),
+        Err(error) => Err(error),
+    }
+}
+
+/// `INCRBY key n`: the number that is n more.
+#[tactic(auto, using(keyspace::proofs::Serving::nothing, crate::proofs::StringLemmas::counted_on, crate::proofs::StringLemmas::not_counted))]
+pub fn incrby<B: BlockStore>(
+    keyspace: &mut Keyspace<B>,
+    at: &Ctx,
+    key: &[u8],
+    by: i64,
+) -> Result<Reply, Memory>
+    requires ready { Ready B.blocks keyspace.old at.now }
+    ensures gives { Gives B.blocks keyspace.old keyspace.new at.now (strings.IncrBy key.now by) result }
+    ensures kept { Kept B.blocks B.step keyspace.old keyspace.new result }
+{
+    match number_at(keyspace, at, key) {
+        None => Reply::refused(keyspace.alloc(), Refusal::NotAnInteger),
+        Some(n) => match n.checked_add(by) {
+            None => Reply::refused(keyspace.alloc(), Refusal::Overflow),
+            Some(next) => write_number(keyspace, at, key, next),
+        },
+    }
+}
+
+/// `DECRBY key n`: the number that is n less.
+#[tactic(auto, using(keyspace::proofs::Serving::nothing, crate::proofs::StringLemmas::counted_on, crate::proofs::StringLemmas::not_counted))]
+pub fn decrby<B: BlockStore>(
+    keyspace: &mut Keyspace<B>,
+    at: &Ctx,
+    key: &[u8],
+    by: i64,
+) -> Result<Reply, Memory>
+    requires ready { Ready B.blocks keyspace.old at.now }
+    ensures gives { Gives B.blocks keyspace.old keyspace.new at.now (strings.DecrBy key.now by) result }
+    ensures kept { Kept B.blocks B.step keyspace.old keyspace.new result }
+{
+    match number_at(keyspace, at, key) {
+        None => Reply::refused(keyspace.alloc(), Refusal::NotAnInteger),
+        Some(n) => match n.checked_sub(by) {
+            None => Reply::refused(keyspace.alloc(), Refusal::Overflow),
+            Some(next) => write_number(keyspace, at, key, next),
+        },
+    }
+}
+
+/// `INCR key`: the number that is one more.
+pub fn incr<B: BlockStore>(
+    keyspace: &mut Keyspace<B>,
+    at: &Ctx,
+    key: &[u8],
+) -> Result<Reply, Memory>
+    requires ready { Ready B.blocks keyspace.old at.now }
+    ensures gives { Gives B.blocks keyspace.old keyspace.new at.now (strings.Incr key.now) result }
+    ensures kept { Kept B.blocks B.step keyspace.old keyspace.new result }
+{
+    incrby(keyspace, at, key, 1)
+}
+
+/// `DECR key`: the number that is one less.
+pub fn decr<B: BlockStore>(
+    keyspace: &mut Keyspace<B>,
+    at: &Ctx,
+    key: &[u8],
+) -> Result<Reply, Memory>
+    requires ready { Ready B.blocks keyspace.old at.now }
+    ensures gives { Gives B.blocks keyspace.old keyspace.new at.now (strings.Decr key.now) result }
+    ensures kept { Kept B.blocks B.step keyspace.old keyspace.new result }
+{
+    decrby(keyspace, at, key, 1)
+}

@@ -1,0 +1,95 @@
+//! The string at a key.
+
+ghost use Rattle.std.specs.Prelude.{◌≡◌, ◌<◌, ◌^◌, [], ◌∷◌, pos, None, IfOk, IfSome, IfNone, length};
+ghost use Rattle.plain_world.specs.Worlds.{look};
+ghost use Rattle.plain_model.specs.declared.command.Command.TheVariants.{Strings};
+ghost use Rattle.plain_world.specs.declared.reply.Part.TheVariants as parts;
+ghost use Rattle.string_object.specs.Text.{text_bytes, text_refs};
+ghost use Rattle.blocks.specs.Blocks.{Owned};
+ghost use Rattle.keyspace.specs.Commands.{Ready, sight};
+ghost use Rattle.cmd_values.specs.Found.{FoundText, HasLength, OldValue};
+
+use blocks::BlockStore;
+use keyspace::{Keyspace, Value};
+use plain_model::{Bytes, Command, Ctx, Memory, Reply, StringCommand};
+use std::alloc::Global;
+use string_object::Text;
+
+/// The command on strings that a command is.
+pub fn own(command: &Command) -> &StringCommand
+    ensures { command.now ≡ Strings result.now }
+{
+    match command {
+        Command::Strings(own) => own,
+    }
+}
+
+/// The string at a key, where there is one.
+pub fn text_at<'a, B: BlockStore>(
+    keyspace: &'a Keyspace<B>,
+    at: &Ctx,
+    key: &[u8],
+) -> Option<&'a Text>
+    requires ready { Ready B.blocks keyspace.now at.now }
+    ensures found { IfSome result (λ text. FoundText (sight B.blocks keyspace.now at.now) (B.blocks keyspace.now.store) key.now text.now) }
+    ensures none { IfNone result (look (sight B.blocks keyspace.now at.now) key.now ≡ None) }
+{
+    match keyspace.look(at.db, key, at.moment) {
+        None => None,
+        Some(Value::Text(text)) => Some(text),
+    }
+}
+
+/// The bytes of a string, on their own.
+pub fn bytes_of<B: BlockStore>(alloc: Global, store: &B, text: &Text) -> Result<Bytes, Memory>
+    requires { Owned (text_refs text.now) (B.blocks store.now) }
+    ensures { IfOk result (λ bytes. bytes ≡ text_bytes (B.blocks store.now) text.now) }
+{
+    let mut room = [0; 20];
+    Bytes::new(alloc, text.bytes(store, &mut room))
+}
+
+/// The length of a string, in bytes.
+pub fn length_of<B: BlockStore>(store: &B, text: &Text) -> usize
+    requires { Owned (text_refs text.now) (B.blocks store.now) }
+    ensures length { result ≡ length (text_bytes (B.blocks store.now) text.now) }
+    ensures few { result < 2 ^ 63 }
+{
+    let mut room = [0; 20];
+    text.bytes(store, &mut room).len()
+}
+
+/// The length in bytes of the string at a key, where there is one.
+pub fn length_at<B: BlockStore>(keyspace: &Keyspace<B>, at: &Ctx, key: &[u8]) -> Option<usize>
+    requires ready { Ready B.blocks keyspace.now at.now }
+    ensures { HasLength (sight B.blocks keyspace.now at.now) key.now result }
+{
+    match text_at(keyspace, at, key) {
+        None => None,
+        Some(text) => Some(length_of(&keyspace.store, text)),
+    }
+}
+
+/// A length in bytes as a reply.
+pub fn length_reply(alloc: Global, length: usize) -> Result<Reply, Memory>
+    requires { length < 2 ^ 63 }
+    ensures { IfOk result (λ reply. reply ≡ parts.Number (pos length) ∷ []) }
+{
+    Reply::number(alloc, length as i64)
+}
+
+/// The string at a key as a reply, or null where there is none.
+pub fn old_value<B: BlockStore>(
+    keyspace: &Keyspace<B>,
+    at: &Ctx,
+    key: &[u8],
+) -> Result<Reply, Memory>
+    requires ready { Ready B.blocks keyspace.now at.now }
+    ensures { IfOk result (λ reply. OldValue (sight B.blocks keyspace.now at.now) key.now reply) }
+{
+    let alloc = keyspace.alloc();
+    match text_at(keyspace, at, key) {
+        None => Reply::null(alloc),
+        Some(text) => Reply::bulk(alloc, bytes_of(alloc, &keyspace.store, text)?),
+    }
+}

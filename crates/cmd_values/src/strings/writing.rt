@@ -1,0 +1,209 @@
+//! Commands that write strings whole.
+
+ghost use Rattle.std.specs.Prelude.{◌≡◌, ◌<◌, ◌≤◌, List, ℕ, Bool, IfOk, OnOk, is_some};
+ghost use Rattle.plain_world.specs.Worlds.{look, remove};
+ghost use Rattle.plain_model.specs.StringSteps.{replace, replace_all, any_there, allows};
+ghost use Rattle.plain_model.specs.declared.command.Condition.{Condition};
+ghost use Rattle.plain_model.specs.declared.command.StringCommand.TheVariants as strings;
+ghost use Rattle.keyspace.specs.Commands.{Ready, Held, Kept, sight};
+ghost use Rattle.cmd_values.specs.Found.{Gives, IsSetReply};
+
+use crate::strings::look::{old_value, own};
+use blocks::BlockStore;
+use keyspace::{Keyspace, Value};
+use plain_model::{Bytes, Condition, Ctx, Line, Memory, Reply, SetOptions};
+use string_object::Text;
+
+/// Lets a string stand at a key, without a deadline.
+pub fn put_string<B: BlockStore>(
+    keyspace: &mut Keyspace<B>,
+    at: &Ctx,
+    key: &[u8],
+    value: &[u8],
+) -> Result<(), Memory>
+    requires ready { Ready B.blocks keyspace.old at.now }
+    ensures world { OnOk result (sight B.blocks keyspace.new at.now ≡ replace (sight B.blocks keyspace.old at.now) key.now value.now) }
+    ensures held { Held B.blocks B.step keyspace.old keyspace.new }
+{
+    let text = Text::make(&mut keyspace.store, value)?;
+    keyspace.put(at.db, key, Value::Text(text), None)
+}
+
+// Whether something stands at a key.
+fn is_there<B: BlockStore>(keyspace: &Keyspace<B>, at: &Ctx, key: &[u8]) -> bool
+    requires ready { Ready B.blocks keyspace.now at.now }
+    ensures { result ≡ is_some (look (sight B.blocks keyspace.now at.now) key.now) }
+{
+    keyspace.look(at.db, key, at.moment).is_some()
+}
+
+// Whether SET writes. Only NX and XX look for the key.
+fn writes<B: BlockStore>(keyspace: &Keyspace<B>, at: &Ctx, key: &[u8], condition: Condition) -> bool
+    requires ready { Ready B.blocks keyspace.now at.now }
+    ensures { result ≡ allows condition (is_some (look (sight B.blocks keyspace.now at.now) key.now)) }
+{
+    match condition {
+        Condition::Always => true,
+        Condition::IfMissing => !is_there(keyspace, at, key),
+        Condition::IfThere => is_there(keyspace, at, key),
+    }
+}
+
+// The reply of SET: the old value where it is asked for, else OK, or null where nothing is written.
+fn set_reply<B: BlockStore>(
+    keyspace: &Keyspace<B>,
+    at: &Ctx,
+    key: &[u8],
+    get: bool,
+    written: bool,
+) -> Result<Reply, Memory>
+    requires ready { Ready B.blocks keyspace.now at.now }
+    ensures { IfOk result (λ reply. IsSetReply (sight B.blocks keyspace.now at.now) key.now get written reply) }
+{
+    if get {
+        return old_value(keyspace, at, key);
+    }
+    if written {
+        return Reply::simple(keyspace.alloc(), Line::ok());
+    }
+    Reply::null(keyspace.alloc())
+}
+
+/// `SET key value [NX or XX] [GET]`: OK, or null where nothing is written; with GET the old value or null.
+#[tactic(auto, using(keyspace::proofs::Serving::nothing))]
+pub fn set<B: BlockStore>(
+    keyspace: &mut Keyspace<B>,
+    at: &Ctx,
+    key: &[u8],
+    value: &[u8],
+    options: SetOptions,
+) -> Result<Reply, Memory>
+    requires ready { Ready B.blocks keyspace.old at.now }
+    ensures gives { Gives B.blocks keyspace.old keyspace.new at.now (strings.Set key.now value.now options) result }
+    ensures kept { Kept B.blocks B.step keyspace.old keyspace.new result }
+{
+    let written = writes(keyspace, at, key, options.condition);
+    let reply = set_reply(keyspace, at, key, options.get, written)?;
+    if written {
+        put_string(keyspace, at, key, value)?;
+    }
+    Ok(reply)
+}
+
+/// `SETNX key value`: 1, or 0 where something stands at the key already, whatever its type.
+#[tactic(auto, using(keyspace::proofs::Serving::nothing))]
+pub fn setnx<B: BlockStore>(
+    keyspace: &mut Keyspace<B>,
+    at: &Ctx,
+    key: &[u8],
+    value: &[u8],
+) -> Result<Reply, Memory>
+    requires ready { Ready B.blocks keyspace.old at.now }
+    ensures gives { Gives B.blocks keyspace.old keyspace.new at.now (strings.SetNx key.now value.now) result }
+    ensures kept { Kept B.blocks B.step keyspace.old keyspace.new result }
+{
+    if is_there(keyspace, at, key) {
+        return Reply::number(keyspace.alloc(), 0);
+    }
+    put_string(keyspace, at, key, value)?;
+    Reply::number(keyspace.alloc(), 1)
+}
+
+/// `GETSET key value`: the old value, or null.
+#[tactic(auto, using(keyspace::proofs::Serving::nothing))]
+pub fn getset<B: BlockStore>(
+    keyspace: &mut Keyspace<B>,
+    at: &Ctx,
+    key: &[u8],
+    value: &[u8],
+) -> Result<Reply, Memory>
+    requires ready { Ready B.blocks keyspace.old at.now }
+    ensures gives { Gives B.blocks keyspace.old keyspace.new at.now (strings.GetSet key.now value.now) result }
+    ensures kept { Kept B.blocks B.step keyspace.old keyspace.new result }
+{
+    let reply = old_value(keyspace, at, key)?;
+    put_string(keyspace, at, key, value)?;
+    Ok(reply)
+}
+
+/// `GETDEL key`: the value, or null; the key is removed.
+#[tactic(auto, using(keyspace::proofs::Serving::nothing))]
+pub fn getdel<B: BlockStore>(
+    keyspace: &mut Keyspace<B>,
+    at: &Ctx,
+    key: &[u8],
+) -> Result<Reply, Memory>
+    requires ready { Ready B.blocks keyspace.old at.now }
+    ensures gives { Gives B.blocks keyspace.old keyspace.new at.now (strings.GetDel key.now) result }
+    ensures kept { Kept B.blocks B.step keyspace.old keyspace.new result }
+{
+    let reply = old_value(keyspace, at, key)?;
+    let _ = keyspace.drop_key(at.db, key);
+    Ok(reply)
+}
+
+// Whether something stands at one of the keys.
+fn is_any_there<B: BlockStore>(keyspace: &Keyspace<B>, at: &Ctx, pairs: &[(Bytes, Bytes)]) -> bool
+    requires ready { Ready B.blocks keyspace.now at.now }
+    ensures { result ≡ any_there (sight B.blocks keyspace.now at.now) pairs.now }
+{
+    let mut rest = pairs;
+    'pairs: while let [pair, others @ ..] = rest {
+        if is_there(keyspace, at, pair.0.as_slice()) {
+            return true;
+        }
+        rest = others;
+    }
+    false
+}
+
+// Lets each string stand at its key, in turn.
+#[tactic(auto, using(keyspace::proofs::Serving::nothing, keyspace::proofs::Serving::both))]
+fn put_pairs<B: BlockStore>(
+    keyspace: &mut Keyspace<B>,
+    at: &Ctx,
+    pairs: &[(Bytes, Bytes)],
+) -> Result<(), Memory>
+    requires ready { Ready B.blocks keyspace.old at.now }
+    ensures world { OnOk result (sight B.blocks keyspace.new at.now ≡ replace_all (sight B.blocks keyspace.old at.now) pairs.now) }
+    ensures held { Held B.blocks B.step keyspace.old keyspace.new }
+{
+    let mut rest = pairs;
+    'pairs: while let Some((pair, others)) = rest.split_first() {
+        put_string(keyspace, at, pair.0.as_slice(), pair.1.as_slice())?;
+        rest = others;
+    }
+    Ok(())
+}
+
+/// `MSET key value..`: OK; each key in turn.
+pub fn mset<B: BlockStore>(
+    keyspace: &mut Keyspace<B>,
+    at: &Ctx,
+    pairs: &[(Bytes, Bytes)],
+) -> Result<Reply, Memory>
+    requires ready { Ready B.blocks keyspace.old at.now }
+    ensures gives { Gives B.blocks keyspace.old keyspace.new at.now (strings.MSet pairs.now) result }
+    ensures kept { Kept B.blocks B.step keyspace.old keyspace.new result }
+{
+    put_pairs(keyspace, at, pairs)?;
+    Reply::simple(keyspace.alloc(), Line::ok())
+}
+
+/// `MSETNX key value..`: 1, or 0 and nothing is written where something stands at one of the keys, whatever its type.
+#[tactic(auto, using(keyspace::proofs::Serving::nothing))]
+pub fn msetnx<B: BlockStore>(
+    keyspace: &mut Keyspace<B>,
+    at: &Ctx,
+    pairs: &[(Bytes, Bytes)],
+) -> Result<Reply, Memory>
+    requires ready { Ready B.blocks keyspace.old at.now }
+    ensures gives { Gives B.blocks keyspace.old keyspace.new at.now (strings.MSetNx pairs.now) result }
+    ensures kept { Kept B.blocks B.step keyspace.old keyspace.new result }
+{
+    if is_any_there(keyspace, at, pairs) {
+        return Reply::number(keyspace.alloc(), 0);
+    }
+    put_pairs(keyspace, at, pairs)?;
+    Reply::number(keyspace.alloc(), 1)
+}
