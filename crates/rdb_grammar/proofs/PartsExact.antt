@@ -1,7 +1,7 @@
 -- Each part is exact, by its build.
 use Rattle.std.proofs.Common.{ℕ}
 use Rattle.std.specs.Int.{Width, w8, w32, w64, byte_len}
-use Rattle.plain_model.specs.Worlds.{Value}
+use Rattle.plain_world.specs.Worlds.{Value}
 use Rattle.rdb_grammar.specs.declared.fault.LoadKind.{LoadKind}
 use Rattle.rdb_grammar.specs.declared.fault.LoadKind.TheVariants as kinds
 use Rattle.rdb_grammar.specs.Format.{Branch, Goes, Refuses}

@@ -1,8 +1,8 @@
 -- A whole file, and what it means (RDB file format, "High level algorithm to parse RDB").
-use Rattle.std.specs.Prelude.{◌≡◌, ◌⊎◌, ℕ, Bool, true, false, Option, Some, None, is_none, List, [], ◌∷◌, length, take, Err, nat_eq, ◌==◌, if◌then◌else◌}
+use Rattle.std.specs.Prelude.{◌≡◌, ◌⊎◌, ℕ, Bool, true, false, Option, Some, None, is_none, List, [], ◌∷◌, length, take, Err, nat_eq, bytes_eq, codes, ◌||◌, ◌==◌, if◌then◌else◌}
 use Rattle.std.specs.Cmp.Lexicographic.{pointwise}
 use Rattle.digests.specs.Crc.{crc_of}
-use Rattle.plain_model.specs.Worlds.{World, Value, new_world, in_time, look, put}
+use Rattle.plain_world.specs.Worlds.{World, Value, new_world, in_time, look, put}
 use Rattle.rdb_grammar.specs.declared.fault.LoadKind.{LoadKind}
 use Rattle.rdb_grammar.specs.declared.fault.LoadKind.TheVariants as kinds
 use Rattle.rdb_grammar.specs.Format.{Format, some_bytes, followed, checked}
@@ -30,9 +30,9 @@ magic = record {
       ⊎ ((is_begun bytes ≡ false) × (kind ≡ kinds.NotRdb) × (left ≡ length bytes));
 }
 
--- `0011`
+-- `0009`, `0010` or `0011`
 abbrev pub is_version : List ℕ → Bool
-is_version text = pointwise nat_eq text (48 ∷ 48 ∷ 49 ∷ 49 ∷ [])
+is_version text = bytes_eq text (codes "0009") || bytes_eq text (codes "0010") || bytes_eq text (codes "0011")
 
 abbrev pub version : Format (List ℕ)
 version = checked kinds.Version 0 is_version (some_bytes 4)

@@ -1,6 +1,6 @@
 -- The items of a file, by their first byte: an opcode, or the type of a value (RDB file format, "Op codes", "Key-value pairs").
 use Rattle.std.specs.Prelude.{ℕ, List, ◌==◌}
-use Rattle.plain_model.specs.Worlds.{Value}
+use Rattle.plain_world.specs.Worlds.{Value}
 use Rattle.rdb_grammar.specs.declared.fault.LoadKind.TheVariants as kinds
 use Rattle.rdb_grammar.specs.Format.{Format, give, followed, checked, Branch, Goes, Refuses, pick, by_first}
 use Rattle.rdb_grammar.specs.Lengths.{a_length}

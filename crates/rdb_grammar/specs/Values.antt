@@ -1,6 +1,6 @@
 -- Values of a file, by their type (RDB file format, "Value type" and "Value encodings").
 use Rattle.std.specs.Prelude.{ℕ, ◌==◌}
-use Rattle.plain_model.specs.Worlds.{Value, Str}
+use Rattle.plain_world.specs.Worlds.{Value, Str}
 use Rattle.rdb_grammar.specs.declared.fault.LoadKind.TheVariants as kinds
 use Rattle.rdb_grammar.specs.Format.{Format, give, followed, Branch, Goes, Refuses, pick}
 use Rattle.rdb_grammar.specs.Strings.{string}

@@ -2,7 +2,7 @@
 use Rattle.std.specs.Prelude.{ℕ, List}
 use Rattle.std.specs.Int.{w8, w16, w32}
 use Rattle.std.specs.Fmt.{signed_decimal}
-use Rattle.plain_model.specs.Worlds.{Value, Str}
+use Rattle.plain_world.specs.Worlds.{Value, Str}
 use Rattle.rdb_grammar.specs.declared.strings.Chunk.{Chunk}
 use Rattle.rdb_grammar.specs.declared.strings.Chunk.TheVariants as chunks
 use Rattle.rdb_grammar.specs.declared.strings.Head.{Head as CodeHead}

@@ -2,7 +2,7 @@
 
 ghost use Rattle.std.specs.Prelude.{◌≡◌, ◌≤◌, ℕ, List, length, take, IfOk, IfErr};
 ghost use Rattle.rdb_grammar.specs.Places.{Stands, Fails};
-ghost use Rattle.rdb_grammar.specs.Files.{magic, version, header, sum_field, ExactlyOne};
+ghost use Rattle.rdb_grammar.specs.Files.{magic, is_version, version, header, sum_field, ExactlyOne};
 ghost use Rattle.rdb_grammar.specs.Gives.{Gives};
 
 use crate::fault::{FileFault, LoadKind, Refused};
@@ -27,11 +27,18 @@ fn magic_of(bytes: &[u8]) -> Result<(&[u8], &[u8]), Refused>
     }
 }
 
+// Whether files of this version are taken.
+fn is_taken(text: &[u8]) -> bool
+    ensures { result ≡ is_version text.now }
+{
+    text == b"0009".as_slice() || text == b"0010".as_slice() || text == b"0011".as_slice()
+}
+
 fn version_of(bytes: &[u8]) -> Result<(&[u8], &[u8]), Refused>
     ensures { Gives (λ x. (x.0.now, x.1.now)) result (version.read bytes.now) }
 {
     let (front, rest) = part_of(bytes, 4)?;
-    if front == b"0011".as_slice() {
+    if is_taken(front) {
         Ok((front, rest))
     } else {
         Err(Refused {
@@ -80,7 +87,7 @@ fn sum_of<'a>(before: &[u8], bytes: &'a [u8]) -> Result<(u64, &'a [u8]), Refused
 
 /// Checks the checksum field that begins at the offset `at`, behind the end of the items: zero, or the CRC-64 of all bytes
 /// before it. Refused exactly by the field's fault. The offset of the byte behind the field is answered.
-pub fn check_sum(bytes: &[u8], at: usize) -> Result<usize, FileFault>
+pub(crate) fn check_sum(bytes: &[u8], at: usize) -> Result<usize, FileFault>
     requires { at ≤ length bytes.now }
     ensures summed { IfOk result (λ next. (sum : ℕ) × Stands (sum_field (take at bytes.now)) sum bytes.now at next) }
     ensures fault { IfErr result (λ e. Fails (sum_field (take at bytes.now)) bytes.now at e.kind e.at) }

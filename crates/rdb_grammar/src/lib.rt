@@ -1,4 +1,4 @@
-//! The parts of a file in the RDB format, version 11, and what a whole file means.
+//! The parts of a file in the RDB format, versions 9 to 11, and what a whole file means.
 #![tactic(auto)]
 
 mod fault;
@@ -10,7 +10,7 @@ mod strings;
 mod values;
 
 pub use fault::{FileFault, ItemFault, LoadKind};
-pub use file::{check_header, check_sum, each_file_has_one_world_or_one_fault};
+pub use file::{check_header, each_file_has_one_world_or_one_fault};
 pub use items::Meaning;
 pub use next::{Item, next_item};
 pub use strings::Chunk;

@@ -2,11 +2,12 @@
 
 ghost use Rattle.std.specs.Prelude.{◌≡◌, ◌≤◌, ℕ, List, length, IfOk, IfErr};
 ghost use Rattle.rdb_grammar.specs.Items.{item};
-ghost use Rattle.rdb_grammar.specs.Places.{Stands};
+ghost use Rattle.rdb_grammar.specs.Places.{Stands, Fails};
 ghost use Rattle.rdb_grammar.specs.Views.{item_of as item_seen};
-ghost use Rattle.rdb_grammar.specs.Gives.{IsItemFault};
+ghost use Rattle.rdb_grammar.specs.Gives.{IsItemAt, SaysFault};
 
-use crate::fault::ItemFault;
+use crate::fault::{FileFault, ItemFault};
+use crate::file::check_sum;
 use crate::items::{Meaning, item_of};
 use std::alloc::Global;
 
@@ -19,20 +20,56 @@ pub struct Item<'a> {
     pub next: usize,
 }
 
-/// The item that begins at the offset `at` of a file's bytes. Refused exactly by the item's first fault.
-pub fn next_item<'a>(_alloc: Global, bytes: &'a [u8], at: usize) -> Result<Item<'a>, ItemFault>
+// The item at an offset, without the checksum field behind the end.
+fn bare_item(bytes: &[u8], at: usize) -> Result<Item<'_>, FileFault>
     requires { at ≤ length bytes.now }
     ensures item { IfOk result (λ x. Stands item (item_seen x.meaning) bytes.now at x.next) }
-    ensures fault { IfErr result (IsItemFault bytes.now at) }
+    ensures fault { IfErr result (λ e. Fails item bytes.now at e.kind e.at) }
 {
     match item_of(&bytes[at..]) {
         Ok((meaning, rest)) => Ok(Item {
             meaning,
             next: bytes.len() - rest.len(),
         }),
-        Err(e) => Err(ItemFault::Refused {
+        Err(e) => Err(FileFault {
             kind: e.kind,
             at: (bytes.len() - e.left) as u64,
         }),
+    }
+}
+
+// The fault of a part.
+fn refused(fault: FileFault) -> ItemFault
+    ensures { result ≡ ItemFault.Refused fault.kind fault.at }
+{
+    ItemFault::Refused {
+        kind: fault.kind,
+        at: fault.at,
+    }
+}
+
+/// The item that begins at the offset `at` of a file's bytes; behind the end of the items its checksum field stands, and
+/// the offset behind that is the next. Refused exactly by the item's first fault, or that field's.
+pub fn next_item<'a>(_alloc: Global, bytes: &'a [u8], at: usize) -> Result<Item<'a>, ItemFault>
+    requires { at ≤ length bytes.now }
+    ensures item { IfOk result (λ x. IsItemAt bytes.now at x.next (item_seen x.meaning)) }
+    ensures fault { IfErr result (SaysFault bytes.now at) }
+{
+    let item = match bare_item(bytes, at) {
+        Ok(item) => item,
+        Err(fault) => return Err(refused(fault)),
+    };
+    match item.meaning {
+        Meaning::End => match check_sum(bytes, item.next) {
+            Ok(next) => Ok(Item {
+                meaning: Meaning::End,
+                next,
+            }),
+            Err(fault) => Err(refused(fault)),
+        },
+        Meaning::Passed => Ok(item),
+        Meaning::Deadline(_) => Ok(item),
+        Meaning::Database(_) => Ok(item),
+        Meaning::Key { .. } => Ok(item),
     }
 }

@@ -32,7 +32,7 @@ fn each_item_of_a_file_is_told_with_the_next_offset(rt: HostRuntime) -> Result<(
     }
     let end = next_item(rt.alloc(), &FILE, 16)?;
     assert!(rt; matches!(end.meaning, Meaning::End));
-    assert_eq!(rt; check_sum(&FILE, end.next)?, 25);
+    assert_eq!(rt; end.next, 25);
     Ok(())
 }
 
@@ -43,13 +43,21 @@ fn the_number_of_a_kind_is_that_of_its_row(rt: HostRuntime) {
 }
 
 #[test]
+fn headers_of_the_versions_that_are_taken(rt: HostRuntime) {
+    for bytes in [b"REDIS0009", b"REDIS0010", b"REDIS0011"] {
+        assert_eq!(rt; check_header(bytes), Ok(9));
+    }
+}
+
+#[test]
 fn headers_are_refused_at_the_byte_that_settles_it(rt: HostRuntime) {
-    let rows: [(&[u8], LoadKind, u64); 6] = [
+    let rows: [(&[u8], LoadKind, u64); 7] = [
         (b"", LoadKind::Ended, 0),
         (b"REDI", LoadKind::Ended, 4),
         (b"REDX", LoadKind::NotRdb, 0),
         (b"REDIS001", LoadKind::Ended, 8),
         (b"REDIS0012", LoadKind::Version, 5),
+        (b"REDIS0008", LoadKind::Version, 5),
         (b"redis0011", LoadKind::NotRdb, 0),
     ];
     for &(bytes, kind, at) in &rows {
@@ -76,23 +84,34 @@ fn items_are_refused_at_the_part_that_is_at_fault(rt: HostRuntime) {
     }
 }
 
+// The sums are worked out bit by bit from the polynomial, as that of `123456789` is e9c6d914c4b8d9ca.
 #[test]
-fn a_checksum_is_zero_or_that_of_the_bytes_before_it(rt: HostRuntime) {
-    let good = *b"123456789\xca\xd9\xb8\xc4\x14\xd9\xc6\xe9";
-    assert_eq!(rt; check_sum(&good, 9), Ok(17));
-    let bad = *b"123456789\xcb\xd9\xb8\xc4\x14\xd9\xc6\xe9";
-    assert_eq!(rt;
-        check_sum(&bad, 9),
-        Err(FileFault {
-            kind: LoadKind::Checksum,
-            at: 9
-        })
-    );
-    assert_eq!(rt;
-        check_sum(&good, 10),
-        Err(FileFault {
-            kind: LoadKind::Ended,
-            at: 17
-        })
-    );
+fn a_checksum_is_zero_or_that_of_the_bytes_before_it(rt: HostRuntime) -> Result<(), Fail> {
+    let good = b"123456789\xff\xac\x37\x72\x25\x2e\x52\x10\x3d".as_slice();
+    let end = next_item(rt.alloc(), good, 9)?;
+    assert!(rt; matches!(end.meaning, Meaning::End));
+    assert_eq!(rt; end.next, 18);
+    let rows: [(&[u8], LoadKind, u64); 3] = [
+        (
+            b"123456789\xff\xad\x37\x72\x25\x2e\x52\x10\x3d",
+            LoadKind::Checksum,
+            10,
+        ),
+        (
+            b"023456789\xff\xac\x37\x72\x25\x2e\x52\x10\x3d",
+            LoadKind::Checksum,
+            10,
+        ),
+        (
+            b"123456789\xff\xac\x37\x72\x25\x2e\x52\x10",
+            LoadKind::Ended,
+            17,
+        ),
+    ];
+    for &(bytes, kind, at) in &rows {
+        assert!(rt; bytes.len() >= 9);
+        let wanted = Some(ItemFault::Refused { kind, at });
+        assert_eq!(rt; next_item(rt.alloc(), bytes, 9).err(), wanted);
+    }
+    Ok(())
 }

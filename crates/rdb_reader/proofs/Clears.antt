@@ -3,7 +3,7 @@ use Rattle.std.proofs.Common.{◌≡◌, inl, inr, ℕ, ◌+◌, ◌<◌, [], ap
 use Rattle.std.proofs.lemmas.Bool.{cases_eq, cases_lt, eq-eqb, ne_eqb, cond-true, cond-false}
 use Rattle.std.proofs.lemmas.List.{get_or_past}
 use Rattle.blocks.specs.Blocks.{Blocks}
-use Rattle.plain_model.specs.Worlds.{World, new_world, no_keys}
+use Rattle.plain_world.specs.Worlds.{World, new_world, no_keys}
 use Rattle.keyspace.specs.Table.{map_of}
 use Rattle.keyspace.specs.Databases.{Bases, entry_of, means}
 use Rattle.keyspace.specs.Sound.{IsArranged}

@@ -2,7 +2,7 @@
 use Rattle.std.proofs.Common.{◌≡◌, ℕ, List, [], None, Bool, true, false, Result, Ok, Err, OnOk, refl, sym, ap, ◌∙◌}
 use Rattle.std.specs.Prelude.{Option, Some, is_some, IfSome, IfNone}
 use Rattle.blocks.specs.Blocks.{Blocks, Changes}
-use Rattle.plain_model.specs.Worlds.{World, Value, Entry, look, put, live}
+use Rattle.plain_world.specs.Worlds.{World, Value, Entry, look, put, live}
 use Rattle.keyspace.specs.declared.value.Value as code
 use Rattle.keyspace.specs.Values as values
 use Rattle.keyspace.specs.Databases.{Bases, means}

@@ -5,7 +5,7 @@ use Rattle.std.specs.FinMap.{get, len, len-insert, len-empty}
 use Rattle.std.specs.Ordering.{nat_cmp}
 use Rattle.std.specs.Cmp.Lexicographic.{slice_cmp, nat_list_cmp_total}
 use Rattle.std.proofs.lemmas.Bool.{eqb-true}
-use Rattle.plain_model.specs.Worlds.{World, Database, Entry, Value, new_world, look, put}
+use Rattle.plain_world.specs.Worlds.{World, Database, Entry, Value, new_world, look, put}
 use Rattle.rdb_grammar.specs.Format.{Branch, Goes, Refuses, BranchSpells, pick, followed, give}
 use Rattle.rdb_grammar.specs.Items.{Item, Passed, Deadline, Database as Base, End, Key, item, database, keyed}
 use Rattle.rdb_grammar.specs.Values.{value_behind}
@@ -16,7 +16,8 @@ use Rattle.rdb_grammar.specs.Files.{new_state, header, after, is_fresh, with_key
 use Rattle.rdb_grammar.proofs.Loading.{begins, goes_on, longer, inside, is_file, item_fault, twice, sum_fault}
 use Rattle.rdb_grammar.specs.declared.fault.ItemFault.{ItemFault}
 use Rattle.rdb_grammar.specs.declared.fault.ItemFault.TheVariants as faults
-use Rattle.rdb_grammar.specs.Gives.{IsItemFault}
+use Rattle.rdb_grammar.specs.Gives.{SaysFault}
+use Rattle.rdb_grammar.specs.Gives.IsItemFault.{OfItem, OfSum}
 use Rattle.rdb_reader.specs.Loads.{Holds, Advances, Reads, load_fault}
 
 -- the items that are taken: no deadline, and no database but the first
@@ -122,13 +123,11 @@ module _ (bytes : List ℕ) (moment at : ℕ) (bases : ℕ → Database) (h : Ho
         let same : file_world h.state ≡ at_zero bases = ap (λ (w : World). at_zero w.bases) h.leads in
         subst P same (is_file bytes moment at h.state next sum last h.reached s k)
 
-    pub sum_wrong : (what : LoadKind) (place : ℕ) → Stands item End bytes at next → Fails (sum_field (take next bytes)) bytes next what place → IsFault bytes moment what place
-    sum_wrong what place s f = sum_fault bytes moment at h.state next what place h.reached s f
-
   -- what a fault of an item makes of loading
-  pub fault_read : (new : World) (f : ItemFault) → IsItemFault bytes at f → Reads bytes moment at (at_zero bases) new (Err (load_fault f))
+  pub fault_read : (new : World) (f : ItemFault) → SaysFault bytes at f → Reads bytes moment at (at_zero bases) new (Err (load_fault f))
   fault_read new faults.Memory i = tt
-  fault_read new (faults.Refused what place) i = item_fault bytes moment at h.state what place h.reached i
+  fault_read new (faults.Refused what place) (OfItem f) = item_fault bytes moment at h.state what place h.reached f
+  fault_read new (faults.Refused what place) (OfSum ended s f) = sum_fault bytes moment at h.state ended what place h.reached s f
 
   pub lies_inside : at ≤ length bytes
   lies_inside = inside bytes moment at h.state h.reached

@@ -1,31 +1,34 @@
 -- The bytes of a host's file.
-use Rattle.std.specs.Prelude.{◌≡◌, ℕ, ◌<◌, ◌≤◌, List, [], ◌++◌, length, Option, Some, None, Result, Ok, Err, ⊤}
+use Rattle.std.specs.Prelude.{◌≡◌, ◌<◌, ◌≤◌, ℕ, List, [], ◌++◌, Option, Some, None, Result, Ok, Err, ⊤, length, true}
+use Rattle.std.specs.Io.KnownBytes.{IsAtEnd}
 use Rattle.std.specs.Global.{Vec}
-use Rattle.std.specs.Io.KnownBytes.{Consumes, IsAtEnd}
+use Rattle.outside.specs.Counts.{Rose}
+use Rattle.outside.specs.Streams.{SourceSeen, TakesAll, TakesNone}
+use Rattle.outside.specs.Files.{Files}
 use Rattle.rdb_reader.specs.declared.fault.LoadFault.{LoadFault}
 use Rattle.rdb_reader.specs.declared.fault.LoadFault.TheVariants as faults
 use Rattle.rdb_reader.specs.declared.fetch.Taken.{Taken}
 use Rattle.rdb_reader.specs.declared.fetch.Taken.TheVariants as taken
 
 -- these are the bytes of the host's file of this name, where they are told
-abbrev pub IsFileOf : Option (List ℕ → Option (List ℕ)) → List ℕ → List ℕ → Type 0
+abbrev pub IsFileOf : Files → List ℕ → List ℕ → Type 0
 IsFileOf None name bytes = ⊤
 IsFileOf (Some files) name bytes = files name ≡ Some bytes
 
 -- a piece was taken and kept
-pub record TakesPiece (left left' : Option (List ℕ)) (most : ℕ) (bytes bytes' : List ℕ) : Type 0 where
+pub record TakesPiece (old new : SourceSeen) (most : ℕ) (bytes bytes' : List ℕ) : Type 0 where
   pub piece : List ℕ
-  pub took : Consumes left left' piece
+  pub took : TakesAll old new piece
   pub some : 0 < length piece
   pub few : length piece ≤ most
   pub kept : bytes' ≡ bytes ++ piece
 
 -- what `take_piece` answers
-abbrev pub Takes : Option (List ℕ) → Option (List ℕ) → ℕ → List ℕ → List ℕ → Type 0 → Taken → Type 0
-Takes left left' most bytes bytes' rose taken.Piece = TakesPiece left left' most bytes bytes'
-Takes left left' most bytes bytes' rose taken.End = Consumes left left' [] × IsAtEnd left' × (bytes' ≡ bytes)
-Takes left left' most bytes bytes' rose taken.Fault = rose
-Takes left left' most bytes bytes' rose taken.Memory = Unit {0}
+abbrev pub Takes : SourceSeen → SourceSeen → ℕ → List ℕ → List ℕ → Taken → Type 0
+Takes old new most bytes bytes' taken.Piece = TakesPiece old new most bytes bytes'
+Takes old new most bytes bytes' taken.End = TakesAll old new [] × IsAtEnd new.told × (bytes' ≡ bytes)
+Takes old new most bytes bytes' taken.Fault = TakesNone old new
+Takes old new most bytes bytes' taken.Memory = new.faults ≡ old.faults
 
 -- these are all the bytes that were left, where they are told
 abbrev pub IsAll : Option (List ℕ) → List ℕ → Type 0
@@ -38,24 +41,32 @@ pub record IsLong (left : Option (List ℕ)) (limit : ℕ) : Type 0 where
   pub whole : IsAll left all
   pub long : limit < length all
 
+-- The count of faults rose exactly where the host failed, as none does that is sure.
+abbrev pub Counts : {A : Type 0} → ℕ → ℕ → Type 0 → Result A LoadFault → Type 0
+Counts before after Sure (Ok x) = after ≡ before
+Counts before after Sure (Err (faults.Refused what at)) = after ≡ before
+Counts before after Sure (Err faults.Host) = Rose before after × (Sure → ⊥)
+Counts before after Sure (Err faults.Limit) = after ≡ before
+Counts before after Sure (Err faults.Memory) = after ≡ before
+
 -- what `take_all` answers
-abbrev pub Fetches : Option (List ℕ) → ℕ → List ℕ → Type 0 → Result (Unit {0}) LoadFault → Type 0
-Fetches left limit bytes rose (Ok x) = IsAll left bytes × (length bytes ≤ limit)
-Fetches left limit bytes rose (Err (faults.Refused what at)) = ⊥
-Fetches left limit bytes rose (Err faults.Host) = rose
-Fetches left limit bytes rose (Err faults.Limit) = IsLong left limit
-Fetches left limit bytes rose (Err faults.Memory) = Unit {0}
+abbrev pub Fetches : Option (List ℕ) → ℕ → List ℕ → Result (Unit {0}) LoadFault → Type 0
+Fetches left limit bytes (Ok x) = IsAll left bytes × (length bytes ≤ limit)
+Fetches left limit bytes (Err (faults.Refused what at)) = ⊥
+Fetches left limit bytes (Err faults.Host) = Unit {0}
+Fetches left limit bytes (Err faults.Limit) = IsLong left limit
+Fetches left limit bytes (Err faults.Memory) = Unit {0}
 
 -- the file has more bytes than so many
-pub record IsLongFile (files : Option (List ℕ → Option (List ℕ))) (name : List ℕ) (limit : ℕ) : Type 0 where
+pub record IsLongFile (files : Files) (name : List ℕ) (limit : ℕ) : Type 0 where
   pub bytes : List ℕ
   pub is : IsFileOf files name bytes
   pub long : limit < length bytes
 
 -- what `fetch` answers
-abbrev pub FetchesFile : Option (List ℕ → Option (List ℕ)) → List ℕ → ℕ → Type 0 → Result (Vec ℕ) LoadFault → Type 0
-FetchesFile files name limit rose (Ok v) = IsFileOf files name v.items × (length v.items ≤ limit)
-FetchesFile files name limit rose (Err (faults.Refused what at)) = ⊥
-FetchesFile files name limit rose (Err faults.Host) = rose
-FetchesFile files name limit rose (Err faults.Limit) = IsLongFile files name limit
-FetchesFile files name limit rose (Err faults.Memory) = Unit {0}
+abbrev pub FetchesFile : Files → List ℕ → ℕ → Result (Vec ℕ) LoadFault → Type 0
+FetchesFile files name limit (Ok v) = IsFileOf files name v.items × (length v.items ≤ limit)
+FetchesFile files name limit (Err (faults.Refused what at)) = ⊥
+FetchesFile files name limit (Err faults.Host) = Unit {0}
+FetchesFile files name limit (Err faults.Limit) = IsLongFile files name limit
+FetchesFile files name limit (Err faults.Memory) = Unit {0}

@@ -1,11 +1,12 @@
 -- What loading does: the file's world or its first fault.
 use Rattle.std.specs.Prelude.{◌≡◌, ℕ, ◌+◌, ◌<◌, ◌≤◌, List, length, Option, None, Result, Ok, Err, Bool, true, false}
 use Rattle.std.specs.FinMap.{len}
-use Rattle.plain_model.specs.Worlds.{World, Value, new_world, look, put}
+use Rattle.plain_world.specs.Worlds.{World, Value, new_world, look, put}
 use Rattle.rdb_grammar.specs.declared.fault.LoadKind.{LoadKind}
 use Rattle.rdb_grammar.specs.declared.fault.ItemFault.{ItemFault}
 use Rattle.rdb_grammar.specs.declared.fault.ItemFault.TheVariants as items
 use Rattle.rdb_grammar.specs.Files.{State, Reached, IsFile, IsFault}
+use Rattle.outside.specs.Files.{Files}
 use Rattle.rdb_reader.specs.Fetching.{IsFileOf, IsLongFile}
 use Rattle.rdb_reader.specs.declared.fault.LoadFault.{LoadFault}
 use Rattle.rdb_reader.specs.declared.fault.LoadFault.TheVariants as faults
@@ -55,7 +56,7 @@ ReadsAll bytes moment new (Err faults.Limit) = ⊥
 ReadsAll bytes moment new (Err faults.Memory) = Unit {0}
 
 -- the file's world is loaded: its keys are all kept, and none is passed over
-pub record LoadsFile (files : Option (List ℕ → Option (List ℕ))) (name : List ℕ) (limit moment : ℕ) (world : World) (loaded : Loaded) : Type 0 where
+pub record LoadsFile (files : Files) (name : List ℕ) (limit moment : ℕ) (world : World) (loaded : Loaded) : Type 0 where
   pub bytes : List ℕ
   pub is : IsFileOf files name bytes
   pub few : length bytes ≤ limit
@@ -64,16 +65,16 @@ pub record LoadsFile (files : Option (List ℕ → Option (List ℕ))) (name : L
   pub passed : loaded.passed ≡ 0
 
 -- the file has this first fault
-pub record RefusesFile (files : Option (List ℕ → Option (List ℕ))) (name : List ℕ) (limit moment : ℕ) (what : LoadKind) (at : ℕ) : Type 0 where
+pub record RefusesFile (files : Files) (name : List ℕ) (limit moment : ℕ) (what : LoadKind) (at : ℕ) : Type 0 where
   pub bytes : List ℕ
   pub is : IsFileOf files name bytes
   pub few : length bytes ≤ limit
   pub fault : IsFault bytes moment what at
 
 -- what `load` answers, and the world that it leaves: after a fault the new one
-abbrev pub Loads : Option (List ℕ → Option (List ℕ)) → List ℕ → ℕ → ℕ → Type 0 → World → Result Loaded LoadFault → Type 0
-Loads files name limit moment rose world (Ok loaded) = LoadsFile files name limit moment world loaded
-Loads files name limit moment rose world (Err (faults.Refused what at)) = RefusesFile files name limit moment what at × (world ≡ new_world)
-Loads files name limit moment rose world (Err faults.Host) = rose × (world ≡ new_world)
-Loads files name limit moment rose world (Err faults.Limit) = IsLongFile files name limit × (world ≡ new_world)
-Loads files name limit moment rose world (Err faults.Memory) = world ≡ new_world
+abbrev pub Loads : Files → List ℕ → ℕ → ℕ → World → Result Loaded LoadFault → Type 0
+Loads files name limit moment world (Ok loaded) = LoadsFile files name limit moment world loaded
+Loads files name limit moment world (Err (faults.Refused what at)) = RefusesFile files name limit moment what at × (world ≡ new_world)
+Loads files name limit moment world (Err faults.Host) = world ≡ new_world
+Loads files name limit moment world (Err faults.Limit) = IsLongFile files name limit × (world ≡ new_world)
+Loads files name limit moment world (Err faults.Memory) = world ≡ new_world

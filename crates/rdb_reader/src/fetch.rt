@@ -1,8 +1,8 @@
 //! The bytes of a file.
 
-ghost use Rattle.std.specs.Prelude.{◌≡◌, ◌≤◌, ◌<◌, ◌+◌, ℕ, List, length, vec_len};
-ghost use Rattle.outside.specs.Counts.{Rose};
-ghost use Rattle.rdb_reader.specs.Fetching.{Takes, Fetches, FetchesFile};
+ghost use Rattle.std.specs.Prelude.{◌≡◌, ◌≤◌, ◌<◌, ◌+◌, ℕ, List, length, vec_len, true};
+ghost use Rattle.outside.specs.Files.{IsListed};
+ghost use Rattle.rdb_reader.specs.Fetching.{Takes, Counts, Fetches, FetchesFile};
 
 use crate::fault::LoadFault;
 use outside::Host;
@@ -26,9 +26,8 @@ pub enum Taken {
 // Takes the next piece of the file that is begun, and keeps it behind the others.
 fn take_piece<H: Host>(host: &mut H, room: &mut [u8], bytes: &mut Vec<u8>) -> Taken
     requires { 0 < length room.old }
-    ensures takes { Takes (H.left host.old) (H.left host.new) (length room.old) bytes.old.items bytes.new.items (Rose (H.faults host.old) (H.faults host.new)) result }
-    ensures same { H.files host.new ≡ H.files host.old }
-    ensures counted { H.faults host.old ≤ H.faults host.new }
+    ensures takes { Takes (H.seen host.old).reading (H.seen host.new).reading (length room.old) bytes.old.items bytes.new.items result }
+    ensures same { (H.seen host.new).files ≡ (H.seen host.old).files }
 {
     match host.take(room) {
         Err(_) => Taken::Fault,
@@ -49,9 +48,9 @@ fn take_all<H: Host>(
 ) -> Result<(), LoadFault>
     requires room { length room.old ≡ 65536 }
     requires none { vec_len bytes.old ≡ 0 }
-    ensures fetches { Fetches (H.left host.old) limit bytes.new.items (Rose (H.faults host.old) (H.faults host.new)) result }
-    ensures same { H.files host.new ≡ H.files host.old }
-    ensures counted { H.faults host.old ≤ H.faults host.new }
+    ensures fetches { Fetches (H.seen host.old).reading.told limit bytes.new.items result }
+    ensures same { (H.seen host.new).files ≡ (H.seen host.old).files }
+    ensures counts { Counts (H.seen host.old).reading.faults (H.seen host.new).reading.faults ((H.seen host.old).reading.sure ≡ true) result }
 {
     'pieces: loop {
         // one more than is left, so that a file past the limit is seen
@@ -76,7 +75,8 @@ pub fn fetch<H: Host>(
     name: &str,
     limit: u64,
 ) -> Result<Vec<u8>, LoadFault>
-    ensures { FetchesFile (H.files host.old) name.now limit (Rose (H.faults host.old) (H.faults host.new)) result }
+    ensures fetches { FetchesFile (H.seen host.old).files name.now limit result }
+    ensures counts { Counts (H.seen host.old).reading.faults (H.seen host.new).reading.faults (((H.seen host.old).reading.sure ≡ true) × IsListed (H.seen host.old).files name.now) result }
 {
     match host.begin(name) {
         Ok(()) => {}

@@ -2,7 +2,7 @@
 
 ghost use Rattle.std.specs.Prelude.{◌≡◌};
 ghost use Rattle.blocks.specs.Blocks.{Served};
-ghost use Rattle.plain_model.specs.Worlds.{new_world};
+ghost use Rattle.plain_world.specs.Worlds.{new_world};
 ghost use Rattle.keyspace.specs.Databases.{means, SameSettings};
 ghost use Rattle.keyspace.specs.Sound.{Sound};
 ghost use Rattle.rdb_reader.specs.Loads.{Holds, Reads, ReadsAll, load_fault};
@@ -11,7 +11,7 @@ use crate::fault::LoadFault;
 use crate::keys::put_key;
 use blocks::BlockStore;
 use keyspace::Keyspace;
-use rdb_grammar::{FileFault, ItemFault, LoadKind, Meaning, check_header, check_sum, next_item};
+use rdb_grammar::{FileFault, ItemFault, LoadKind, Meaning, check_header, next_item};
 use std::alloc::Global;
 
 /// What the reading of an item led to.
@@ -66,10 +66,7 @@ fn read_item<B: BlockStore>(
         Err(fault) => return Err(not_read(fault)),
     };
     match item.meaning {
-        Meaning::End => match check_sum(bytes, item.next) {
-            Ok(_) => Ok(Read::End),
-            Err(fault) => Err(refused(fault)),
-        },
+        Meaning::End => Ok(Read::End),
         Meaning::Key { name, value } => match put_key(keyspace, &name, &value, moment) {
             Ok(true) => Ok(Read::Key(item.next)),
             Ok(false) => Err(LoadFault::Refused {

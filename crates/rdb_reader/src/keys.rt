@@ -2,7 +2,7 @@
 
 ghost use Rattle.std.specs.Prelude.{◌≡◌, [], OnOk, OnErr, IfOk, None, is_some};
 ghost use Rattle.blocks.specs.Blocks.{Changes, Served};
-ghost use Rattle.plain_model.specs.Worlds.{look, put};
+ghost use Rattle.plain_world.specs.Worlds.{look, put};
 ghost use Rattle.keyspace.specs.Databases.{means, SameSettings};
 ghost use Rattle.keyspace.specs.Sound.{Sound};
 ghost use Rattle.keyspace.specs.Values as values;

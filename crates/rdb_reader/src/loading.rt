@@ -1,11 +1,12 @@
 //! Loading a file into a keyspace.
 
-ghost use Rattle.std.specs.Prelude.{◌≡◌};
-ghost use Rattle.outside.specs.Counts.{Rose};
+ghost use Rattle.std.specs.Prelude.{◌≡◌, true};
+ghost use Rattle.outside.specs.Files.{IsListed};
 ghost use Rattle.blocks.specs.Blocks.{Served};
-ghost use Rattle.plain_model.specs.Worlds.{new_world};
+ghost use Rattle.plain_world.specs.Worlds.{new_world};
 ghost use Rattle.keyspace.specs.Databases.{means, SameSettings};
 ghost use Rattle.keyspace.specs.Sound.{Sound};
+ghost use Rattle.rdb_reader.specs.Fetching.{Counts};
 ghost use Rattle.rdb_reader.specs.Loads.{Loads};
 
 use crate::fault::LoadFault;
@@ -54,7 +55,8 @@ pub fn load<H: Host, B: BlockStore>(
 ) -> Result<Loaded, LoadFault>
     requires empty { means 0 keyspace.old.bases (B.blocks keyspace.old.store) ≡ new_world }
     requires sound { Sound keyspace.old.bases (B.blocks keyspace.old.store) }
-    ensures loads { Loads (H.files host.old) name.now limit moment (Rose (H.faults host.old) (H.faults host.new)) (means 0 keyspace.new.bases (B.blocks keyspace.new.store)) result }
+    ensures loads { Loads (H.seen host.old).files name.now limit moment (means 0 keyspace.new.bases (B.blocks keyspace.new.store)) result }
+    ensures counts { Counts (H.seen host.old).reading.faults (H.seen host.new).reading.faults (((H.seen host.old).reading.sure ≡ true) × IsListed (H.seen host.old).files name.now) result }
     ensures sound { Sound keyspace.new.bases (B.blocks keyspace.new.store) }
     ensures served { Served B.step keyspace.old.store keyspace.new.store }
     ensures settings { SameSettings keyspace.old.bases keyspace.new.bases }

@@ -234,7 +234,7 @@ const FLIPS: [Flip; 18] = [
     Flip(0xff, 16, 17, LoadKind::DuplicateKey, 20),
     Flip(0xff, 17, 25, LoadKind::Checksum, 17),
     Flip(0x01, 0, 5, LoadKind::NotRdb, 0),
-    Flip(0x01, 5, 9, LoadKind::Version, 5),
+    Flip(0x01, 5, 8, LoadKind::Version, 5),
     Flip(0x01, 9, 10, LoadKind::Checksum, 10),
     Flip(0x01, 10, 11, LoadKind::Database, 10),
     Flip(0x01, 11, 12, LoadKind::Kind, 11),
@@ -275,7 +275,9 @@ fn each_byte_changed(rt: HostRuntime) -> Result<(), Fail> {
 // Which bits of which byte, and the one key and its value.
 struct Kept(u8, usize, &'static [u8], &'static [u8]);
 
-const KEPT: [Kept; 4] = [
+const KEPT: [Kept; 5] = [
+    // version 10
+    Kept(0x01, 8, b"a", b"5"),
     Kept(0xff, 13, b"\x9e", b"5"),
     Kept(0xff, 15, b"a", b"-6"),
     Kept(0x01, 13, b"`", b"5"),

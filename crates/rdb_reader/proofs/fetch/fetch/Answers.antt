@@ -1,9 +1,12 @@
 use Rattle.std.proofs.Common.{◌∙◌}
-use Rattle.rdb_reader.proofs.Fetched.{fetched, not_fetched, rose_after}
+use Rattle.rdb_reader.proofs.Fetched.{fetched, not_fetched, counts_both, not_sure}
 use Rattle.rdb_reader.proofs.fetch.fetch.Goals as goal
 
 pub returns-in-Err : goal.returns-in-Err
-returns-in-Err g c = c.in-Err.ensures.fault
+returns-in-Err g c = record { fetches = tt; counts = (c.in-Err.ensures.tally.err, λ h. not_sure (c.in-Err.ensures.tally.sure h)) }
+
+pub returns-in-Err-vec : goal.returns-in-Err-vec
+returns-in-Err-vec g c = record { fetches = tt; counts = c.in-Ok.ensures.tally.ok }
 
 pub take_all-requires-clause-room : goal.take_all-requires-clause-room
 take_all-requires-clause-room g c = c.deref_mut.ensures.len ∙ c.in-Ok-vec.ensures.len
@@ -14,8 +17,13 @@ take_all-requires-clause-none g c = c.new-bytes.ensures.len
 pub returns-in-Ok-take_all : goal.returns-in-Ok-take_all
 returns-in-Ok-take_all g c =
     let f = c.in-Ok-take_all.ensures.fetches in
-    (fetched _ _ c.in-Ok.ensures.same c.args.name.now _ c.in-Ok.ensures.begun c.args.limit c.take_all.new.bytes.items f.0, f.1)
+    record {
+      fetches = (fetched _ _ c.args.name.now c.args.limit _ c.in-Ok.ensures c.take_all.new.bytes.items f.0, f.1);
+      counts = c.in-Ok-take_all.ensures.counts ∙ c.in-Ok.ensures.tally.ok;
+    }
 
 pub returns : goal.returns
-returns g c =
-    not_fetched _ _ c.in-Ok.ensures.same c.args.name.now _ c.in-Ok.ensures.begun c.args.limit c.take_all.new.bytes.items _ _ (rose_after _ _ _ c.in-Ok.ensures.counted) c.in-Err-take_all.fault c.in-Err-take_all.ensures.fetches
+returns g c = record {
+  fetches = not_fetched _ _ c.args.name.now c.args.limit _ c.in-Ok.ensures c.take_all.new.bytes.items c.in-Err-take_all.fault c.in-Err-take_all.ensures.fetches;
+  counts = counts_both _ _ c.args.name.now c.args.limit _ c.in-Ok.ensures _ c.in-Err-take_all.fault c.in-Err-take_all.ensures.counts;
+}

@@ -1,12 +1,11 @@
 use Rattle.std.proofs.Common.{◌≡◌, ◌≤◌, ◌-◌, length}
-use Rattle.std.specs.Io.KnownBytes.{Consumes}
+use Rattle.outside.specs.Streams.{TakesAll}
 use Rattle.rdb_reader.proofs.fetch.take_all.Given as goal
 
 abbrev pub invariant-pieces : goal.invariant-pieces
 invariant-pieces g l = record {
-  took : Consumes (g.H.Host.left l.fn.host) (g.H.Host.left l.host) l.bytes.items;
-  same : g.H.Host.files l.host ≡ g.H.Host.files l.fn.host;
-  counted : g.H.Host.faults l.fn.host ≤ g.H.Host.faults l.host;
+  took : TakesAll (g.H.Host.seen l.fn.host).reading (g.H.Host.seen l.host).reading l.bytes.items;
+  same : (g.H.Host.seen l.host).files ≡ (g.H.Host.seen l.fn.host).files;
   within : length l.bytes.items ≤ l.limit;
 }
 

@@ -1,6 +1,6 @@
 use Rattle.std.proofs.Common.{refl}
 use Rattle.keyspace.specs.Databases.{means}
-use Rattle.rdb_reader.proofs.Read.{fault_read, lies_inside, key_put, other_read, key_again, file_ends, sum_wrong}
+use Rattle.rdb_reader.proofs.Read.{fault_read, lies_inside, key_put, other_read, key_again, file_ends}
 use Rattle.rdb_reader.proofs.items.read_item.Goals as goal
 
 pub next_item-requires : goal.next_item-requires
@@ -8,21 +8,16 @@ next_item-requires g c =
     let world = means 0 c.args.keyspace.now.bases (g.B.BlockStore.blocks c.args.keyspace.now.store) in
     lies_inside c.args.bytes.now c.args.moment c.args.at world.bases c.requires.held
 
-pub returns-in-Ok-check_sum-clause-reads : goal.returns-in-Ok-check_sum-clause-reads
-returns-in-Ok-check_sum-clause-reads g c =
+pub returns-in-End-clause-reads : goal.returns-in-End-clause-reads
+returns-in-End-clause-reads g c =
     let world = means 0 c.args.keyspace.now.bases (g.B.BlockStore.blocks c.args.keyspace.now.store) in
-    let k = c.in-Ok-check_sum.ensures.summed in
-    (file_ends c.args.bytes.now c.args.moment c.args.at world.bases c.requires.held c.in-Ok.item.next k.0 _ (rw c.in-End.is at c.in-Ok.ensures.item) k.1, refl)
+    let k = rw c.in-End.is at c.in-Ok.ensures.item in
+    (file_ends c.args.bytes.now c.args.moment c.args.at world.bases c.requires.held k.0 k.1 _ k.2 k.3, refl)
 
 pub returns-in-Err-clause-reads : goal.returns-in-Err-clause-reads
 returns-in-Err-clause-reads g c =
     let world = means 0 c.args.keyspace.now.bases (g.B.BlockStore.blocks c.args.keyspace.now.store) in
     rw c.not_read.ensures (fault_read c.args.bytes.now c.args.moment c.args.at world.bases c.requires.held world c.in-Err.fault c.in-Err.ensures.fault)
-
-pub returns-in-Err-check_sum-clause-reads : goal.returns-in-Err-check_sum-clause-reads
-returns-in-Err-check_sum-clause-reads g c =
-    let world = means 0 c.args.keyspace.now.bases (g.B.BlockStore.blocks c.args.keyspace.now.store) in
-    rw c.refused.ensures (sum_wrong c.args.bytes.now c.args.moment c.args.at world.bases c.requires.held c.in-Ok.item.next _ _ (rw c.in-End.is at c.in-Ok.ensures.item) c.in-Err-check_sum.ensures.fault)
 
 pub returns-in-Ok-true-clause-reads : goal.returns-in-Ok-true-clause-reads
 returns-in-Ok-true-clause-reads g c =

@@ -2,7 +2,7 @@ use Rattle.std.proofs.Common.{arith, refl, sym, ap, ◌∙◌}
 use Rattle.std.specs.FinMap.{len}
 use Rattle.blocks.specs.Blocks.{no_step}
 use Rattle.blocks.proofs.Serve.{Served-then}
-use Rattle.plain_model.specs.Worlds.{World}
+use Rattle.plain_world.specs.Worlds.{World}
 use Rattle.keyspace.specs.Databases.{means}
 use Rattle.keyspace.proofs.Calls.{settings_then}
 use Rattle.rdb_reader.proofs.Read.{holds_nothing, none_held}

@@ -1,6 +1,6 @@
 use Rattle.std.proofs.Common.{◌≡◌, ◌<◌, ℕ}
 use Rattle.blocks.specs.Blocks.{Served}
-use Rattle.plain_model.specs.Worlds.{no_keys}
+use Rattle.plain_world.specs.Worlds.{no_keys}
 use Rattle.keyspace.specs.Databases.{means, SameSettings}
 use Rattle.keyspace.specs.Sound.{Sound}
 use Rattle.rdb_reader.proofs.loading.clear_all.Given as goal
