@@ -4,9 +4,9 @@ use Rattle.std.specs.Prelude.{flat_map}
 use Rattle.std.specs.List.{AllByRecursion}
 use Rattle.std.specs.Fmt.{decimal}
 use Rattle.std.proofs.lemmas.List.{append_assoc, take-append-drop, drop_all, drop_more}
-use Rattle.plain_model.specs.Words.{Words}
-use Rattle.plain_model.specs.Spelling.{line_end}
-use Rattle.plain_model.proofs.Lines.{decimal_plain}
+use Rattle.plain_world.specs.Words.{Words}
+use Rattle.plain_world.specs.Spelling.{line_end}
+use Rattle.plain_world.proofs.Lines.{decimal_plain}
 use Rattle.std.proofs.lemmas.Fmt.{length-decimal-le}
 use Rattle.resp_frames.specs.Frames.{header, bulk, IsWord, IsText}
 use Rattle.resp_frames.specs.Faults.{bad_number, BulkFault, length_line, length_number, no_return, no_feed}

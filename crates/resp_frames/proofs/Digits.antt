@@ -5,7 +5,7 @@ use Rattle.std.specs.Int.{IsInRange}
 use Rattle.std.specs.Prelude.{IsTrue}
 use Rattle.resp_frames.specs.Frames.{is_negative}
 use Rattle.resp_frames.specs.Faults.{IsCount}
-use Rattle.plain_model.proofs.Numerals.{AreDigits, read_on, own, zero_text}
+use Rattle.plain_world.proofs.Numerals.{AreDigits, read_on, own, zero_text}
 use Rattle.std.proofs.lemmas.Fmt.{digits_decimal, digits_value-decimal, decimal-digits_value, decimal_nonempty, first_decimal, decimal_digit}
 use Rattle.std.proofs.lemmas.Bool.{cases_lt}
 use Rattle.std.proofs.lemmas.List.{get_or-take, drop_more}

@@ -2,7 +2,7 @@
 use Rattle.std.proofs.Common.{◌≡◌, ◌≢◌, ℕ, suc, ◌+◌, ◌-◌, ◌<◌, ◌≤◌, List, [], ◌∷◌, ◌++◌, length, take, drop, get_or, sym, ap, subst, ◌∙◌, refl, inl, inr, arith, length-take}
 use Rattle.std.proofs.lemmas.Bool.{cases_lt}
 use Rattle.std.proofs.lemmas.List.{take-append-drop, take_all, drop_more, drop_all, take_rest, append_assoc}
-use Rattle.plain_model.specs.Spelling.{line_end}
+use Rattle.plain_world.specs.Spelling.{line_end}
 use Rattle.resp_frames.specs.Frames.{IsPlainText, IsText}
 use Rattle.resp_frames.specs.Faults.{other_mark, too_long, no_line_feed}
 use Rattle.resp_frames.specs.Reading.{read_header, Open}

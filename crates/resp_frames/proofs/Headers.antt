@@ -1,7 +1,7 @@
 -- A header is read.
 use Rattle.std.proofs.Common.{◌≡◌, ℕ, ◌<◌, ◌≤◌, List, [], ◌∷◌, ◌++◌, length, ap, sym, subst, ◌∙◌, refl, arith}
 use Rattle.std.proofs.lemmas.List.{append_assoc}
-use Rattle.plain_model.specs.Spelling.{line_end}
+use Rattle.plain_world.specs.Spelling.{line_end}
 use Rattle.resp_frames.specs.Frames.{IsPlainText, IsText, header}
 use Rattle.resp_frames.specs.Faults.{LineFault, other_mark, too_long, no_line_feed}
 use Rattle.resp_frames.specs.Reading.{Read, Took, Open, Wrong, read_text, read_feed, read_header}

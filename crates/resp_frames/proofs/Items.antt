@@ -3,7 +3,7 @@ use Rattle.std.proofs.Common.{◌≡◌, ℕ, zero, suc, ◌+◌, ◌<◌, ◌�
 use Rattle.std.specs.Prelude.{flat_map}
 use Rattle.std.specs.Fmt.{decimal}
 use Rattle.std.proofs.lemmas.List.{append_assoc}
-use Rattle.plain_model.specs.Words.{Words}
+use Rattle.plain_world.specs.Words.{Words}
 use Rattle.resp_frames.specs.Frames.{header, bulk, IsText, Item, Asked, Passed, item_bytes, IsItem}
 use Rattle.resp_frames.specs.Faults.{LineFault, other_mark, too_long, no_line_feed, NumberFault, bad_number, BulkFault, length_line, length_number, no_return, no_feed, Begun, RequestFault, count_line, count_number, in_word}
 use Rattle.resp_frames.specs.Ends.{IsCut}

@@ -6,7 +6,7 @@ use Rattle.std.specs.Str.Parse.{digits_value}
 use Rattle.std.proofs.lemmas.Bool.{and_parts, and_from, leb-true, le-leb, eqb-true}
 use Rattle.std.proofs.lemmas.Fmt.{decimal_is_IsNumeral, digits_decimal}
 use Rattle.std.proofs.lemmas.Slice.Eq.{bytes_eq-Decides}
-use Rattle.plain_model.proofs.Numerals.{AreDigits, own, zero_text}
+use Rattle.plain_world.proofs.Numerals.{AreDigits, own, zero_text}
 use Rattle.resp_frames.specs.Frames.{is_negative, is_positive, IsNoCount}
 use Rattle.resp_frames.specs.Faults.{IsCount, IsLength}
 use Rattle.resp_frames.specs.Reading.{read_number, read_count}

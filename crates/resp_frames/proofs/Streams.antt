@@ -4,7 +4,7 @@ use Rattle.std.specs.Prelude.{flat_map}
 use Rattle.std.specs.List.{AllByRecursion}
 use Rattle.std.proofs.lemmas.List.{append_assoc}
 use Rattle.std.proofs.lemmas.List.Concat.{flat_map-append}
-use Rattle.plain_model.specs.Words.{Words}
+use Rattle.plain_world.specs.Words.{Words}
 use Rattle.resp_frames.specs.Frames.{Item, Asked, Passed, item_bytes, IsItem, asked, requests, Framed}
 use Rattle.resp_frames.specs.Ends.{End, Whole, Cut, Fault, BreaksAt, EndsAs, Frames}
 use Rattle.resp_frames.specs.Reading.{Read, Took, Open, Wrong, read_item}

@@ -1,6 +1,6 @@
 -- How a stream ends.
 use Rattle.std.specs.Prelude.{◌≡◌, ◌≢◌, ℕ, ◌+◌, List, [], ◌++◌, length}
-use Rattle.plain_model.specs.Words.{Words}
+use Rattle.plain_world.specs.Words.{Words}
 use Rattle.resp_frames.specs.Frames.{Item, item_bytes, IsItem, requests, Framed}
 use Rattle.resp_frames.specs.Faults.{RequestFault}
 

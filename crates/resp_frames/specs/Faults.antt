@@ -5,7 +5,7 @@
 use Rattle.std.specs.Prelude.{◌≡◌, ◌≢◌, ℕ, ◌<◌, ◌≤◌, ◌⊎◌, List, ◌∷◌, ◌++◌, length, flat_map}
 use Rattle.std.specs.List.{AllByRecursion}
 use Rattle.std.specs.Fmt.{decimal}
-use Rattle.plain_model.specs.Words.{Words}
+use Rattle.plain_world.specs.Words.{Words}
 use Rattle.resp_frames.specs.Frames.{header, bulk, IsWord, IsPlainText, IsText, IsNoCount}
 
 -- the number of a request's header: 0 or less, or so many words

@@ -1,6 +1,6 @@
 -- What a feeder tells.
 use Rattle.std.specs.Prelude.{◌≡◌, ℕ, ◌+◌, ◌≤◌, ◌^◌, ◌⊎◌, List, [], ◌∷◌, length, drop, Option, Some, None, Result, Ok, Err, Bool, true, false}
-use Rattle.plain_model.specs.Words.{Words, IsRequest}
+use Rattle.plain_world.specs.Words.{Words, IsRequest}
 use Rattle.resp_frames.specs.Frames.{Item, Framed, requests}
 use Rattle.resp_frames.specs.Faults.{RequestFault}
 use Rattle.resp_frames.specs.Ends.{IsCut}

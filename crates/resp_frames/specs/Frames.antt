@@ -2,9 +2,9 @@
 use Rattle.std.specs.Prelude.{◌≡◌, ◌≢◌, ℕ, ◌<◌, ◌≤◌, ◌⊎◌, List, [], ◌∷◌, ◌++◌, length, flat_map, Bool, false, ◌&&◌, ◌==◌, nat_le, IsTrue}
 use Rattle.std.specs.List.{AllByRecursion, list_all}
 use Rattle.std.specs.Fmt.{decimal}
-use Rattle.plain_model.specs.Spelling.{line_end}
-use Rattle.plain_model.specs.Words.{Words}
-pub use Rattle.plain_model.specs.Words.{IsWord, IsRequest}
+use Rattle.plain_world.specs.Spelling.{line_end}
+use Rattle.plain_world.specs.Words.{Words}
+pub use Rattle.plain_world.specs.Words.{IsWord, IsRequest}
 
 -- a header: its mark, its text, CR LF
 abbrev pub header : ℕ → List ℕ → List ℕ

@@ -1,6 +1,6 @@
 -- What the reading of a header tells.
 use Rattle.std.specs.Prelude.{◌≡◌, ◌≢◌, ℕ, ◌+◌, ◌≤◌, ◌⊎◌, List, [], ◌∷◌, ◌++◌, length, take, drop}
-use Rattle.plain_model.specs.Spelling.{line_end}
+use Rattle.plain_world.specs.Spelling.{line_end}
 use Rattle.resp_frames.specs.Frames.{IsPlainText, IsText, header}
 use Rattle.resp_frames.specs.Faults.{LineFault}
 use Rattle.resp_frames.specs.Reading.{read_header, Open}

@@ -1,6 +1,6 @@
 -- Statements of the laws.
 use Rattle.std.specs.Prelude.{◌≡◌, ℕ, List, ◌++◌}
-use Rattle.plain_model.specs.Words.{Words}
+use Rattle.plain_world.specs.Words.{Words}
 use Rattle.resp_frames.specs.Ends.{End, Fault, Frames}
 
 -- all bytes have frames

@@ -4,6 +4,7 @@ pub mod Ends
 pub mod Laws
 pub mod Feeding
 pub mod Puts
+pub mod FaultLines
 pub mod Reading
 pub mod HeaderRead
 pub mod NumberRead

@@ -2,8 +2,8 @@
 use Rattle.std.specs.Prelude.{◌≡◌, ◌≢◌, ◌==◌, ℕ, ◌+◌, ◌≤◌, ◌<◌, ◌⊎◌, List, [], ◌∷◌, ◌++◌, length, take, drop, map, if◌then◌else◌}
 use Rattle.std.specs.List.{AllByRecursion}
 use Rattle.std.specs.Fmt.{decimal}
-use Rattle.plain_model.specs.Spelling.{line_end}
-use Rattle.plain_model.specs.Words.{Words}
+use Rattle.plain_world.specs.Spelling.{line_end}
+use Rattle.plain_world.specs.Words.{Words}
 use Rattle.resp_frames.specs.Frames.{header, request_bytes, IsRequest, IsText, IsNoCount}
 use Rattle.resp_frames.specs.Faults.{Begun, RequestFault}
 use Rattle.resp_frames.specs.Reading.{read_item, read_body, Open}

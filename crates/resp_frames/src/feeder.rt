@@ -1,7 +1,7 @@
 //! Requests out of a stream that comes in pieces.
 
 ghost use Rattle.std.specs.Prelude.{◌≡◌, ◌+◌, ◌++◌, ◌<◌, ◌≤◌, ◌^◌, ℕ, List, [], length, drop, vec_len, IfOk, OnOk, OnErr, IsSome, Some, None, slice_index_or, Ok, true};
-ghost use Rattle.plain_model.specs.Words.{IsRequest};
+ghost use Rattle.plain_world.specs.Words.{IsRequest};
 ghost use Rattle.resp_frames.specs.Feeding.{NextFound, NextIs, HasFed};
 ghost use Rattle.resp_frames.specs.RequestRead.{word_at, words_at, AreWithin, Stands};
 
@@ -30,7 +30,7 @@ pub struct Request<'a> {
 }
 
 impl<'a> Model for Request<'a> {
-    ghost use Rattle.plain_model.specs.Words.{Words};
+    ghost use Rattle.plain_world.specs.Words.{Words};
     ghost use Rattle.resp_frames.specs.RequestRead.{words_at};
     ghost use Rattle.resp_frames.specs.Feeding.{IsOut};
 

@@ -1,6 +1,7 @@
 //! Requests out of bytes, and replies into bytes.
 #![tactic(auto)]
 
+mod fault_lines;
 mod feeder;
 mod header;
 mod laws;
@@ -10,6 +11,7 @@ mod spelling;
 #[cfg(test)]
 mod tests;
 
+pub use fault_lines::put_fault;
 pub use feeder::{Feeder, FrameFault, Request};
 pub use laws::{faults_stay, frames_are_one, frames_are_there, requests_only_grow};
-pub use spelling::{put_all, spell};
+pub use spelling::{put_all, put_part, spell};

@@ -2,19 +2,17 @@
 
 ghost use Rattle.std.specs.Prelude.{◌≡◌, ◌≤◌, ◌∷◌, ◌++◌, ℕ, List, OnErr};
 ghost use Rattle.outside.specs.Counts.{Rose};
-ghost use Rattle.plain_model.specs.Refusals.{refusal_text};
-ghost use Rattle.plain_model.specs.Spelling.{line_end, part_bytes, spelling};
+ghost use Rattle.plain_world.specs.Refusals.{refusal_text};
+ghost use Rattle.plain_world.specs.Spelling.{line_end, part_bytes, spelling};
 ghost use Rattle.resp_frames.specs.Puts.{Puts};
 
 use itoa::Buffer;
 use outside::{Sink, WriteFault};
-use plain_model::{Part, Refusal, Reply};
+use plain_world::{Part, Refusal, Reply};
 
 /// Puts all of the piece, or a front of it where that fails. `WriteFault` comes only where the sink counted one.
 pub fn put_all<O: Sink>(sink: &mut O, piece: &[u8]) -> Result<(), WriteFault>
-    ensures bytes { Puts (O.told sink.old) (O.told sink.new) piece.now result }
-    ensures counted { O.faults sink.old ≤ O.faults sink.new }
-    ensures fault { OnErr result (Rose (O.faults sink.old) (O.faults sink.new)) }
+    ensures { Puts (O.seen sink.old) (O.seen sink.new) piece.now result }
 {
     let mut at = 0;
     'pieces: while at < piece.len() {
@@ -53,11 +51,9 @@ fn refusal_line(refusal: Refusal) -> &'static [u8]
     }
 }
 
-// Puts one piece after the other.
-fn put_two<O: Sink>(sink: &mut O, first: &[u8], second: &[u8]) -> Result<(), WriteFault>
-    ensures bytes { Puts (O.told sink.old) (O.told sink.new) (first.now ++ second.now) result }
-    ensures counted { O.faults sink.old ≤ O.faults sink.new }
-    ensures fault { OnErr result (Rose (O.faults sink.old) (O.faults sink.new)) }
+// Puts one piece, and then the other.
+pub(crate) fn put_two<O: Sink>(sink: &mut O, first: &[u8], second: &[u8]) -> Result<(), WriteFault>
+    ensures { Puts (O.seen sink.old) (O.seen sink.new) (first.now ++ second.now) result }
 {
     match put_all(sink, first) {
         Ok(()) => put_all(sink, second),
@@ -67,9 +63,7 @@ fn put_two<O: Sink>(sink: &mut O, first: &[u8], second: &[u8]) -> Result<(), Wri
 
 // Puts a line: a mark, a text, CR LF.
 fn put_line<O: Sink>(sink: &mut O, mark: &[u8], text: &[u8]) -> Result<(), WriteFault>
-    ensures bytes { Puts (O.told sink.old) (O.told sink.new) (mark.now ++ text.now ++ line_end) result }
-    ensures counted { O.faults sink.old ≤ O.faults sink.new }
-    ensures fault { OnErr result (Rose (O.faults sink.old) (O.faults sink.new)) }
+    ensures { Puts (O.seen sink.old) (O.seen sink.new) (mark.now ++ text.now ++ line_end) result }
 {
     match put_two(sink, mark, text) {
         Ok(()) => put_all(sink, b"\r\n"),
@@ -79,9 +73,7 @@ fn put_line<O: Sink>(sink: &mut O, mark: &[u8], text: &[u8]) -> Result<(), Write
 
 // Puts a bulk string.
 fn put_bulk<O: Sink>(sink: &mut O, bytes: &[u8]) -> Result<(), WriteFault>
-    ensures bytes { Puts (O.told sink.old) (O.told sink.new) (part_bytes (Part.Bulk bytes.now)) result }
-    ensures counted { O.faults sink.old ≤ O.faults sink.new }
-    ensures fault { OnErr result (Rose (O.faults sink.old) (O.faults sink.new)) }
+    ensures { Puts (O.seen sink.old) (O.seen sink.new) (part_bytes (Part.Bulk bytes.now)) result }
 {
     let mut buffer = Buffer::new();
     match put_line(sink, b"$", buffer.format(bytes.len()).as_bytes()) {
@@ -90,11 +82,10 @@ fn put_bulk<O: Sink>(sink: &mut O, bytes: &[u8]) -> Result<(), WriteFault>
     }
 }
 
-// Puts a part of a reply.
-fn put_part<O: Sink>(sink: &mut O, part: &Part) -> Result<(), WriteFault>
-    ensures bytes { Puts (O.told sink.old) (O.told sink.new) (part_bytes part.now) result }
-    ensures counted { O.faults sink.old ≤ O.faults sink.new }
-    ensures fault { OnErr result (Rose (O.faults sink.old) (O.faults sink.new)) }
+/// Writes the bytes of a part of a reply, or a front of them where that fails. It takes no memory of its own.
+/// `WriteFault` comes only where the sink counted one.
+pub fn put_part<O: Sink>(sink: &mut O, part: &Part) -> Result<(), WriteFault>
+    ensures { Puts (O.seen sink.old) (O.seen sink.new) (part_bytes part.now) result }
 {
     match part {
         Part::Simple(line) => put_line(sink, b"+", line.as_slice()),
@@ -116,9 +107,7 @@ fn put_part<O: Sink>(sink: &mut O, part: &Part) -> Result<(), WriteFault>
 /// Writes the reply's bytes, or a front of them where that fails. It takes no memory of its own.
 /// `WriteFault` comes only where the sink counted one.
 pub fn spell<O: Sink>(reply: &Reply, sink: &mut O) -> Result<(), WriteFault>
-    ensures bytes { Puts (O.told sink.old) (O.told sink.new) (spelling reply.now) result }
-    ensures counted { O.faults sink.old ≤ O.faults sink.new }
-    ensures fault { OnErr result (Rose (O.faults sink.old) (O.faults sink.new)) }
+    ensures { Puts (O.seen sink.old) (O.seen sink.new) (spelling reply.now) result }
 {
     for part in reply.parts() {
         if let Err(fault) = put_part(sink, part) {

@@ -3,7 +3,9 @@
 ghost use Rattle.std.specs.Prelude.{◌≤◌, length};
 ghost use Rattle.resp_frames.specs.Feeding.{SameFed};
 
-use crate::{Feeder, FrameFault};
+use crate::{Feeder, FrameFault, put_all, put_fault, put_part};
+use outside::MemSink;
+use plain_world::{Part, Refusal};
 use std::alloc::{AllocError, Global};
 use std::test::Fail;
 
@@ -111,5 +113,68 @@ fn headers_of_the_longest(rt: HostRuntime) -> Result<(), Fail> {
             assert_eq!(rt; broken(rt.alloc(), stream, first)?, (0, Some(due)));
         }
     }
+    Ok(())
+}
+
+/// A rule, a byte, and the line.
+struct LineRow(u8, u64, &'static [u8]);
+
+const LINES: [LineRow; 6] = [
+    LineRow(
+        1,
+        7,
+        b"-ERR Protocol error: invalid multibulk length at byte 7\r\n",
+    ),
+    LineRow(2, 0, b"-ERR Protocol error: expected '$' at byte 0\r\n"),
+    LineRow(
+        3,
+        10,
+        b"-ERR Protocol error: invalid bulk length at byte 10\r\n",
+    ),
+    LineRow(
+        4,
+        65_537,
+        b"-ERR Protocol error: line too long at byte 65537\r\n",
+    ),
+    LineRow(
+        5,
+        18_446_744_073_709_551_615,
+        b"-ERR Protocol error: expected CR LF at byte 18446744073709551615\r\n",
+    ),
+    LineRow(
+        6,
+        4,
+        b"-ERR Protocol error: inline request not taken at byte 4\r\n",
+    ),
+];
+
+#[test]
+fn lines_of_broken_rules(rt: HostRuntime) -> Result<(), Fail> {
+    for LineRow(rule, at, line) in &LINES {
+        let mut sink = MemSink::new(vec![in rt.alloc(); 0u8; 100]?, Vec::new(rt.alloc()));
+        assert_eq!(rt; put_fault(&mut sink, *rule, *at), Ok(()));
+        assert_eq!(rt; sink.written(), *line);
+    }
+    Ok(())
+}
+
+// The expected bytes are those of the RESP2 protocol description.
+#[test]
+fn parts_and_pieces(rt: HostRuntime) -> Result<(), Fail> {
+    let mut sink = MemSink::new(vec![in rt.alloc(); 0u8; 60]?, Vec::new(rt.alloc()));
+    for part in [
+        Part::Array(2),
+        Part::Number(-7),
+        Part::Null,
+        Part::NullArray,
+        Part::Refused(Refusal::Syntax),
+    ] {
+        assert_eq!(rt; put_part(&mut sink, &part), Ok(()));
+    }
+    assert_eq!(rt; put_all(&mut sink, b"and more"), Ok(()));
+    assert_eq!(rt;
+        sink.written(),
+        b"*2\r\n:-7\r\n$-1\r\n*-1\r\n-ERR syntax error\r\nand more".as_slice()
+    );
     Ok(())
 }

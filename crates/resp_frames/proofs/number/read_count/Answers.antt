@@ -1,5 +1,5 @@
 use Rattle.std.proofs.Common.{inl, ◌∙◌, ap, decimal}
-use Rattle.plain_model.proofs.Numerals.{zero_text}
+use Rattle.plain_world.proofs.Numerals.{zero_text}
 use Rattle.resp_frames.proofs.Digits.{no_count}
 use Rattle.resp_frames.proofs.number.read_count.Goals as goal
 

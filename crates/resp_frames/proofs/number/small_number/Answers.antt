@@ -1,6 +1,6 @@
 use Rattle.std.proofs.Common.{◌≡◌, ◌+◌, ◌-◌, ◌*◌, ◌<◌, ◌≤◌, length, drop, get_or, arith, inl, inr, sym, ◌∙◌, ap, subst}
 use Rattle.std.specs.Fmt.{decimal}
-use Rattle.plain_model.proofs.Numerals.{read_on, grows, AreDigits}
+use Rattle.plain_world.proofs.Numerals.{read_on, grows, AreDigits}
 use Rattle.resp_frames.proofs.Digits.{no_bytes, zero_is, no_zero, no_digit, no_more, digits_more, step_on, read_whole}
 use Rattle.std.proofs.lemmas.List.{drop_all, take_all}
 use Rattle.std.proofs.lemmas.Bool.Decides.{nat_tests}

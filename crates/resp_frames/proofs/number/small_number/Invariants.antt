@@ -1,5 +1,5 @@
 use Rattle.std.proofs.Common.{◌≡◌, ◌≤◌, drop, take}
-use Rattle.plain_model.proofs.Numerals.{read_on, AreDigits}
+use Rattle.plain_world.proofs.Numerals.{read_on, AreDigits}
 use Rattle.resp_frames.proofs.number.small_number.Given as goal
 
 abbrev pub invariant-loop-b : goal.invariant-loop-b

@@ -1,0 +1,5 @@
+pub mod Onward
+pub mod Runs
+pub mod Finishing
+pub mod Endings
+pub mod Said

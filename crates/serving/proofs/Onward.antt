@@ -1,0 +1,66 @@
+-- What is written and what is pending, step by step.
+use Rattle.std.proofs.Common.{◌≡◌, ℕ, ◌+◌, ◌<◌, List, [], ◌++◌, length, take, get_or, Result, Ok, Err, refl, sym, ap, subst, ◌∙◌}
+use Rattle.std.specs.Prelude.{flat_map}
+use Rattle.std.proofs.lemmas.List.{append_assoc, append-nil}
+use Rattle.outside.specs.Streams.{SinkSeen}
+use Rattle.resp_frames.specs.Puts.{Puts, PutsAll, PutsFront}
+use Rattle.resp_frames.proofs.Putting.{all_nothing, all_then, fault_then, fault_stops, parts_next, parts_around}
+use Rattle.serving.specs.Output.{Onward, Writes}
+
+pub onward_nothing : (o : SinkSeen) (p : List ℕ) → Onward o o p p []
+onward_nothing o p = record { written = []; put = all_nothing o; rest = sym (append-nil p) }
+
+-- bytes are pending behind the others
+pub onward_gathered : (o : SinkSeen) (p p' a : List ℕ) → p' ≡ p ++ a → Onward o o p p' a
+onward_gathered o p p' a e = record { written = []; put = all_nothing o; rest = e }
+
+-- what was pending is put
+pub onward_put : (o o1 : SinkSeen) (p : List ℕ) → PutsAll o o1 p → Onward o o1 p [] []
+onward_put o o1 p put = record { written = p; put = put; rest = refl }
+
+pub onward_then : (o o1 o2 : SinkSeen) (p p1 p2 a b : List ℕ) → Onward o o1 p p1 a → Onward o1 o2 p1 p2 b → Onward o o2 p p2 (a ++ b)
+onward_then o o1 o2 p p1 p2 a b f g = record {
+  written = f.written ++ g.written;
+  put = all_then o o1 o2 f.written g.written f.put g.put;
+  rest = append_assoc f.written g.written p2 ∙ ap (λ l. f.written ++ l) g.rest ∙ sym (append_assoc f.written p1 b) ∙ ap (λ l. l ++ b) f.rest ∙ append_assoc p a b;
+}
+
+-- a failure behind what went on
+pub onward_breaks : (o o1 o2 : SinkSeen) (p p1 a b : List ℕ) → Onward o o1 p p1 a → PutsFront o1 o2 (p1 ++ b) → PutsFront o o2 (p ++ (a ++ b))
+onward_breaks o o1 o2 p p1 a b f g =
+    let P : List ℕ → Type 0 = λ l. PutsFront o o2 l in
+    subst P (sym (append_assoc f.written p1 b) ∙ ap (λ l. l ++ b) f.rest ∙ append_assoc p a b) (fault_then o o1 o2 f.written (p1 ++ b) f.put g)
+
+-- a failure before more bytes
+pub breaks_before : (o o1 : SinkSeen) (p a b : List ℕ) → PutsFront o o1 (p ++ a) → PutsFront o o1 (p ++ (a ++ b))
+breaks_before o o1 p a b f = let P : List ℕ → Type 0 = λ l. PutsFront o o1 l in subst P (append_assoc p a b) (fault_stops o o1 (p ++ a) b f)
+
+-- all that was pending and all that came is put
+pub onward_all : (o o1 : SinkSeen) (a : List ℕ) → Onward o o1 [] [] a → PutsAll o o1 a
+onward_all o o1 a f = let P : List ℕ → Type 0 = λ l. PutsAll o o1 l in subst P (sym (append-nil f.written) ∙ f.rest) f.put
+
+-- what was pending is put, and then a part at once
+pub puts_straight : {T E : Type 0} (o o1 o2 : SinkSeen) (p p1 p2 a : List ℕ) (r : Result T E) → p1 ≡ p → PutsAll o o1 p1 → p2 ≡ [] → Puts o1 o2 a r → Writes o o2 p p2 a r
+puts_straight o o1 o2 p p1 p2 a (Ok x) same put none q =
+    let P : List ℕ → Type 0 = λ l. PutsAll o o1 l in
+    record { written = p ++ a; put = all_then o o1 o2 p a (subst P same put) q; rest = ap (λ l. (p ++ a) ++ l) none ∙ append-nil (p ++ a) }
+puts_straight o o1 o2 p p1 p2 a (Err e) same put none q =
+    let P : List ℕ → Type 0 = λ l. PutsAll o o1 l in
+    fault_then o o1 o2 p a (subst P same put) q
+
+-- what was pending is put, and then a part is pending
+pub puts_gathered : (o o1 : SinkSeen) (p p1 p2 p3 a : List ℕ) → p1 ≡ p → PutsAll o o1 p1 → p2 ≡ [] → p3 ≡ p2 ++ a → Onward o o1 p p3 a
+puts_gathered o o1 p p1 p2 p3 a same put none e =
+    let P : List ℕ → Type 0 = λ l. PutsAll o o1 l in
+    record { written = p; put = subst P same put; rest = ap (λ l. p ++ l) (e ∙ ap (λ l. l ++ a) none) }
+
+module _ {X : Type 0} (f : X → List ℕ) (xs : List X) (i : ℕ) (x : X) (here : i < length xs) (is : x ≡ get_or xs i x) (o o1 o2 : SinkSeen) (p p1 : List ℕ) (so_far : Onward o o1 p p1 (flat_map f (take i xs))) where
+  -- a part more
+  pub onward_part : (p2 : List ℕ) → Onward o1 o2 p1 p2 (f x) → Onward o o2 p p2 (flat_map f (take (i + 1) xs))
+  onward_part p2 g = let P : List ℕ → Type 0 = λ l. Onward o o2 p p2 l in subst P (parts_next f xs i x here is) (onward_then o o1 o2 p p1 p2 _ (f x) so_far g)
+
+  -- a part that failed, in the whole
+  pub breaks_part : PutsFront o1 o2 (p1 ++ f x) → PutsFront o o2 (p ++ flat_map f xs)
+  breaks_part g =
+      let P : List ℕ → Type 0 = λ l. PutsFront o o2 (p ++ l) in
+      subst P (parts_around f xs i x here is) (onward_breaks o o1 o2 p p1 _ _ so_far (breaks_before o1 o2 p1 (f x) _ g))

@@ -1,0 +1,152 @@
+-- What is said of a serving, for those who call it.
+use Rattle.std.proofs.Common.{◌≡◌, ◌<◌, ℕ, List, [], ◌∷◌, ◌++◌, length, Option, Some, None, Bool, refl, sym, ap, subst, ◌∙◌, inl, inr, arith, length-append}
+use Rattle.std.specs.Io.KnownBytes.{Consumes, IsAtEnd}
+use Rattle.std.proofs.lemmas.List.{append_assoc, append-nil, append_cancel_right}
+use Rattle.outside.specs.Streams.{SourceSeen, SinkSeen, Fits}
+use Rattle.plain_world.specs.Words.{Words}
+use Rattle.plain_world.specs.Spelling.{spelled}
+use Rattle.plain_world.specs.declared.reply.Part.{Part}
+use Rattle.resp_frames.specs.Frames.{Framed}
+use Rattle.resp_frames.specs.Ends.{End, Whole, Cut, Fault, Frames}
+use Rattle.resp_frames.proofs.Streams.{requests_first, framed_more, one_frames, fault_frames}
+use Rattle.serving.specs.declared.ending.Ended.{Ended}
+use Rattle.serving.specs.declared.ending.Ended.TheVariants as endings
+use Rattle.serving.specs.Served.{at_limit, take_fails, finds_end, EndsBy, CountsReads, AnswersPart, Ends, answered, quit, write_fault, no_memory, Served}
+use Rattle.serving.specs.Path.{GoOn}
+use Rattle.serving.specs.Exactly as exactly
+use Rattle.serving.specs.Exactly.{HasQuit, EndsExactly, ServesExactly, NoReadFault, AllFit, NoWriteFault, EndsWhole, ServesWhole}
+
+-- ---- from the states of an engine to what is seen of them
+
+module _ {E F : Type 0} (P : List Words → List (List Part) → E → Type 0) (Q : List Words → List (List Part) → F → Type 0) (quits : Words → Bool) (spent : E → Bool) (known : F → Bool)
+    (see : E → F) (turn : (asked : List Words) (replies : List (List Part)) (last : E) → P asked replies last → Q asked replies (see last)) where
+  -- a serving of an engine is one of what is seen of it, up to the last state that is known
+  pub served_as : (limit : ℕ) (i i1 : SourceSeen) (o o1 : SinkSeen) (last : E) (ended : Ended) → Served P quits spent limit i i1 o o1 last ended → (last' : F) × Served Q quits known limit i i1 o o1 last' ended
+  served_as limit i i1 o o1 last ended s =
+      let with_end : (last' : F) → Ends Q quits known limit s.taken s.asked s.end i1.told o o1 last' ended → Served Q quits known limit i i1 o o1 last' ended =
+      λ last' e. record { taken = s.taken; took = s.took; few = s.few; asked = s.asked; end = s.end; frames = s.frames; ends = e; reads = s.reads; writes = s.writes } in
+      elim s.ends [
+        | answered a by ↦ (see last, with_end (see last) (answered (record { replies = a.replies; may = turn s.asked a.replies last a.may; go_on = a.go_on; wrote = a.wrote }) by))
+        | quit a is ↦
+            (see last, with_end (see last) (quit (record { front = a.front; quit = a.quit; others = a.others; split = a.split; go_on = a.go_on; ends_run = a.ends_run; replies = a.replies; may = turn (a.front ++ a.quit ∷ []) a.replies last a.may; wrote = a.wrote }) is))
+        | write_fault a is ↦
+            (see a.then_is, with_end (see a.then_is) (write_fault (record { some = a.some; others = a.others; split = a.split; replies = a.replies; then_is = see a.then_is; may = turn a.some a.replies a.then_is a.may; known = inl refl; tail = a.tail; behind = a.behind; wrote = a.wrote }) is))
+        | no_memory a is ↦
+            (see a.last, with_end (see a.last) (no_memory (record { some = a.some; others = a.others; split = a.split; replies = a.replies; last = see a.last; may = turn a.some a.replies a.last a.may; wrote = a.wrote }) is))
+      ]
+
+-- ---- the bytes taken and left
+
+-- the bytes taken, where the input tells them
+same_taken : (l l1 : Option (List ℕ)) (bytes rest taken taken' : List ℕ) → l ≡ Some bytes → l1 ≡ Some rest → Consumes l l1 taken → bytes ≡ taken' ++ rest → taken ≡ taken'
+same_taken None l1 bytes rest taken taken' e f k h = cc
+same_taken (Some xs) None bytes rest taken taken' e f k h = cc
+same_taken (Some xs) (Some ys) bytes rest taken taken' e f k h =
+    let a : xs ≡ bytes = cc in
+    let b : ys ≡ rest = cc in
+    append_cancel_right taken taken' rest (ap (λ l. taken ++ l) (sym b) ∙ sym k ∙ a ∙ h)
+
+-- the bytes that are left, where the input tells them
+record Left (bytes taken : List ℕ) (l1 : Option (List ℕ)) : Type 0 where
+  rest : List ℕ
+  is : l1 ≡ Some rest
+  whole : bytes ≡ taken ++ rest
+
+left_of : (l l1 : Option (List ℕ)) (bytes taken : List ℕ) → l ≡ Some bytes → Consumes l l1 taken → Left bytes taken l1
+left_of None l1 bytes taken e k = cc
+left_of (Some xs) None bytes taken e k = absurd k
+left_of (Some xs) (Some ys) bytes taken e k = let a : xs ≡ bytes = cc in record { rest = ys; is = refl; whole = sym a ∙ k }
+
+whole_not_cut : (bytes : List ℕ) (asked asked' : List Words) → Frames bytes asked Whole → Frames bytes asked' Cut → ⊥
+whole_not_cut bytes asked asked' a b = let e = (one_frames bytes asked asked' Whole Cut a b).1 in cc
+
+whole_not_fault : (bytes : List ℕ) (asked asked' : List Words) (rule at : ℕ) → Frames bytes asked Whole → Frames bytes asked' (Fault rule at) → ⊥
+whole_not_fault bytes asked asked' rule at a b = let e = (one_frames bytes asked asked' Whole (Fault rule at) a b).1 in cc
+
+module _ {E : Type 0} (P : List Words → List (List Part) → E → Type 0) (quits : Words → Bool) (spent : E → Bool) (limit : ℕ) (i i1 : SourceSeen) (o o1 : SinkSeen) (last : E) (ended : Ended)
+    (s : Served P quits spent limit i i1 o o1 last ended) where
+  -- ---- when it ends in which way
+
+  pub ends_exactly : ServesExactly quits limit i i1 ended
+  ends_exactly bytes rest taken asked end e f whole frames =
+      let same : s.taken ≡ taken = same_taken i.told i1.told bytes rest s.taken taken e f s.took whole in
+      let F : List ℕ → Type 0 = λ t. Frames t s.asked s.end in
+      let one = one_frames taken s.asked asked s.end end (subst F same s.frames) frames in
+      elim s.ends [
+        | answered a by ↦
+            let P : List ℕ → Type 0 = λ t. EndsBy limit t s.end i1.told ended in
+            let Q : End → Type 0 = λ x. EndsBy limit taken x i1.told ended in
+            let R : Option (List ℕ) → Type 0 = λ x. EndsBy limit taken end x ended in
+            exactly.answered (subst (λ l. GoOn quits l) one.0 a.go_on) (subst R f (subst Q one.1 (subst P same by)))
+        | quit a is ↦ exactly.quit (record { front = a.front; quit = a.quit; others = a.others; split = sym one.0 ∙ a.split; go_on = a.go_on; ends_run = a.ends_run }) is
+        | write_fault a is ↦ exactly.write_fault is
+        | no_memory a is ↦ exactly.no_memory is
+      ]
+
+  -- ---- an input that is served whole
+
+  module _ (bytes : List ℕ) (asked : List Words) (left : Left bytes s.taken i1.told) (frames : Frames bytes asked Whole) (few : length bytes < limit) (no_read : NoReadFault i i1) where
+    not_limit : length s.taken ≡ limit → ⊥
+    not_limit e = omega (arith, ap length left.whole, length-append s.taken left.rest)
+
+    not_failed : ended ≡ endings.ReadFault → ⊥
+    not_failed is =
+        let C : Ended → Type 0 = λ e. CountsReads i i1 e in
+        let counts = subst C is s.reads in
+        elim no_read [ inl sure ↦ counts.1 sure | inr none ↦ none counts.0 ]
+
+    at_end_cut : IsAtEnd i1.told → Frames s.taken s.asked Cut → ⊥
+    at_end_cut end f =
+        let P : Option (List ℕ) → Type 0 = IsAtEnd in
+        let none : left.rest ≡ [] = subst P left.is end in
+        let same : s.taken ≡ bytes = sym (left.whole ∙ ap (λ l. s.taken ++ l) none ∙ append-nil s.taken) in
+        let Q : List ℕ → Type 0 = λ t. Frames t s.asked Cut in
+        whole_not_cut bytes asked s.asked frames (subst Q same f)
+
+    no_fault : (rule at : ℕ) → Frames s.taken s.asked (Fault rule at) → ⊥
+    no_fault rule at f =
+        let P : List ℕ → Type 0 = λ t. Frames t s.asked (Fault rule at) in
+        whole_not_fault bytes asked s.asked rule at frames (subst P (sym left.whole) (fault_frames s.taken left.rest s.asked rule at f))
+
+    by_completes : (end : End) → Frames s.taken s.asked end → EndsBy limit s.taken end i1.told ended → EndsWhole ended
+    by_completes Whole f (at_limit e is) = absurd (not_limit e)
+    by_completes Whole f (take_fails e is) = absurd (not_failed is)
+    by_completes Whole f (finds_end e end is) = exactly.whole is
+    by_completes Cut f (at_limit e is) = absurd (not_limit e)
+    by_completes Cut f (take_fails e is) = absurd (not_failed is)
+    by_completes Cut f (finds_end e end is) = absurd (at_end_cut end f)
+    by_completes (Fault rule at) f e = absurd (no_fault rule at f)
+
+    -- the requests that were taken are the first of all
+    first_asked : (more : List Words) × (asked ≡ s.asked ++ more)
+    first_asked =
+        let P : List ℕ → Type 0 = λ l. Framed l s.frames.items (s.frames.rest ++ left.rest) in
+        let r = requests_first bytes s.frames.items (s.frames.rest ++ left.rest) asked Whole (subst P (sym left.whole) (framed_more s.taken s.frames.rest left.rest s.frames.items s.frames.framed)) frames in
+        (r.0, r.1 ∙ ap (λ l. l ++ r.0) s.frames.are)
+
+    -- the line of a broken rule stands behind no reply
+    no_tail : (a : AnswersPart P quits spent s.asked s.end o o1 last) → a.tail ≡ []
+    no_tail a = elim a.behind [
+      | inl none ↦ none
+      | inr some ↦ let F : End → Type 0 = λ e. Frames s.taken s.asked e in absurd (no_fault some.0 some.1 (subst F some.2 s.frames))
+    ]
+
+    put_completes : NoWriteFault P asked o o1 → AnswersPart P quits spent s.asked s.end o o1 last → ⊥
+    put_completes no_write a = elim no_write [
+      | inl fit ↦
+          let r = first_asked in
+          let split : asked ≡ a.some ++ (a.others ++ r.0) = r.1 ∙ ap (λ l. l ++ r.0) a.split ∙ append_assoc a.some a.others r.0 in
+          let F : List ℕ → Type 0 = λ l. Fits o.room (length l) in
+          a.wrote.unsure (subst F (sym (ap (λ l. spelled a.replies ++ l) (no_tail a) ∙ append-nil (spelled a.replies))) (fit a.some (a.others ++ r.0) a.replies a.then_is split a.may))
+      | inr none ↦ none a.wrote.rose
+    ]
+
+  pub completes : ServesWhole P limit i i1 o o1 ended
+  completes bytes asked e frames few no_read no_write =
+      let left = left_of i.told i1.told bytes s.taken e s.took in
+      elim s.ends [
+        | answered a by ↦ by_completes bytes asked left frames few no_read s.end s.frames by
+        | quit a is ↦ exactly.quit is
+        | write_fault a is ↦ absurd (put_completes bytes asked left frames few no_read no_write a)
+        | no_memory a is ↦ exactly.no_memory is
+      ]

@@ -1,0 +1,8 @@
+pub mod Path
+pub mod Timed
+pub mod Output
+pub mod Answering
+pub mod Taking
+pub mod Served
+pub mod Exactly
+pub mod Statuses

@@ -1,0 +1,17 @@
+-- The way that an engine goes, from request to request.
+use Rattle.std.specs.Prelude.{◌≡◌, List, [], ◌∷◌, Bool, false}
+use Rattle.std.specs.List.{AllByRecursion}
+use Rattle.plain_world.specs.Words.{Words}
+use Rattle.plain_world.specs.declared.reply.Part.{Part}
+
+module _ {E : Type 0} (executes : E → Words → List Part → E → Type 0) where
+  -- the engine answers the requests by these replies in turn, and is the new one then
+  abbrev pub path : E → List Words → List (List Part) → E → Type 0
+  path old [] [] new = new ≡ old
+  path old (words ∷ asked) (reply ∷ replies) new = (mid : E) × executes old words reply mid × path mid asked replies new
+  path old [] (reply ∷ replies) new = ⊥
+  path old (words ∷ asked) [] new = ⊥
+
+-- none of the requests ends the run
+abbrev pub GoOn : (Words → Bool) → List Words → Type 0
+GoOn quits asked = AllByRecursion (λ words. quits words ≡ false) asked

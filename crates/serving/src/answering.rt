@@ -1,0 +1,114 @@
+//! Requests are answered.
+
+ghost use Rattle.std.specs.Prelude.{◌≡◌, [], OnErr};
+ghost use Rattle.serving.specs.Timed.{Timed, TimedStep, timed_spent};
+ghost use Rattle.serving.specs.Output.{pending_bytes};
+ghost use Rattle.serving.specs.Answering.{AnswersOne, Finishes, AnswersAll, AllPut};
+
+use crate::pending::{Pending, flush};
+use crate::server::Server;
+use crate::writing::write_reply;
+use outside::{Clock, Sink};
+use resp_frames::{Feeder, FrameFault, Request};
+
+/// The greatest moment, in milliseconds.
+pub const LATEST: u64 = 9_223_372_036_854_775_807;
+
+/// What became of one request.
+#[derive(Clone, Copy)]
+pub enum Answer {
+    /// Its reply is written, or pending.
+    Written,
+    /// The same, and the run ends with it.
+    Quit,
+    /// Its reply could not be written whole.
+    Fault,
+    /// Want of memory; its reply is neither written nor pending.
+    Memory,
+}
+
+/// What became of the requests that were whole.
+#[derive(Clone, Copy)]
+pub enum Answered {
+    /// All were answered, and no rule is broken.
+    All,
+    /// All were answered, and then this rule is broken, at this byte of the input.
+    Protocol(u8, u64),
+    /// One was answered that ends the run.
+    Quit,
+    /// A reply could not be written whole.
+    Fault,
+    /// Want of memory.
+    Memory,
+}
+
+// Answers one request, at the moment that the clock tells.
+fn answer_one<E: Server, O: Sink>(
+    engine: &mut E,
+    clock: &mut Box<dyn Clock>,
+    request: &Request<'_>,
+    pending: &mut Pending,
+    output: &mut O,
+) -> Answer
+    ensures { AnswersOne (TimedStep E.executes) E.quits (timed_spent E.spent) (record { engine = engine.old; clock = answers clock.old }) (record { engine = engine.new; clock = answers clock.new }) request.now
+        (O.seen output.old) (O.seen output.new) (pending_bytes pending.old) (pending_bytes pending.new) result }
+{
+    let moment = clock.now().min(LATEST);
+    let done = match engine.execute(request, moment) {
+        Err(_) => return Answer::Memory,
+        Ok(done) => done,
+    };
+    match write_reply(&done.reply, pending, output) {
+        Err(_) => Answer::Fault,
+        Ok(()) => {
+            if done.quit {
+                Answer::Quit
+            } else {
+                Answer::Written
+            }
+        }
+    }
+}
+
+// Puts what is pending, and then says this.
+fn finish<O: Sink>(pending: &mut Pending, output: &mut O, answered: Answered) -> Answered
+    ensures { Finishes (O.seen output.old) (O.seen output.new) (pending_bytes pending.old) (pending_bytes pending.new) answered result }
+{
+    match flush(pending, output) {
+        Ok(()) => answered,
+        Err(_) => Answered::Fault,
+    }
+}
+
+/// Answers each request that is whole, up to one that ends the run, and puts the replies.
+pub fn answer_all<E: Server, O: Sink>(
+    engine: &mut E,
+    clock: &mut Box<dyn Clock>,
+    feeder: &mut Feeder,
+    pending: &mut Pending,
+    output: &mut O,
+) -> Answered
+    requires { pending_bytes pending.old ≡ [] }
+    ensures answers { AnswersAll (TimedStep E.executes) E.quits (timed_spent E.spent) feeder.old feeder.new (record { engine = engine.old; clock = answers clock.old }) (record { engine = engine.new; clock = answers clock.new })
+        (O.seen output.old) (O.seen output.new) result }
+    ensures none { AllPut (pending_bytes pending.new) result }
+{
+    'requests: loop {
+        match feeder.next_request() {
+            Err(FrameFault::Protocol { fault, at }) => return finish(
+                pending,
+                output,
+                Answered::Protocol(fault, at),
+            ),
+            Err(FrameFault::Memory) => return finish(pending, output, Answered::Memory),
+            Ok(false) => return finish(pending, output, Answered::All),
+            Ok(true) => {}
+        }
+        match answer_one(engine, clock, &feeder.current(), pending, output) {
+            Answer::Written => {}
+            Answer::Quit => return finish(pending, output, Answered::Quit),
+            Answer::Fault => return Answered::Fault,
+            Answer::Memory => return finish(pending, output, Answered::Memory),
+        }
+    }
+}

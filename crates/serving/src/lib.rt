@@ -1,0 +1,16 @@
+//! The requests of an input are served by an engine, whatever it is.
+#![tactic(auto)]
+
+mod answering;
+mod ending;
+mod pending;
+mod pieces;
+mod server;
+#[cfg(test)]
+mod tests;
+mod writing;
+
+pub use answering::LATEST;
+pub use ending::Ended;
+pub use pieces::serve_input;
+pub use server::{Done, Server};
