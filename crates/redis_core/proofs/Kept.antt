@@ -1,21 +1,22 @@
 -- A refused request leaves the live world.
 use Rattle.std.proofs.Common.{◌≡◌, ℕ, List, [], ◌∷◌, Option, Some, None, Bool, true, false, Result, Ok, Err, refl, subst, ◌∙◌}
 use Rattle.std.specs.Prelude.{MatchResult, is_some, if◌then◌else◌, nat_le, ◌==◌, length, ◌++◌, ℤ, pos, ◌+ℤ◌, ◌-ℤ◌}
-use Rattle.plain_model.specs.Words.{Words}
-use Rattle.plain_model.specs.Worlds.{World, Value, Str, Entry, look, live}
-use Rattle.plain_model.specs.Numbers.{is_i64}
+use Rattle.plain_world.specs.Words.{Words}
+use Rattle.plain_world.specs.Worlds.{World, Value, Str, Entry, look, live}
+use Rattle.int_text.specs.Decimal.{is_i64}
 use Rattle.plain_model.specs.Outcomes.{Outcome, IsRefusal}
 use Rattle.plain_model.specs.Meant.{meant}
 use Rattle.plain_model.specs.Steps.{may, step}
-use Rattle.plain_model.specs.StringSteps.{on_string, with_string, or_null, or_empty, ok, allows, append, set_range, number_at, count_on, count, any_there, string_outcome}
-use Rattle.plain_model.specs.StringWords.{longest}
+use Rattle.plain_model.specs.StringSteps.{on_string, with_string, or_null, or_empty, ok, allows, append, set_range, number_at, count_on, count, any_there, set_outcome, string_outcome}
+use Rattle.plain_world.specs.Words.{longest}
 use Rattle.plain_model.specs.declared.command.Command.{Command}
+use Rattle.plain_model.specs.declared.command.Condition.{Condition}
 use Rattle.plain_model.specs.declared.command.Command.TheVariants.{Strings}
 use Rattle.plain_model.specs.declared.command.StringCommand.{StringCommand}
 use Rattle.plain_model.specs.declared.command.StringCommand.TheVariants as strings
-use Rattle.plain_model.specs.declared.refusal.Refusal.{Refusal}
-use Rattle.plain_model.specs.declared.reply.Part.{Part}
-use Rattle.plain_model.specs.declared.reply.Part.TheVariants.{Null, Refused}
+use Rattle.plain_world.specs.declared.refusal.Refusal.{Refusal}
+use Rattle.plain_world.specs.declared.reply.Part.{Part}
+use Rattle.plain_world.specs.declared.reply.Part.TheVariants.{Null, Refused}
 
 module _ (old : World) where
   -- where the reply is an error, the world stays
@@ -24,6 +25,7 @@ module _ (old : World) where
 
   with_string_keeps : (value : Value) (answer : List ℕ → Outcome) → ((bytes : List ℕ) → Keeps (answer bytes)) → Keeps (with_string old value answer)
   with_string_keeps (Str bytes) answer h = h bytes
+  with_string_keeps other answer h = λ r. refl
 
   on_string_keeps : (entry : Option Entry) (answer : Option (List ℕ) → Outcome) → ((before : Option (List ℕ)) → Keeps (answer before)) → Keeps (on_string old entry answer)
   on_string_keeps None answer h = h None
@@ -54,27 +56,30 @@ module _ (old : World) where
   counted_keeps : (key : List ℕ) (next : ℤ → ℤ) → Keeps (count old key next)
   counted_keeps key next = on_string_keeps (look old key) _ (λ before. count_keeps key next (number_at before))
 
-  outcome_keeps : (command : StringCommand) → Keeps (string_outcome old command)
-  outcome_keeps (strings.Get key) = on_string_keeps (look old key) _ (λ before r. refl)
-  outcome_keeps (strings.Set key value condition true) = on_string_keeps (look old key) _ (λ before r. no_error before r)
-  outcome_keeps (strings.Set key value condition false) = neither (allows condition (is_some (look old key)))
-  outcome_keeps (strings.SetNx key value) = either (is_some (look old key)) _ _ (λ r. refl) (λ r. absurd r)
-  outcome_keeps (strings.GetSet key value) = on_string_keeps (look old key) _ (λ before r. no_error before r)
-  outcome_keeps (strings.GetDel key) = on_string_keeps (look old key) _ (λ before r. no_error before r)
-  outcome_keeps (strings.MGet keys) = λ r. refl
-  outcome_keeps (strings.MSet pairs) = λ r. absurd r
-  outcome_keeps (strings.MSetNx pairs) = either (any_there old pairs) _ _ (λ r. refl) (λ r. absurd r)
-  outcome_keeps (strings.Append key tail) = on_string_keeps (look old key) _ (append_keeps key tail)
-  outcome_keeps (strings.StrLen key) = on_string_keeps (look old key) _ (λ before r. refl)
-  outcome_keeps (strings.GetRange key a b) = on_string_keeps (look old key) _ (λ before r. refl)
-  outcome_keeps (strings.SetRange key at piece) = on_string_keeps (look old key) _ (set_range_keeps key at piece)
-  outcome_keeps (strings.Incr key) = counted_keeps key (λ n. n +ℤ pos 1)
-  outcome_keeps (strings.Decr key) = counted_keeps key (λ n. n -ℤ pos 1)
-  outcome_keeps (strings.IncrBy key by) = counted_keeps key (λ n. n +ℤ by)
-  outcome_keeps (strings.DecrBy key by) = counted_keeps key (λ n. n -ℤ by)
+  set_keeps : (key value : List ℕ) (condition : Condition) (get : Bool) → Keeps (set_outcome old key value condition get)
+  set_keeps key value condition true = on_string_keeps (look old key) _ (λ before r. no_error before r)
+  set_keeps key value condition false = neither (allows condition (is_some (look old key)))
+
+  outcome_keeps : (moment : ℕ) (command : StringCommand) → Keeps (string_outcome moment old command)
+  outcome_keeps moment (strings.Get key) = on_string_keeps (look old key) _ (λ before r. refl)
+  outcome_keeps moment (strings.Set key value options) = set_keeps key value options.condition options.get
+  outcome_keeps moment (strings.SetNx key value) = either (is_some (look old key)) _ _ (λ r. refl) (λ r. absurd r)
+  outcome_keeps moment (strings.GetSet key value) = on_string_keeps (look old key) _ (λ before r. no_error before r)
+  outcome_keeps moment (strings.GetDel key) = on_string_keeps (look old key) _ (λ before r. no_error before r)
+  outcome_keeps moment (strings.MGet keys) = λ r. refl
+  outcome_keeps moment (strings.MSet pairs) = λ r. absurd r
+  outcome_keeps moment (strings.MSetNx pairs) = either (any_there old pairs) _ _ (λ r. refl) (λ r. absurd r)
+  outcome_keeps moment (strings.Append key tail) = on_string_keeps (look old key) _ (append_keeps key tail)
+  outcome_keeps moment (strings.StrLen key) = on_string_keeps (look old key) _ (λ before r. refl)
+  outcome_keeps moment (strings.GetRange key a b) = on_string_keeps (look old key) _ (λ before r. refl)
+  outcome_keeps moment (strings.SetRange key at piece) = on_string_keeps (look old key) _ (set_range_keeps key at piece)
+  outcome_keeps moment (strings.Incr key) = counted_keeps key (λ n. n +ℤ pos 1)
+  outcome_keeps moment (strings.Decr key) = counted_keeps key (λ n. n -ℤ pos 1)
+  outcome_keeps moment (strings.IncrBy key by) = counted_keeps key (λ n. n +ℤ by)
+  outcome_keeps moment (strings.DecrBy key by) = counted_keeps key (λ n. n -ℤ by)
 
   command_keeps : (seed moment : ℕ) (command : Command) (reply : List Part) (new : World) → may seed old moment command reply new → IsRefusal reply → new ≡ old
-  command_keeps seed moment (Strings command) reply new m r = m.1 ∙ outcome_keeps command (subst IsRefusal m.0 r)
+  command_keeps seed moment (Strings command) reply new m r = m.1 ∙ outcome_keeps moment command (subst IsRefusal m.0 r)
 
 meant_keeps : (seed moment : ℕ) (old : World) (m : Result Command Refusal) (reply : List Part) (new : World)
     → MatchResult m (λ command. may seed old moment command reply new) (λ refusal. (reply ≡ Refused refusal ∷ []) × (new ≡ old)) → IsRefusal reply → new ≡ old

@@ -1,22 +1,23 @@
 -- Requests as steps of the model.
-use Rattle.std.proofs.Common.{◌≡◌, ℕ, List, [], ◌∷◌, Result, Ok, Err, IfOk, refl, sym, subst}
+use Rattle.std.proofs.Common.{◌≡◌, ℕ, List, [], ◌∷◌, Result, Ok, Err, IfOk, max, false, refl, sym, ap, subst, ◌∙◌}
 use Rattle.std.specs.Prelude.{MatchResult}
 use Rattle.blocks.specs.Blocks.{Blocks, no_step}
-use Rattle.plain_model.specs.Words.{Words}
-use Rattle.plain_model.specs.Worlds.{World, live}
+use Rattle.plain_world.specs.Words.{Words}
+use Rattle.plain_world.specs.Worlds.{World, live}
 use Rattle.plain_model.specs.Meant.{meant}
 use Rattle.plain_model.specs.Steps.{may, step}
 use Rattle.plain_model.specs.declared.command.Command.{Command}
 use Rattle.plain_model.specs.declared.ctx.Ctx.{Ctx}
-use Rattle.plain_model.specs.declared.refusal.Refusal.{Refusal}
-use Rattle.plain_model.specs.declared.reply.Part.{Part}
-use Rattle.plain_model.specs.declared.reply.Part.TheVariants.{Refused}
+use Rattle.plain_world.specs.declared.refusal.Refusal.{Refusal}
+use Rattle.plain_world.specs.declared.reply.Part.{Part}
+use Rattle.plain_world.specs.declared.reply.Part.TheVariants.{Refused}
 use Rattle.keyspace.specs.Databases.{Bases, means}
+use Rattle.keyspace.specs.Databases.{Keyspace}
+use Rattle.keyspace.specs.Commands.{sight, Ready, Runs}
 use Rattle.keyspace.specs.Sound.{Sound}
-use Rattle.keyspace.specs.Commands.{seen, Runs}
 use Rattle.keyspace.proofs.Running.{same_settings, unchanged}
 use Rattle.keyspace.proofs.Uses.{Live-means}
-use Rattle.redis_core.specs.Engines.{State, world_of, Answers}
+use Rattle.redis_core.specs.Engines.{State, world_of, Stays, Keeps, Executes, Answers}
 
 module _ (at : Ctx) (words : Words) where
   -- what a request may be answered, from what its words mean
@@ -35,30 +36,19 @@ module _ (at : Ctx) (words : Words) where
 
 module _ {S E : Type 0} (blocks : S → Blocks) (step_of : S → S → Type 0) (at : Ctx) (words : Words) where
   -- the command of a request ran
-  pub ran : (old new : S) (before after : Bases) (command : Command) (result : Result (List Part) E) → meant words ≡ Ok command
-      → Runs blocks step_of old new before after at command result → Answers blocks step_of old new before after at words result
-  ran old new before after command result e r = record {
-    answers = step_is at words before.seed (means at.db before (blocks old)) (seen at after (blocks new)) command result e r.answers;
-    refusals = r.refusals;
-    sound = r.sound;
-    served = r.served;
-    settings = r.settings;
-  }
+  pub ran : (old new : Keyspace S) (command : Command) (result : Result (List Part) E) → meant words ≡ Ok command
+      → Runs blocks step_of old new at command result → Answers blocks step_of old new at words result
+  ran old new command result e r = record { answers = step_is at words old.bases.seed (means at.db old.bases (blocks old.store)) (sight blocks new at) command result e r.answers; kept = r.kept }
 
   -- the words of a request are refused
-  pub refused : (store : S) (bases : Bases) (refusal : Refusal) (result : Result (List Part) E) → Sound bases (blocks store) → meant words ≡ Err refusal
-      → IfOk result (λ reply. reply ≡ Refused refusal ∷ []) → Answers blocks step_of store store bases bases at words result
-  refused store bases refusal result sound e h = record {
-    answers = refusal_is at words bases.seed (means at.db bases (blocks store)) refusal result e h;
-    refusals = unchanged store bases result;
-    sound = sound;
-    served = no_step;
-    settings = same_settings bases;
-  }
+  pub refused : (keyspace : Keyspace S) (refusal : Refusal) (result : Result (List Part) E) → Ready blocks keyspace at → meant words ≡ Err refusal
+      → IfOk result (λ reply. reply ≡ Refused refusal ∷ []) → Answers blocks step_of keyspace keyspace at words result
+  refused keyspace refusal result ready e h =
+      record { answers = refusal_is at words keyspace.bases.seed (means at.db keyspace.bases (blocks keyspace.store)) refusal result e h; kept = unchanged blocks step_of keyspace result ready.sound }
 
   -- memory was refused before anything changed
-  pub not_read : (store : S) (bases : Bases) (e : E) → Sound bases (blocks store) → Answers blocks step_of store store bases bases at words (Err e)
-  not_read store bases e sound = record { answers = tt; refusals = tt; sound = sound; served = no_step; settings = same_settings bases }
+  pub not_read : (keyspace : Keyspace S) (e : E) → Ready blocks keyspace at → Answers blocks step_of keyspace keyspace at words (Err e)
+  not_read keyspace e ready = record { answers = tt; kept = unchanged blocks step_of keyspace (Err e) ready.sound }
 
 -- a step from what the keyspace means is one from the world that the engine holds: nothing is gone yet
 pub from_held : {S : Type 0} (blocks : S → Blocks) (engine inside : State S) → inside ≡ engine → (moment : ℕ) (words : Words) (reply : List Part) (new : World)
@@ -66,3 +56,23 @@ pub from_held : {S : Type 0} (blocks : S → Blocks) (engine inside : State S) �
 from_held blocks engine inside e moment words reply new s =
     subst (λ x. step x.bases.seed (world_of blocks x) moment words reply new) e
     (subst (λ w. step inside.bases.seed w moment words reply new) (sym (Live-means inside.selected inside.bases (blocks inside.store) inside.last)) s)
+
+-- an engine that is left as it was
+pub kept_as_was : {S : Type 0} (blocks : S → Blocks) (step_of : S → S → Type 0) (engine inside : State S) (last : ℕ) → inside ≡ engine → Sound inside.bases (blocks inside.store) → Keeps blocks step_of engine (record inside { last = last })
+kept_as_was blocks step_of engine inside last e sound =
+    subst (λ x. Keeps blocks step_of x (record inside { last = last })) e (record { sound = sound; served = no_step; settings = same_settings inside.bases })
+
+-- an engine answers as its keyspace does
+pub executes : {S E : Type 0} (blocks : S → Blocks) (step_of : S → S → Type 0) (engine inside : State S) (moment last : ℕ) (words : Words) (reply : List Part) (bases : Bases) (store : S)
+    → inside ≡ engine → inside.is_spent ≡ false → last ≡ max inside.last moment
+    → Answers {E = E} blocks step_of (record { bases = inside.bases; store = inside.store }) (record { bases = bases; store = store }) (record { db = inside.selected; moment = last }) words (Ok reply)
+    → Executes blocks step_of moment engine words reply (record { bases = bases; store = store; selected = inside.selected; last = last; is_spent = inside.is_spent })
+executes {S = S} blocks step_of engine inside moment last words reply bases store e alive later a =
+    let new : State S = record { bases = bases; store = store; selected = inside.selected; last = last; is_spent = inside.is_spent } in
+    record {
+      may = from_held blocks engine inside e last words reply (world_of blocks new) a.answers;
+      last = later ∙ ap (λ x. max x.last moment) e;
+      refused = λ r. let same = a.kept.refusals r in subst (λ x. Stays x new) e (record { bases = ap (λ k. k.bases) same; store = ap (λ k. k.store) same; selected = refl });
+      keeps = subst (λ x. Keeps blocks step_of x new) e (record { sound = a.kept.sound; served = a.kept.served; settings = a.kept.settings });
+      alive = alive;
+    }

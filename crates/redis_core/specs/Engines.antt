@@ -1,15 +1,16 @@
 -- What contracts see of an engine, and what its calls do.
-use Rattle.std.specs.Prelude.{◌≡◌, ℕ, ◌<◌, List, Bool, true, false, Result, Ok, Err, IfOk}
+use Rattle.std.specs.Prelude.{◌≡◌, ℕ, ◌<◌, List, Bool, max, true, false, Result, Ok, Err, IfOk}
 use Rattle.blocks.specs.Blocks.{Blocks, Served}
-use Rattle.plain_model.specs.Words.{Words}
-use Rattle.plain_model.specs.Worlds.{World, live, new_world}
-use Rattle.plain_model.specs.Steps.{step}
+use Rattle.plain_world.specs.Words.{Words}
+use Rattle.plain_world.specs.Worlds.{World, live, new_world}
 use Rattle.plain_model.specs.Outcomes.{IsRefusal}
+use Rattle.plain_model.specs.Steps.{step}
 use Rattle.plain_model.specs.declared.ctx.Ctx.{Ctx}
-use Rattle.plain_model.specs.declared.reply.Part.{Part}
+use Rattle.plain_world.specs.declared.reply.Part.{Part}
 use Rattle.keyspace.specs.Databases.{Bases, means, SameSettings}
 use Rattle.keyspace.specs.Sound.{Sound}
-use Rattle.keyspace.specs.Commands.{seen}
+use Rattle.keyspace.specs.Databases.{Keyspace}
+use Rattle.keyspace.specs.Commands.{Kept, sight}
 use Rattle.rdb_reader.specs.declared.fault.LoadFault.{LoadFault}
 use Rattle.rdb_reader.specs.declared.fault.LoadFault.TheVariants as faults
 
@@ -49,6 +50,25 @@ pub record Stays {S : Type 0} (old new : State S) : Type 0 where
   pub store : new.store ≡ old.store
   pub selected : new.selected ≡ old.selected
 
+-- The keyspace is sound, the store was served placings, returns and writes alone, and what values are made with stays.
+pub record Keeps {S : Type 0} (blocks : S → Blocks) (step_of : S → S → Type 0) (old new : State S) : Type 0 where
+  pub sound : Sound new.bases (blocks new.store)
+  pub served : Served step_of old.store new.store
+  pub settings : SameSettings old.bases new.bases
+
+-- The step of an engine: it answers a request by a step of the model on the world that it holds, and the moment counts as
+-- the last one used where that is later. Where the request is refused, databases, store and the selected one stay.
+pub record Executes {S : Type 0} (blocks : S → Blocks) (step_of : S → S → Type 0) (moment : ℕ) (old : State S) (words : Words) (reply : List Part) (new : State S) : Type 0 where
+  pub may : step old.bases.seed (world_of blocks old) new.last words reply (world_of blocks new)
+  pub last : new.last ≡ max old.last moment
+  pub refused : IsRefusal reply → Stays old new
+  pub keeps : Keeps blocks step_of old new
+  pub alive : new.is_spent ≡ false
+
+-- no request ends the run yet
+abbrev pub quits : Words → Bool
+quits words = false
+
 -- memory was refused
 abbrev pub is_memory : {A : Type 0} → Result A LoadFault → Bool
 is_memory (Ok loaded) = false
@@ -57,12 +77,7 @@ is_memory (Err faults.Host) = false
 is_memory (Err faults.Limit) = false
 is_memory (Err faults.Memory) = true
 
--- The request is a step of the model on what the keyspace means, before and after. Where it is refused, keyspace and store
--- stay as they are. The keyspace is sound afterwards, also for want of memory, and the store was served placings, returns
--- and writes alone.
-pub record Answers {S E : Type 0} (blocks : S → Blocks) (step_of : S → S → Type 0) (old new : S) (before after : Bases) (at : Ctx) (words : Words) (result : Result (List Part) E) : Type 0 where
-  pub answers : IfOk result (λ reply. step before.seed (means at.db before (blocks old)) at.moment words reply (seen at after (blocks new)))
-  pub refusals : IfOk result (λ reply. IsRefusal reply → (new ≡ old) × (after ≡ before))
-  pub sound : Sound after (blocks new)
-  pub served : Served step_of old new
-  pub settings : SameSettings before after
+-- The request is a step of the model on what the keyspace means, before and after.
+pub record Answers {S E : Type 0} (blocks : S → Blocks) (step_of : S → S → Type 0) (old new : Keyspace S) (at : Ctx) (words : Words) (result : Result (List Part) E) : Type 0 where
+  pub answers : IfOk result (λ reply. step old.bases.seed (means at.db old.bases (blocks old.store)) at.moment words reply (sight blocks new at))
+  pub kept : Kept blocks step_of old new result

@@ -1,10 +1,10 @@
 -- Statements of the laws.
 use Rattle.std.specs.Prelude.{◌≡◌, ℕ, List}
-use Rattle.plain_model.specs.Words.{Words}
-use Rattle.plain_model.specs.Worlds.{World, live}
+use Rattle.plain_world.specs.Words.{Words}
+use Rattle.plain_world.specs.Worlds.{World, live}
 use Rattle.plain_model.specs.Steps.{step}
 use Rattle.plain_model.specs.Outcomes.{IsRefusal}
-use Rattle.plain_model.specs.declared.reply.Part.{Part}
+use Rattle.plain_world.specs.declared.reply.Part.{Part}
 
 -- where a request may be answered by an error, it leaves the world as it was, live at the moment
 abbrev pub RefusalsChangeNothing : Type 0

@@ -1,9 +1,7 @@
 //! One request by its command's own function.
 
-ghost use Rattle.std.specs.Prelude.{◌≡◌, ◌<◌};
 ghost use Rattle.plain_model.specs.Meant.{IsAsked};
-ghost use Rattle.keyspace.specs.Sound.{Sound};
-ghost use Rattle.keyspace.specs.Commands.{Runs};
+ghost use Rattle.keyspace.specs.Commands.{Ready, Runs};
 ghost use Rattle.redis_core.specs.Engines.{Answers};
 
 use blocks::BlockStore;
@@ -20,10 +18,9 @@ fn run<B: BlockStore>(
     at: &Ctx,
     command: &Command,
 ) -> Result<Reply, Memory>
-    requires db { at.now.db < 16 }
-    requires sound { Sound keyspace.old.bases (B.blocks keyspace.old.store) }
+    requires ready { Ready B.blocks keyspace.old at.now }
     requires asked { IsAsked command.now }
-    ensures { Runs B.blocks B.step keyspace.old.store keyspace.new.store keyspace.old.bases keyspace.new.bases at.now command.now result }
+    ensures { Runs B.blocks B.step keyspace.old keyspace.new at.now command.now result }
 {
     match command {
         Command::Strings(_) => run_strings(keyspace, at, command),
@@ -36,9 +33,8 @@ pub fn answer<B: BlockStore>(
     at: &Ctx,
     request: &Request<'_>,
 ) -> Result<Reply, Memory>
-    requires db { at.now.db < 16 }
-    requires sound { Sound keyspace.old.bases (B.blocks keyspace.old.store) }
-    ensures { Answers B.blocks B.step keyspace.old.store keyspace.new.store keyspace.old.bases keyspace.new.bases at.now request.now result }
+    requires ready { Ready B.blocks keyspace.old at.now }
+    ensures { Answers B.blocks B.step keyspace.old keyspace.new at.now request.now result }
 {
     let alloc = keyspace.alloc();
     match read(alloc, request) {

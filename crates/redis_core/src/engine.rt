@@ -1,34 +1,25 @@
 //! The engine, and what a request led to.
 
 ghost use Rattle.std.specs.Prelude.{◌≡◌, ◌⊎◌, false, true, max, IfOk, is_err};
-ghost use Rattle.outside.specs.Counts.{Rose};
-ghost use Rattle.blocks.specs.Blocks.{no_blocks, Served};
+ghost use Rattle.outside.specs.Files.{IsListed};
+ghost use Rattle.blocks.specs.Blocks.{no_blocks};
 ghost use Rattle.object_codec.specs.Limits.{AreInRange};
-ghost use Rattle.plain_model.specs.Steps.{step};
-ghost use Rattle.plain_model.specs.Outcomes.{IsRefusal};
-ghost use Rattle.keyspace.specs.Databases.{SameSettings};
 ghost use Rattle.keyspace.specs.Sound.{Sound};
+ghost use Rattle.rdb_reader.specs.Fetching.{Counts};
 ghost use Rattle.rdb_reader.specs.Loads.{Loads};
-ghost use Rattle.redis_core.specs.Engines.{world_of, HasNoKey, IsNew, Stays, is_memory};
+ghost use Rattle.redis_core.specs.Engines.{world_of, HasNoKey, IsNew, Stays, Keeps, Executes, quits, is_memory};
 
 use crate::answering::answer;
 use blocks::BlockStore;
 use keyspace::Keyspace;
 use object_codec::Limits;
 use outside::Host;
-use plain_model::{Ctx, Memory, Reply};
+use plain_model::{Ctx, Memory};
 use rdb_reader::{LoadFault, Loaded, load};
 use resp_frames::Request;
+use serving::{Done, Server};
 use std::alloc::{AllocError, Global};
 use std::marker::Model;
-
-/// What a request led to.
-#[derive(Drop)]
-pub struct Done {
-    pub reply: Reply,
-    /// Whether the run ends with it.
-    pub quit: bool,
-}
 
 /// A keyspace that requests are run on, one after the other. At every exit its databases are sound: they own each live
 /// block of the store exactly once.
@@ -74,6 +65,15 @@ impl<B: BlockStore> Engine<B> {
         })
     }
 
+    /// This moment, in milliseconds, counts as the last one that was used where it is later.
+    pub fn observe(&mut self, moment: u64)
+        ensures moment { self.new.last ≡ max self.old.last moment }
+        ensures stays { Stays self.old self.new }
+        ensures spent { self.new.is_spent ≡ self.old.is_spent }
+    {
+        self.last = self.last.max(moment);
+    }
+
     /// Whether a call answered `Memory`.
     pub fn is_spent(&self) -> bool
         ensures { result ≡ self.now.is_spent }
@@ -94,13 +94,12 @@ impl<B: BlockStore> Engine<B> {
         moment: u64,
     ) -> Result<Loaded, LoadFault>
         requires empty { HasNoKey B.blocks self.old ⊎ (self.old.is_spent ≡ true) }
-        ensures loads { self.old.is_spent ≡ false → Loads (H.files host.old) name.now limit self.new.last (Rose (H.faults host.old) (H.faults host.new)) (world_of B.blocks self.new) result }
+        ensures loads { self.old.is_spent ≡ false → Loads (H.seen host.old).files name.now limit self.new.last (world_of B.blocks self.new) result }
+        ensures counts { Counts (H.seen host.old).reading.faults (H.seen host.new).reading.faults (((H.seen host.old).reading.sure ≡ true) × IsListed (H.seen host.old).files name.now) result }
         ensures moment { self.new.last ≡ max self.old.last moment }
         ensures spent { self.new.is_spent ≡ is_memory result }
-        ensures spent_before { self.old.is_spent ≡ true → (result ≡ Err LoadFault.Memory) × Stays self.old self.new }
-        ensures sound { Sound self.new.bases (B.blocks self.new.store) }
-        ensures served { Served B.step self.old.store self.new.store }
-        ensures settings { SameSettings self.old.bases self.new.bases }
+        ensures spent_before { self.old.is_spent ≡ true → (result ≡ Err LoadFault.Memory) × Stays self.old self.new × (host.new ≡ host.old) }
+        ensures keeps { Keeps B.blocks B.step self.old self.new }
     {
         self.last = self.last.max(moment);
         if self.is_spent {
@@ -118,15 +117,12 @@ impl<B: BlockStore> Engine<B> {
     ///
     /// `Memory` where memory was refused in this call or an earlier one.
     pub fn execute(&mut self, request: &Request<'_>, moment: u64) -> Result<Done, Memory>
-        ensures step { IfOk result (λ done. step self.old.bases.seed (world_of B.blocks self.old) self.new.last request.now done.reply (world_of B.blocks self.new)) }
-        ensures refused { IfOk result (λ done. IsRefusal done.reply → Stays self.old self.new) }
-        ensures quit { IfOk result (λ done. done.quit ≡ false) }
+        ensures executes { IfOk result (λ done. Executes B.blocks B.step moment self.old request.now done.reply self.new) }
+        ensures quit { IfOk result (λ done. done.quit ≡ quits request.now) }
         ensures moment { self.new.last ≡ max self.old.last moment }
         ensures spent { self.new.is_spent ≡ is_err result }
         ensures spent_before { self.old.is_spent ≡ true → (is_err result ≡ true) × Stays self.old self.new }
-        ensures sound { Sound self.new.bases (B.blocks self.new.store) }
-        ensures served { Served B.step self.old.store self.new.store }
-        ensures settings { SameSettings self.old.bases self.new.bases }
+        ensures keeps { Keeps B.blocks B.step self.old self.new }
     {
         self.last = self.last.max(moment);
         if self.is_spent {
@@ -143,5 +139,17 @@ impl<B: BlockStore> Engine<B> {
                 Err(AllocError)
             }
         }
+    }
+}
+
+impl<B: BlockStore> Server for Engine<B> {
+    ghost executes = { λ moment old words reply new. Executes B.blocks B.step moment old words reply new };
+
+    ghost quits = { quits };
+
+    ghost spent = { λ engine. engine.is_spent };
+
+    fn execute(&mut self, request: &Request<'_>, moment: u64) -> Result<Done, Memory> {
+        Engine::execute(self, request, moment)
     }
 }

@@ -5,7 +5,10 @@ mod answering;
 mod engine;
 mod laws;
 #[cfg(test)]
+mod string_tests;
+#[cfg(test)]
 mod tests;
 
-pub use engine::{Done, Engine};
+pub use engine::Engine;
 pub use laws::refusals_change_nothing;
+pub use serving::Done;

@@ -51,6 +51,7 @@ fn a_loaded_key_is_answered_and_changed(rt: HostRuntime) -> Result<(), Fail> {
     let mut engine = Engine::new(rt.alloc(), store, Limits::default(), 7)?;
     let loaded = engine.load(&mut host, "f", 1000, 40);
     assert_eq!(rt; loaded, Ok(Loaded { keys: 1, passed: 0 }));
+    engine.observe(41);
     for Row(request, reply) in &ROWS {
         assert!(rt; request.len() <= 1000);
         let mut feeder = Feeder::new(rt.alloc());
