@@ -1,7 +1,5 @@
-pub mod Zeros
-pub mod Runs
-pub mod Gathering
-pub mod Endings
 pub mod Lines
 pub mod Starts
+pub mod Worlds
+pub mod Counted
 pub mod Whole

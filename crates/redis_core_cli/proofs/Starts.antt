@@ -1,53 +1,91 @@
 -- A run begins, or does not.
-use Rattle.std.proofs.Common.{◌≡◌, ℕ, List, ap, ◌∙◌, subst, sym}
-use Rattle.std.specs.Prelude.{Result, Ok, Err, IfOk, IfErr}
+use Rattle.std.proofs.Common.{◌≡◌, ℕ, List, ap, ◌∙◌, subst, sym, max, arith}
+use Rattle.std.specs.Prelude.{Option, None, Result, Ok, Err, true}
 use Rattle.blocks.specs.Plain.{Plain, plain_blocks, IsPlainStep}
 use Rattle.blocks.specs.Blocks.{no_blocks, Served, no_step}
-use Rattle.plain_model.specs.Worlds.{World, new_world}
+use Rattle.plain_world.specs.Worlds.{World, new_world}
 use Rattle.keyspace.specs.Sound.{Sound}
 use Rattle.keyspace.proofs.Serving.{both}
 use Rattle.keyspace.specs.Databases.{means}
 use Rattle.keyspace.proofs.Uses.{Live-means}
+use Rattle.outside.specs.Files.{Files, HostSeen, IsListed}
+use Rattle.rdb_reader.specs.Fetching.{Counts}
 use Rattle.rdb_reader.specs.Loads.{Loads}
 use Rattle.rdb_reader.specs.declared.fault.LoadFault.{LoadFault}
 use Rattle.rdb_reader.specs.declared.fault.LoadFault.TheVariants as faults
 use Rattle.rdb_reader.specs.declared.loading.Loaded.{Loaded}
+use Rattle.redis_core.specs.Engines.{Keeps, Stays}
 use Rattle.redis_core_cli.specs.Engines.{Engine, world_of, IsFirst, Begun}
-use Rattle.redis_core_cli.specs.Starting.{Usage, Fresh, Files, IsLoaded, NotLoaded, Starts, ending_by}
+use Rattle.redis_core_cli.specs.Given.{options_read}
+use Rattle.redis_core_cli.specs.declared.words.Options as words
+use Rattle.redis_core_cli.specs.Starting.{IsLoaded, NotLoaded, BeginsWith, Starts, CountsHost, is_host, ending_by}
 use Rattle.redis_core_cli.specs.declared.ending.Ending.{Ending}
-use Rattle.redis_core_cli.specs.declared.ending.Ending.TheVariants as endings
 
--- an engine without a key holds the world of a server that was just begun
-pub begun_world : (engine : Engine) → Begun engine → world_of engine ≡ new_world
-begun_world engine b =
-    Live-means engine.selected engine.bases (plain_blocks engine.store) engine.last
-    ∙ ap (λ db. means db engine.bases (plain_blocks engine.store)) b.new.selected ∙ b.new.empty
+-- an engine without a key holds the world of a server that was just begun, at whatever moment
+pub begun_world : (old new : Engine) (seed : ℕ) → Begun seed old → Stays old new → world_of new ≡ new_world
+begun_world old new seed b same =
+    Live-means new.selected new.bases (plain_blocks new.store) new.last
+    ∙ ap (λ db. means db new.bases (plain_blocks new.store)) (same.selected ∙ b.new.selected)
+    ∙ ap (λ bases. means 0 bases (plain_blocks new.store)) same.bases
+    ∙ ap (λ store. means 0 old.bases (plain_blocks store)) same.store
+    ∙ b.new.empty
 
 -- a new engine is a first one, and one that was served more stays it
-pub first_new : (engine : Engine) (store : Plain) → plain_blocks store ≡ no_blocks → engine.store ≡ store → Sound engine.bases (plain_blocks engine.store) → IsFirst engine
-first_new engine store empty same sound = record { sound = sound; store = store; empty = empty; served = subst (Served IsPlainStep store) (sym same) no_step }
+pub first_new : (engine : Engine) (store : Plain) (seed : ℕ) → plain_blocks store ≡ no_blocks → engine.store ≡ store → engine.bases.seed ≡ seed → Sound engine.bases (plain_blocks engine.store) → IsFirst seed engine
+first_new engine store seed empty same is sound = record { seed_is = is; sound = sound; store = store; empty = empty; served = subst (Served IsPlainStep store) (sym same) no_step }
 
-pub first_then : (old new : Engine) → IsFirst old → Sound new.bases (plain_blocks new.store) → Served IsPlainStep old.store new.store → IsFirst new
-first_then old new f sound served = record { sound = sound; store = f.store; empty = f.empty; served = both IsPlainStep f.store old.store new.store f.served served }
+pub first_then : (old new : Engine) (seed : ℕ) → IsFirst seed old → Keeps plain_blocks IsPlainStep old new → IsFirst seed new
+first_then old new seed f keeps = record {
+  seed_is = keeps.settings.seed ∙ f.seed_is;
+  sound = keeps.sound;
+  store = f.store;
+  empty = f.empty;
+  served = both IsPlainStep f.store old.store new.store f.served keeps.served;
+}
 
-module _ (files : Files) (limit : ℕ) (rose : Type 0) (name : List ℕ) (world : World) (moment : ℕ) (zero : moment ≡ 0) where
-  pub file_loaded : (loaded : Loaded) → Loads files name limit moment rose world (Ok loaded) → IsLoaded files limit name world
-  file_loaded loaded l = let m = subst (λ t. Loads files name limit t rose world (Ok loaded)) zero l in record { bytes = m.bytes; is = m.is; few = m.few; file = m.file }
+pub first_stays : (old new : Engine) (seed : ℕ) → IsFirst seed old → Stays old new → IsFirst seed new
+first_stays old new seed f same =
+    let S : Plain → Type 0 = λ store. Served IsPlainStep f.store store in
+    record {
+      seed_is = ap (λ bases. bases.seed) same.bases ∙ f.seed_is;
+      sound = subst (λ bases. Sound bases (plain_blocks new.store)) (sym same.bases) (subst (λ store. Sound old.bases (plain_blocks store)) (sym same.store) f.sound);
+      store = f.store;
+      empty = f.empty;
+      served = subst S (sym same.store) f.served;
+    }
 
-  not_loaded_by : (fault : LoadFault) → Loads files name limit 0 rose world (Err fault) → NotLoaded files limit rose name (ending_by fault)
+-- the moment is the last one used, where none was before
+pub last_is : (old new moment : ℕ) → old ≡ 0 → new ≡ max old moment → new ≡ moment
+last_is old new moment zero is = omega (arith, zero, is)
+
+module _ (files : Files) (limit : ℕ) (name : List ℕ) (world : World) (last moment : ℕ) (is : last ≡ moment) where
+  pub file_loaded : (loaded : Loaded) → Loads files name limit last world (Ok loaded) → IsLoaded files limit name moment world
+  file_loaded loaded l = let m = subst (λ t. Loads files name limit t world (Ok loaded)) is l in record { bytes = m.bytes; is = m.is; few = m.few; file = m.file }
+
+  not_loaded_by : (fault : LoadFault) → Loads files name limit moment world (Err fault) → NotLoaded files limit name moment (ending_by fault)
   not_loaded_by (faults.Refused what at) l = l.0
-  not_loaded_by faults.Host l = l.0
+  not_loaded_by faults.Host l = tt
   not_loaded_by faults.Limit l = l.0
   not_loaded_by faults.Memory l = tt
 
-  pub fault_ends : (fault : LoadFault) (ending : Ending) → ending ≡ ending_by fault → Loads files name limit moment rose world (Err fault) → NotLoaded files limit rose name ending
-  fault_ends fault ending is l = subst (NotLoaded files limit rose name) (sym is) (not_loaded_by fault (subst (λ t. Loads files name limit t rose world (Err fault)) zero l))
+  pub fault_ends : (fault : LoadFault) (ending : Ending) → ending ≡ ending_by fault → Loads files name limit last world (Err fault) → NotLoaded files limit name moment ending
+  fault_ends fault ending e l = subst (NotLoaded files limit name moment) (sym e) (not_loaded_by fault (subst (λ t. Loads files name limit t world (Err fault)) is l))
 
--- a run without a file begins with the world of a server that was just begun, or ends for want of memory
-fresh_begins : (files : Files) (limit : ℕ) (rose : Type 0) (r : Result Engine Ending) → IfOk r (λ engine. Begun engine) → IfErr r (λ ending. ending ≡ endings.Memory) → Starts files limit rose Fresh r
-fresh_begins files limit rose (Ok engine) b m = (begun_world engine b, b.first, b.zero)
-fresh_begins files limit rose (Err ending) b m = m
+module _ (before after : HostSeen) (name : List ℕ) where
+  abbrev Sure : Type 0
+  Sure = (before.reading.sure ≡ true) × IsListed before.files name
 
-pub fresh_starts : (files : Files) (limit : ℕ) (rose : Type 0) (usage : Usage) (r : Result Engine Ending) → usage ≡ Fresh → IfOk r (λ engine. Begun engine) → IfErr r (λ ending. ending ≡ endings.Memory)
-    → Starts files limit rose usage r
-fresh_starts files limit rose usage r e b m = subst (λ u. Starts files limit rose u r) (sym e) (fresh_begins files limit rose r b m)
+  host_by : (fault : LoadFault) → Counts {A = Loaded} before.reading.faults after.reading.faults Sure (Err fault) → CountsHost before after name (is_host (ending_by fault))
+  host_by (faults.Refused what at) c = c
+  host_by faults.Host c = c
+  host_by faults.Limit c = c
+  host_by faults.Memory c = c
+
+  pub host_counts : (fault : LoadFault) (ending : Ending) → ending ≡ ending_by fault → Counts {A = Loaded} before.reading.faults after.reading.faults Sure (Err fault) → CountsHost before after name (is_host ending)
+  host_counts fault ending e c = subst (λ x. CountsHost before after name (is_host x)) (sym e) (host_by fault c)
+
+-- what begins without a file
+pub fresh_starts : (files : Files) (options : words.Options) (moment : ℕ) (old new : Engine) → options.file ≡ None → Begun options.seed old → Stays old new → new.last ≡ max old.last moment → Starts files (options_read options) moment (Ok new)
+fresh_starts files options moment old new none b same last =
+    let P : Option (List ℕ) → Type 0 = λ o. BeginsWith files options.max_input o moment (world_of new) in
+    (subst P (ap (λ file. (options_read (record options { file = file })).file) (sym none)) (begun_world old new options.seed b same), first_stays old new options.seed b.first same, last_is old.last new.last moment b.new.last last)

@@ -1,276 +1,297 @@
--- A whole run: its causes, when each status comes, and its notes.
-use Rattle.std.proofs.Common.{◌≡◌, ◌<◌, ◌≤◌, ℕ, List, Option, Some, None, true, false, length, refl, sym, ap, subst, ◌∙◌, inl, inr, arith}
+-- A whole run: when each status comes, what is counted, and its notes.
+use Rattle.std.proofs.Common.{◌≡◌, ◌<◌, ◌≤◌, ℕ, List, Option, Some, None, Bool, true, false, length, refl, sym, ap, subst, ◌∙◌, inl, inr, arith}
 use Rattle.std.specs.Prelude.{◌⊎◌, IsSome}
-use Rattle.plain_model.specs.Worlds.{World}
-use Rattle.redis_core_cli.specs.Engines.{Engine, world_of}
+use Rattle.outside.specs.Clocks.{Answers}
+use Rattle.outside.specs.Files.{Files, IsListed}
+use Rattle.outside.specs.Streams.{SinkSeen}
+use Rattle.plain_world.specs.Words.{Words}
+use Rattle.plain_world.specs.Worlds.{World}
 use Rattle.rdb_grammar.specs.Files.{IsFile, IsFault}
 use Rattle.rdb_grammar.specs.declared.fault.LoadKind.{LoadKind}
 use Rattle.rdb_grammar.proofs.OneWorld.{exactly_one}
 use Rattle.rdb_reader.specs.Fetching.{IsFileOf}
-use Rattle.rdb_reader.specs.Loads.{RefusesFile}
-use Rattle.redis_core_cli.specs.Served.{Served, ServesExactly}
+use Rattle.redis_core.specs.Engines.{quits}
+use Rattle.resp_frames.specs.Ends.{Whole, Frames}
+use Rattle.serving.specs.Served.{Served}
+use Rattle.serving.specs.Exactly as exactly
+use Rattle.serving.specs.Exactly.{NoReadFault, NoWriteFault, EndsWhole}
+use Rattle.serving.specs.declared.ending.Ended.{Ended}
+use Rattle.serving.proofs.Said.{ends_exactly, completes}
+use Rattle.redis_core_cli.specs.Given.{Options, Given, Wrong, Run, Outside}
 use Rattle.redis_core_cli.specs.Notes.{Notes, refused_line, line_of}
-use Rattle.redis_core_cli.specs.Starting.{Usage, Fresh, Loading, Wrong, Files, IsLoaded, Begins, NotLoaded, NotBegun}
-use Rattle.redis_core_cli.specs.Statuses.{status_of}
-use Rattle.redis_core_cli.specs.Headline.{begun, not_begun, Finishes, Concludes, Causes, NotesStatus, Tells, Excused, Exactly, Completes}
+use Rattle.redis_core_cli.specs.Running.{Fails, Runs, begun, not_begun, RunsOf}
+use Rattle.redis_core_cli.specs.Starting.{Standing, ReadsMoment, IsLoaded, BeginsWith, Begins, NotLoaded, NotBegun, UsesHost, is_host}
+use Rattle.redis_core_cli.specs.Statuses.{status_of, ending_of}
+use Rattle.redis_core_cli.specs.Headline.{MayAnswer, never, Concludes, NoHostFault, NoOutputFault, RoseAt, NamesNoFile, CountsFaults, NotesStatus, IsTold, IsAbsent, AtFirst, IsLoadable, CanBegin, Excused, IsRefused, Exactly, Completes}
 use Rattle.redis_core_cli.specs.declared.ending.Ending.{Ending}
 use Rattle.redis_core_cli.specs.declared.ending.Ending.TheVariants as endings
-use Rattle.redis_core_cli.proofs.Endings.{read_cause, write_cause, is_served, served_status, ends_exactly, completes}
+use Rattle.redis_core_cli.proofs.Counted.{stayed, reads_at, reads_surely, writes_at, not_served, not_begun_status, six_is_host, host_at, host_same, host_surely, host_alone}
 
 -- ---- the bytes of a file that is told
 
-told_file : (files : Files) (name bytes other : List ℕ) → Tells files name bytes → IsFileOf files name other → other ≡ bytes
+told_file : (files : Files) (name bytes other : List ℕ) → IsTold files name bytes → IsFileOf files name other → other ≡ bytes
 told_file None name bytes other t o = absurd t
 told_file (Some all) name bytes other t o = cc
 
-known_file : (files : Files) (name a b : List ℕ) → IsSome files → IsFileOf files name a → IsFileOf files name b → a ≡ b
-known_file None name a b some p q = cc
-known_file (Some all) name a b some p q = cc
+no_file : (files : Files) (name bytes : List ℕ) → IsAbsent files name → IsFileOf files name bytes → ⊥
+no_file None name bytes none p = absurd none
+no_file (Some all) name bytes none p = cc
 
-no_file : (files : Files) (known : List ℕ → Option (List ℕ)) (name bytes : List ℕ) → files ≡ Some known → known name ≡ None → IsFileOf files name bytes → ⊥
-no_file None known name bytes e none p = cc
-no_file (Some all) known name bytes e none p = cc
+is_listed : (files : Files) (name bytes : List ℕ) → IsTold files name bytes → IsListed files name
+is_listed None name bytes t = absurd t
+is_listed (Some all) name bytes t = let P : Option (List ℕ) → Type 0 = λ o. IsSome o in subst P (sym t) refl
 
-not_both : (a b : List ℕ) (world : World) (what : LoadKind) (at : ℕ) → a ≡ b → IsFile a 0 world → IsFault b 0 what at → ⊥
-not_both a b world what at e file fault = let P : List ℕ → Type 0 = λ x. IsFile x 0 world in (exactly_one b 0).not_both world what at (subst P e file) fault
+not_both : (a b : List ℕ) (moment : ℕ) (world : World) (what : LoadKind) (at : ℕ) → a ≡ b → IsFile a moment world → IsFault b moment what at → ⊥
+not_both a b moment world what at e file fault = let P : List ℕ → Type 0 = λ x. IsFile x moment world in (exactly_one b moment).not_both world what at (subst P e file) fault
 
 -- ---- a file that is not loaded
 
-module _ (files : Files) (limit : ℕ) (rose : Type 0) (name : List ℕ) where
-  loaded_excused : IsSome files → (world : World) → IsLoaded files limit name world → (ending : Ending) → NotLoaded files limit rose name ending → Excused rose (status_of ending)
-  loaded_excused some world l endings.Host n = inl (refl, n)
-  loaded_excused some world l (endings.Refused what at) n = absurd (not_both l.bytes n.bytes world what at (known_file files name l.bytes n.bytes some l.is n.is) l.file n.fault)
-  loaded_excused some world l endings.Limit n = absurd (omega (arith, ap length (known_file files name l.bytes n.bytes some l.is n.is), l.few, n.long))
-  loaded_excused some world l endings.Memory n = inr refl
-  loaded_excused some world l endings.Whole n = absurd n
-  loaded_excused some world l endings.Usage n = absurd n
-  loaded_excused some world l endings.Protocol n = absurd n
-  loaded_excused some world l endings.Cut n = absurd n
-  loaded_excused some world l endings.ReadFault n = absurd n
-  loaded_excused some world l endings.WriteFault n = absurd n
+module _ (files : Files) (limit : ℕ) (name : List ℕ) (moment : ℕ) where
+  loadable_excused : (bytes : List ℕ) (world : World) → IsTold files name bytes → length bytes ≤ limit → IsFile bytes moment world → (ending : Ending) → NotLoaded files limit name moment ending → Excused (status_of ending)
+  loadable_excused bytes world t few file endings.Host n = inl refl
+  loadable_excused bytes world t few file (endings.Refused what at) n = absurd (not_both bytes n.bytes moment world what at (sym (told_file files name bytes n.bytes t n.is)) file n.fault)
+  loadable_excused bytes world t few file endings.Limit n = absurd (omega (arith, ap length (told_file files name bytes n.bytes t n.is), few, n.long))
+  loadable_excused bytes world t few file endings.Memory n = inr refl
+  loadable_excused bytes world t few file endings.Whole n = absurd n
+  loadable_excused bytes world t few file endings.Quit n = absurd n
+  loadable_excused bytes world t few file endings.Usage n = absurd n
+  loadable_excused bytes world t few file (endings.Protocol rule at) n = absurd n
+  loadable_excused bytes world t few file endings.Cut n = absurd n
+  loadable_excused bytes world t few file endings.ReadFault n = absurd n
+  loadable_excused bytes world t few file endings.WriteFault n = absurd n
 
-  absent_excused : (known : List ℕ → Option (List ℕ)) → files ≡ Some known → known name ≡ None → (ending : Ending) → NotLoaded files limit rose name ending → Excused rose (status_of ending)
-  absent_excused known e none endings.Host n = inl (refl, n)
-  absent_excused known e none (endings.Refused what at) n = absurd (no_file files known name n.bytes e none n.is)
-  absent_excused known e none endings.Limit n = absurd (no_file files known name n.bytes e none n.is)
-  absent_excused known e none endings.Memory n = inr refl
-  absent_excused known e none endings.Whole n = absurd n
-  absent_excused known e none endings.Usage n = absurd n
-  absent_excused known e none endings.Protocol n = absurd n
-  absent_excused known e none endings.Cut n = absurd n
-  absent_excused known e none endings.ReadFault n = absurd n
-  absent_excused known e none endings.WriteFault n = absurd n
+  absent_excused : IsAbsent files name → (ending : Ending) → NotLoaded files limit name moment ending → Excused (status_of ending)
+  absent_excused none endings.Host n = inl refl
+  absent_excused none (endings.Refused what at) n = absurd (no_file files name n.bytes none n.is)
+  absent_excused none endings.Limit n = absurd (no_file files name n.bytes none n.is)
+  absent_excused none endings.Memory n = inr refl
+  absent_excused none endings.Whole n = absurd n
+  absent_excused none endings.Quit n = absurd n
+  absent_excused none endings.Usage n = absurd n
+  absent_excused none (endings.Protocol rule at) n = absurd n
+  absent_excused none endings.Cut n = absurd n
+  absent_excused none endings.ReadFault n = absurd n
+  absent_excused none endings.WriteFault n = absurd n
 
-  long_ends : (bytes : List ℕ) → Tells files name bytes → limit < length bytes → (ending : Ending) → NotLoaded files limit rose name ending → Excused rose (status_of ending) ⊎ (status_of ending ≡ 9)
-  long_ends bytes t long endings.Host n = inl (inl (refl, n))
+  long_ends : (bytes : List ℕ) → IsTold files name bytes → limit < length bytes → (ending : Ending) → NotLoaded files limit name moment ending → Excused (status_of ending) ⊎ (status_of ending ≡ 9)
+  long_ends bytes t long endings.Host n = inl (inl refl)
   long_ends bytes t long (endings.Refused what at) n = absurd (omega (arith, ap length (told_file files name bytes n.bytes t n.is), n.few))
   long_ends bytes t long endings.Limit n = inr refl
   long_ends bytes t long endings.Memory n = inl (inr refl)
   long_ends bytes t long endings.Whole n = absurd n
+  long_ends bytes t long endings.Quit n = absurd n
   long_ends bytes t long endings.Usage n = absurd n
-  long_ends bytes t long endings.Protocol n = absurd n
+  long_ends bytes t long (endings.Protocol rule at) n = absurd n
   long_ends bytes t long endings.Cut n = absurd n
   long_ends bytes t long endings.ReadFault n = absurd n
   long_ends bytes t long endings.WriteFault n = absurd n
 
-  module _ (noted noted' : Option (List ℕ)) (note_rose : Type 0) where
+  module _ (noted noted' : SinkSeen) where
     -- the line of a fault is that of the file's one fault
-    line_is : (a b : List ℕ) (k l : LoadKind) (m n : ℕ) → a ≡ b → IsFault a 0 k m → IsFault b 0 l n → Notes noted noted' note_rose (refused_line k m) → Notes noted noted' note_rose (refused_line l n)
+    line_is : (a b : List ℕ) (k l : LoadKind) (m n : ℕ) → a ≡ b → IsFault a moment k m → IsFault b moment l n → Notes noted noted' (refused_line k m) → Notes noted noted' (refused_line l n)
     line_is a b k l m n e f g h =
-        let F : List ℕ → Type 0 = λ x. IsFault x 0 k m in
-        let one = (exactly_one b 0).one_fault k l m n (subst F e f) g in
-        let P : LoadKind → Type 0 = λ x. Notes noted noted' note_rose (refused_line x m) in
-        let Q : ℕ → Type 0 = λ x. Notes noted noted' note_rose (refused_line l x) in
+        let F : List ℕ → Type 0 = λ x. IsFault x moment k m in
+        let one = (exactly_one b moment).one_fault k l m n (subst F e f) g in
+        let P : LoadKind → Type 0 = λ x. Notes noted noted' (refused_line x m) in
+        let Q : ℕ → Type 0 = λ x. Notes noted noted' (refused_line l x) in
         subst Q one.1 (subst P one.0 h)
 
-    refused_ends : (bytes : List ℕ) (what : LoadKind) (at : ℕ) → Tells files name bytes → length bytes ≤ limit → IsFault bytes 0 what at → (ending : Ending) → NotLoaded files limit rose name ending → Notes noted noted' note_rose (line_of ending) → Excused rose (status_of ending) ⊎ ((status_of ending ≡ 7) × Notes noted noted' note_rose (refused_line what at))
-    refused_ends bytes what at t few fault endings.Host n w = inl (inl (refl, n))
+    refused_ends : (bytes : List ℕ) (what : LoadKind) (at : ℕ) → IsTold files name bytes → length bytes ≤ limit → IsFault bytes moment what at → (ending : Ending) → NotLoaded files limit name moment ending → Notes noted noted' (line_of ending)
+        → Excused (status_of ending) ⊎ ((status_of ending ≡ 7) × Notes noted noted' (refused_line what at))
+    refused_ends bytes what at t few fault endings.Host n w = inl (inl refl)
     refused_ends bytes what at t few fault (endings.Refused k m) n w = inr (refl, line_is n.bytes bytes k what m at (told_file files name bytes n.bytes t n.is) n.fault fault w)
     refused_ends bytes what at t few fault endings.Limit n w = absurd (omega (arith, ap length (told_file files name bytes n.bytes t n.is), n.long))
     refused_ends bytes what at t few fault endings.Memory n w = inl (inr refl)
     refused_ends bytes what at t few fault endings.Whole n w = absurd n
+    refused_ends bytes what at t few fault endings.Quit n w = absurd n
     refused_ends bytes what at t few fault endings.Usage n w = absurd n
-    refused_ends bytes what at t few fault endings.Protocol n w = absurd n
+    refused_ends bytes what at t few fault (endings.Protocol rule at') n w = absurd n
     refused_ends bytes what at t few fault endings.Cut n w = absurd n
     refused_ends bytes what at t few fault endings.ReadFault n w = absurd n
     refused_ends bytes what at t few fault endings.WriteFault n w = absurd n
 
-    -- the file that a refusal is of
-    loaded_refused : (ending : Ending) → NotLoaded files limit rose name ending → status_of ending ≡ 7 → Notes noted noted' note_rose (line_of ending) → (what : LoadKind) × (at : ℕ) × RefusesFile files name limit 0 what at × Notes noted noted' note_rose (refused_line what at)
-    loaded_refused (endings.Refused what at) n e w = (what, at, n, w)
-    loaded_refused endings.Host n e w = absurd (omega (arith, e))
-    loaded_refused endings.Limit n e w = absurd (omega (arith, e))
-    loaded_refused endings.Memory n e w = absurd (omega (arith, e))
-    loaded_refused endings.Whole n e w = absurd n
-    loaded_refused endings.Usage n e w = absurd n
-    loaded_refused endings.Protocol n e w = absurd n
-    loaded_refused endings.Cut n e w = absurd n
-    loaded_refused endings.ReadFault n e w = absurd n
-    loaded_refused endings.WriteFault n e w = absurd n
-
-  loaded_host : (ending : Ending) → NotLoaded files limit rose name ending → status_of ending ≡ 6 → rose
-  loaded_host endings.Host n e = n
-  loaded_host (endings.Refused what at) n e = absurd (omega (arith, e))
-  loaded_host endings.Limit n e = absurd (omega (arith, e))
-  loaded_host endings.Memory n e = absurd (omega (arith, e))
-  loaded_host endings.Whole n e = absurd n
-  loaded_host endings.Usage n e = absurd n
-  loaded_host endings.Protocol n e = absurd n
-  loaded_host endings.Cut n e = absurd n
-  loaded_host endings.ReadFault n e = absurd n
-  loaded_host endings.WriteFault n e = absurd n
-
-  loaded_status : (ending : Ending) → NotLoaded files limit rose name ending → (5 < status_of ending)
-  loaded_status endings.Host n = omega arith
-  loaded_status (endings.Refused what at) n = omega arith
-  loaded_status endings.Limit n = omega arith
-  loaded_status endings.Memory n = omega arith
-  loaded_status endings.Whole n = absurd n
-  loaded_status endings.Usage n = absurd n
-  loaded_status endings.Protocol n = absurd n
-  loaded_status endings.Cut n = absurd n
-  loaded_status endings.ReadFault n = absurd n
-  loaded_status endings.WriteFault n = absurd n
-
--- ---- a run that does not begin
-
-module _ (files : Files) (limit : ℕ) (rose : Type 0) (ending : Ending) where
-  not_begun_usage : (usage : Usage) → NotBegun files limit rose usage ending → status_of ending ≡ 1 → usage ≡ Wrong
-  not_begun_usage Fresh n e = absurd (omega (arith, ap status_of n, e))
-  not_begun_usage (Loading name) n e = absurd (omega (arith, e, loaded_status files limit rose name ending n))
-  not_begun_usage Wrong n e = refl
-
-  not_begun_status : (usage : Usage) → NotBegun files limit rose usage ending → (status_of ending ≡ 1) ⊎ (5 < status_of ending)
-  not_begun_status Fresh n = inr (omega (arith, ap status_of n))
-  not_begun_status (Loading name) n = inr (loaded_status files limit rose name ending n)
-  not_begun_status Wrong n = inl (ap status_of n)
-
-  not_begun_host : (usage : Usage) → NotBegun files limit rose usage ending → status_of ending ≡ 6 → rose
-  not_begun_host Fresh n e = absurd (omega (arith, ap status_of n, e))
-  not_begun_host (Loading name) n e = loaded_host files limit rose name ending n e
-  not_begun_host Wrong n e = absurd (omega (arith, ap status_of n, e))
-
-  not_begun_refused : (usage : Usage) (noted noted' : Option (List ℕ)) (note_rose : Type 0) → NotBegun files limit rose usage ending → status_of ending ≡ 7 → Notes noted noted' note_rose (line_of ending)
-      → (name : List ℕ) × (what : LoadKind) × (at : ℕ) × (usage ≡ Loading name) × RefusesFile files name limit 0 what at × Notes noted noted' note_rose (refused_line what at)
-  not_begun_refused Fresh noted noted' note_rose n e w = absurd (omega (arith, ap status_of n, e))
-  not_begun_refused (Loading name) noted noted' note_rose n e w = let r = loaded_refused files limit rose name noted noted' note_rose ending n e w in (name, r.0, r.1, refl, r.2, r.3)
-  not_begun_refused Wrong noted noted' note_rose n e w = absurd (omega (arith, ap status_of n, e))
-
-  not_begun_excused : (usage : Usage) (first : World) → Begins files limit usage first → (usage ≡ Fresh) ⊎ IsSome files → NotBegun files limit rose usage ending → Excused rose (status_of ending)
-  not_begun_excused Fresh first b k n = inr (ap status_of n)
-  not_begun_excused (Loading name) first b k n = elim k [ inl e ↦ cc | inr some ↦ loaded_excused files limit rose name some first b ending n ]
-  not_begun_excused Wrong first b k n = absurd b
-
 -- ---- the clauses
 
-module _ (usage : Usage) (files : Files) (limit : ℕ) (left left' written written' noted noted' : Option (List ℕ)) (host_rose in_rose out_rose note_rose : Type 0) (ending : Ending)
-    (f : Finishes usage files limit left left' written written' noted noted' host_rose in_rose out_rose note_rose ending) where
-  -- serving has another status
-  not_served : (first : Engine) → Served first limit left left' written written' in_rose out_rose (status_of ending) → (n : ℕ) → is_served n ≡ false → status_of ending ≡ n → ⊥
-  not_served first s n is e =
-      let a : is_served (status_of ending) ≡ true = served_status first limit left left' written written' in_rose out_rose (status_of ending) s in
-      let b : is_served (status_of ending) ≡ false = ap is_served e ∙ is in
-      cc
+module _ (before after : Outside) (noted noted' : SinkSeen) (ending : Ending) (line : Notes noted noted' (line_of ending)) where
+  abbrev Ran : Options → Type 0
+  Ran options = Runs Begins MayAnswer never options before after ending
 
-  begun_as : (u : Usage) (first : World) → usage ≡ u → Begins files limit usage first → Begins files limit u first
-  begun_as u first e b = let P : Usage → Type 0 = λ x. Begins files limit x first in subst P e b
+  abbrev RanOf : Given → Type 0
+  RanOf given = RunsOf Begins MayAnswer never given before after ending
 
-  not_begun_as : (u : Usage) → usage ≡ u → NotBegun files limit host_rose usage ending → NotBegun files limit host_rose u ending
-  not_begun_as u e n = let P : Usage → Type 0 = λ x. NotBegun files limit host_rose x ending in subst P e n
+  -- the options are these
+  ran_as : (given : Given) (options : Options) → RanOf given → given ≡ Run options → Ran options
+  ran_as given options r e = let P : Given → Type 0 = RanOf in subst P e r
 
-  causes_of : Causes host_rose in_rose out_rose (status_of ending)
-  causes_of = record {
-    read = λ h. elim f.run [
-      | begun first b i s ↦ read_cause first limit left left' written written' in_rose out_rose (status_of ending) s h
-      | not_begun n p q ↦ absurd (elim (not_begun_status files limit host_rose ending usage n) [ inl a ↦ omega (arith, a, h) | inr a ↦ omega (arith, a, h) ])
-    ];
-    write = λ h. elim f.run [
-      | begun first b i s ↦ write_cause first limit left left' written written' in_rose out_rose (status_of ending) s h
-      | not_begun n p q ↦ absurd (elim (not_begun_status files limit host_rose ending usage n) [ inl a ↦ omega (arith, a, h) | inr a ↦ omega (arith, a, h) ])
-    ];
-    host = λ h. elim f.run [
-      | begun first b i s ↦ absurd (not_served first s 6 refl h)
-      | not_begun n p q ↦ not_begun_host files limit host_rose ending usage n h
-    ];
+  -- ---- what is counted
+
+  fails_read : (options : Options) → Fails options before after ending → (n : ℕ) → n ≤ 5 → status_of ending ≡ n → ⊥
+  fails_read options f n le e = omega (arith, le, e, not_begun_status before.host.files options.max_input options.file f.moment ending f.why)
+
+  run_counts : (options : Options) → Ran options → CountsFaults (Run options) before after (status_of ending)
+  run_counts options (begun first last ended b host s is) =
+      let P : Ending → Type 0 = λ e. CountsFaults (Run options) before after (status_of e) in
+      subst P (sym is) (record {
+        read = reads_at before.input after.input ended s.reads;
+        write = writes_at before.output after.output ended s.writes;
+        host = stayed 6 (status_of (ending_of ended)) before.host.reading.faults after.host.reading.faults (not_served ended 6 refl) (host_same before.host after.host options.file false host refl);
+        sure_read = reads_surely before.input after.input ended s.reads;
+        sure_host = λ other name e f sure listed six. not_served ended 6 refl six;
+        no_file = λ none. let H : Option (List ℕ) → Type 0 = λ o. UsesHost o before.host after.host false in host_alone before.host after.host false (subst H none host);
+      })
+  run_counts options (not_begun f) = record {
+    read = stayed 4 (status_of ending) before.input.faults after.input.faults (fails_read options f 4 (omega arith)) (ap (λ i. i.faults) f.input);
+    write = stayed 5 (status_of ending) before.output.faults after.output.faults (fails_read options f 5 (omega arith)) (ap (λ o. o.faults) f.output);
+    host = host_at before.host after.host options.file ending f.host;
+    sure_read = λ sure e. fails_read options f 4 (omega arith) e;
+    sure_host = λ other name e is sure listed six.
+        let same : options ≡ other = cc in
+        let H : Option (List ℕ) → Type 0 = λ o. UsesHost o before.host after.host (is_host ending) in
+        host_surely before.host after.host name (is_host ending) (subst H (ap (λ o. o.file) same ∙ is) f.host) sure listed (six_is_host ending six);
+    no_file = λ none. let H : Option (List ℕ) → Type 0 = λ o. UsesHost o before.host after.host (is_host ending) in host_alone before.host after.host (is_host ending) (subst H none f.host);
   }
 
-  wrong_ends : usage ≡ Wrong → status_of ending ≡ 1
-  wrong_ends e = elim f.run [
-    | begun first b i s ↦ absurd (begun_as Wrong (world_of first) e b)
-    | not_begun n p q ↦ ap status_of (not_begun_as Wrong e n)
-  ]
+  wrong_counts : ending ≡ endings.Usage → after ≡ before → CountsFaults Wrong before after (status_of ending)
+  wrong_counts is same =
+      let one : status_of ending ≡ 1 = ap status_of is in
+      record {
+        read = stayed 4 (status_of ending) before.input.faults after.input.faults (λ e. omega (arith, e, one)) (ap (λ o. o.input.faults) same);
+        write = stayed 5 (status_of ending) before.output.faults after.output.faults (λ e. omega (arith, e, one)) (ap (λ o. o.output.faults) same);
+        host = stayed 6 (status_of ending) before.host.reading.faults after.host.reading.faults (λ e. omega (arith, e, one)) (ap (λ o. o.host.reading.faults) same);
+        sure_read = λ sure e. omega (arith, e, one);
+        sure_host = λ other name e f sure listed six. omega (arith, six, one);
+        no_file = λ none. ap (λ o. o.host) same;
+      }
 
-  wrong_alone : status_of ending ≡ 1 → usage ≡ Wrong
-  wrong_alone h = elim f.run [
-    | begun first b i s ↦ absurd (not_served first s 1 refl h)
-    | not_begun n p q ↦ not_begun_usage files limit host_rose ending usage n h
-  ]
+  counts_of : (given : Given) → RanOf given → CountsFaults given before after (status_of ending)
+  counts_of Wrong r = wrong_counts r.0 r.1
+  counts_of (Run options) r = run_counts options r
 
-  refused : (name bytes : List ℕ) (what : LoadKind) (at : ℕ) → usage ≡ Loading name → Tells files name bytes → length bytes ≤ limit → IsFault bytes 0 what at
-      → Excused host_rose (status_of ending) ⊎ ((status_of ending ≡ 7) × Notes noted noted' note_rose (refused_line what at))
-  refused name bytes what at e t few fault = elim f.run [
-    | begun first b i s ↦ let l = begun_as (Loading name) (world_of first) e b in absurd (not_both l.bytes bytes (world_of first) what at (told_file files name bytes l.bytes t l.is) l.file fault)
-    | not_begun n p q ↦ refused_ends files limit host_rose name noted noted' note_rose bytes what at t few fault ending (not_begun_as (Loading name) e n) f.line
-  ]
+  -- ---- when each status comes
 
-  refused_alone : status_of ending ≡ 7 → (name : List ℕ) × (what : LoadKind) × (at : ℕ) × (usage ≡ Loading name) × RefusesFile files name limit 0 what at × Notes noted noted' note_rose (refused_line what at)
-  refused_alone h = elim f.run [
-    | begun first b i s ↦ absurd (not_served first s 7 refl h)
-    | not_begun n p q ↦ not_begun_refused files limit host_rose ending usage noted noted' note_rose n h f.line
-  ]
+  wrong_alone : (given : Given) → RanOf given → status_of ending ≡ 1 → given ≡ Wrong
+  wrong_alone Wrong r e = refl
+  wrong_alone (Run options) (begun first last ended b host s is) e = absurd (not_served ended 1 refl (ap status_of (sym is) ∙ e))
+  wrong_alone (Run options) (not_begun f) e = absurd (fails_read options f 1 (omega arith) e)
 
-  long : (name bytes : List ℕ) → usage ≡ Loading name → Tells files name bytes → limit < length bytes → Excused host_rose (status_of ending) ⊎ (status_of ending ≡ 9)
-  long name bytes e t h = elim f.run [
-    | begun first b i s ↦ let l = begun_as (Loading name) (world_of first) e b in absurd (omega (arith, ap length (told_file files name bytes l.bytes t l.is), l.few))
-    | not_begun n p q ↦ long_ends files limit host_rose name bytes t h ending (not_begun_as (Loading name) e n)
-  ]
+  -- the file is this one
+  loaded_as : (options : Options) (name : List ℕ) (first : Standing) → options.file ≡ Some name → Begins options before first → IsLoaded before.host.files options.max_input name first.last first.world
+  loaded_as options name first is b = let P : Option (List ℕ) → Type 0 = λ o. BeginsWith before.host.files options.max_input o first.last first.world in subst P is b.world
 
-  absent : (name : List ℕ) (known : List ℕ → Option (List ℕ)) → usage ≡ Loading name → files ≡ Some known → known name ≡ None → Excused host_rose (status_of ending)
-  absent name known e told none = elim f.run [
-    | begun first b i s ↦ let l = begun_as (Loading name) (world_of first) e b in absurd (no_file files known name l.bytes told none l.is)
-    | not_begun n p q ↦ absent_excused files limit host_rose name known told none ending (not_begun_as (Loading name) e n)
-  ]
+  not_loaded_as : (options : Options) (name : List ℕ) → options.file ≡ Some name → (f : Fails options before after ending) → NotLoaded before.host.files options.max_input name f.moment ending
+  not_loaded_as options name is f = let P : Option (List ℕ) → Type 0 = λ o. NotBegun before.host.files options.max_input o f.moment ending in subst P is f.why
 
-  served : (first : World) → Begins files limit usage first → (usage ≡ Fresh) ⊎ IsSome files → Excused host_rose (status_of ending) ⊎ ServesExactly limit left left' in_rose out_rose (status_of ending)
-  served first b k = elim f.run [
-    | begun other c i s ↦ inr (ends_exactly other limit left left' written written' in_rose out_rose (status_of ending) s)
-    | not_begun n p q ↦ inl (not_begun_excused files limit host_rose ending usage first b k n)
-  ]
+  refused : (options : Options) → Ran options → (name bytes : List ℕ) (what : LoadKind) (at : ℕ) → options.file ≡ Some name → IsTold before.host.files name bytes → length bytes ≤ options.max_input
+      → AtFirst before.clock (λ moment. IsFault bytes moment what at) → Excused (status_of ending) ⊎ ((status_of ending ≡ 7) × Notes noted noted' (refused_line what at))
+  refused options (begun first last ended b host s is) name bytes what at file t few fault =
+      let l = loaded_as options name first file b in
+      absurd (not_both l.bytes bytes first.last first.world what at (told_file before.host.files name bytes l.bytes t l.is) l.file (fault first.last first.clock b.moment))
+  refused options (not_begun f) name bytes what at file t few fault =
+      refused_ends before.host.files options.max_input name f.moment noted noted' bytes what at t few (fault f.moment after.clock f.read) ending (not_loaded_as options name file f) line
 
-  exactly_of : Exactly usage files limit left left' noted noted' host_rose in_rose out_rose note_rose (status_of ending)
-  exactly_of = record {
-    wrong = wrong_ends;
-    wrong_alone = wrong_alone;
-    refused = refused;
-    refused_alone = refused_alone;
-    long = long;
-    absent = absent;
-    served = served;
+  -- the file that a refusal is of
+  refusal : (options : Options) (f : Fails options before after ending) (file : Option (List ℕ)) → options.file ≡ file → NotBegun before.host.files options.max_input file f.moment ending → (e : Ending) → ending ≡ e → status_of e ≡ 7 → IsRefused (Run options) before noted noted'
+  refusal options f None is n e same seven = absurd (omega (arith, ap status_of (sym n ∙ same), seven))
+  refusal options f (Some name) is n (endings.Refused what at) same seven =
+      let N : Ending → Type 0 = λ x. NotLoaded before.host.files options.max_input name f.moment x in
+      let L : Ending → Type 0 = λ x. Notes noted noted' (line_of x) in
+      record { options = options; name = name; given_is = refl; file_is = is; what = what; at = at; moment = f.moment; after = after.clock; read = f.read; refused = subst N same n; line = subst L same line }
+  refusal options f (Some name) is n endings.Host same seven = absurd (omega (arith, seven))
+  refusal options f (Some name) is n endings.Limit same seven = absurd (omega (arith, seven))
+  refusal options f (Some name) is n endings.Memory same seven = absurd (omega (arith, seven))
+  refusal options f (Some name) is n endings.Whole same seven = absurd (omega (arith, seven))
+  refusal options f (Some name) is n endings.Quit same seven = absurd (omega (arith, seven))
+  refusal options f (Some name) is n endings.Usage same seven = absurd (omega (arith, seven))
+  refusal options f (Some name) is n (endings.Protocol rule at) same seven = absurd (omega (arith, seven))
+  refusal options f (Some name) is n endings.Cut same seven = absurd (omega (arith, seven))
+  refusal options f (Some name) is n endings.ReadFault same seven = absurd (omega (arith, seven))
+  refusal options f (Some name) is n endings.WriteFault same seven = absurd (omega (arith, seven))
+
+  refused_alone : (given : Given) → RanOf given → status_of ending ≡ 7 → IsRefused given before noted noted'
+  refused_alone Wrong r e = absurd (omega (arith, ap status_of r.0, e))
+  refused_alone (Run options) (begun first last ended b host s is) e = absurd (not_served ended 7 refl (ap status_of (sym is) ∙ e))
+  refused_alone (Run options) (not_begun f) e = refusal options f options.file refl f.why ending refl e
+
+  long : (options : Options) → Ran options → (name bytes : List ℕ) → options.file ≡ Some name → IsTold before.host.files name bytes → options.max_input < length bytes → Excused (status_of ending) ⊎ (status_of ending ≡ 9)
+  long options (begun first last ended b host s is) name bytes file t h = let l = loaded_as options name first file b in absurd (omega (arith, ap length (told_file before.host.files name bytes l.bytes t l.is), l.few, h))
+  long options (not_begun f) name bytes file t h = long_ends before.host.files options.max_input name f.moment bytes t h ending (not_loaded_as options name file f)
+
+  absent : (options : Options) → Ran options → (name : List ℕ) → options.file ≡ Some name → IsAbsent before.host.files name → Excused (status_of ending)
+  absent options (begun first last ended b host s is) name file none = let l = loaded_as options name first file b in absurd (no_file before.host.files name l.bytes none l.is)
+  absent options (not_begun f) name file none = absent_excused before.host.files options.max_input name f.moment none ending (not_loaded_as options name file f)
+
+  -- a run that could begin
+  could_begin : (options : Options) (f : Fails options before after ending) (file : Option (List ℕ)) → CanBegin before options file → NotBegun before.host.files options.max_input file f.moment ending → Excused (status_of ending)
+  could_begin options f None can n = inr (ap status_of n)
+  could_begin options f (Some name) can n =
+      let file = can.file f.moment after.clock f.read in
+      loadable_excused before.host.files options.max_input name f.moment can.bytes file.0 can.is can.few file.1 ending n
+
+  served : (options : Options) → Ran options → CanBegin before options options.file → Excused (status_of ending) ⊎ ((ended : Ended) × (status_of ending ≡ status_of (ending_of ended)) × exactly.ServesExactly quits options.max_input before.input after.input ended)
+  served options (begun first last ended b host s is) can = inr (ended, ap status_of is, ends_exactly (MayAnswer options first) quits never options.max_input before.input after.input before.output after.output last ended s)
+  served options (not_begun f) can = inl (could_begin options f options.file can f.why)
+
+  exactly_of : (given : Given) → RanOf given → Exactly given before after noted noted' (status_of ending)
+  exactly_of given r = record {
+    wrong = λ e. let P : Given → Type 0 = RanOf in ap status_of (subst P e r).0;
+    wrong_alone = wrong_alone given r;
+    refused = λ options name bytes what at e. refused options (ran_as given options r e) name bytes what at;
+    refused_alone = refused_alone given r;
+    long = λ options name bytes e. long options (ran_as given options r e) name bytes;
+    absent = λ options name e. absent options (ran_as given options r e) name;
+    served = λ options e. served options (ran_as given options r e);
   }
 
-  -- no excuse but want of memory
-  memory_alone : (host_rose → ⊥) → Excused host_rose (status_of ending) → status_of ending ≡ 8
-  memory_alone not e = elim e [ inl h ↦ absurd (not h.1) | inr h ↦ h ]
+  -- ---- a run that completes
 
-  completes_of : Completes usage files limit left left' host_rose in_rose out_rose (status_of ending)
-  completes_of first b k no_host = elim f.run [
-    | begun other c i s ↦ completes other limit left left' written written' in_rose out_rose (status_of ending) s
-    | not_begun n p q ↦ λ bytes asked e frames few no_read no_write. inr (memory_alone no_host (not_begun_excused files limit host_rose ending usage first b k n))
-  ]
+  whole_status : (ended : Ended) → EndsWhole ended → (status_of (ending_of ended) ≡ 0) ⊎ (status_of (ending_of ended) ≡ 8)
+  whole_status ended (exactly.whole is) = inl (ap (λ e. status_of (ending_of e)) is)
+  whole_status ended (exactly.quit is) = inl (ap (λ e. status_of (ending_of e)) is)
+  whole_status ended (exactly.no_memory is) = inr (ap (λ e. status_of (ending_of e)) is)
+
+  -- the host did not fail
+  no_host_fault : (options : Options) (f : Fails options before after ending) (file : Option (List ℕ)) → options.file ≡ file → CanBegin before options file → NotBegun before.host.files options.max_input file f.moment ending → NoHostFault before after → status_of ending ≡ 6 → ⊥
+  no_host_fault options f None is can n none six = omega (arith, ap status_of n, six)
+  no_host_fault options f (Some name) is can n none six =
+      let counts = run_counts options (not_begun f) in
+      elim none [
+        | inl sure ↦ counts.sure_host options name refl is sure (is_listed before.host.files name can.bytes can.is) six
+        | inr never ↦ never (counts.host.came six)
+      ]
+
+  excused_whole : Excused (status_of ending) → (status_of ending ≡ 6 → ⊥) → (status_of ending ≡ 0) ⊎ (status_of ending ≡ 8)
+  excused_whole (inl six) not = absurd (not six)
+  excused_whole (inr eight) not = inr eight
+
+  no_put_fault : (options : Options) (first : Standing) → Begins options before first → (asked : List Words) → NoOutputFault options before after asked → NoWriteFault (MayAnswer options first) asked before.output after.output
+  no_put_fault options first b asked (inl fit) = inl (fit first b)
+  no_put_fault options first b asked (inr none) = inr none
+
+  run_completes : (options : Options) → Ran options → (bytes : List ℕ) (asked : List Words) → CanBegin before options options.file → before.input.told ≡ Some bytes → Frames bytes asked Whole → length bytes < options.max_input
+      → NoHostFault before after → NoReadFault before.input after.input → NoOutputFault options before after asked → (status_of ending ≡ 0) ⊎ (status_of ending ≡ 8)
+  run_completes options (begun first last ended b host s is) bytes asked can told frames few no_host no_read no_write =
+      let P : Ending → Type 0 = λ e. (status_of e ≡ 0) ⊎ (status_of e ≡ 8) in
+      let whole = completes (MayAnswer options first) quits never options.max_input before.input after.input before.output after.output last ended s bytes asked told frames few no_read (no_put_fault options first b asked no_write) in
+      subst P (sym is) (whole_status ended whole)
+  run_completes options (not_begun f) bytes asked can told frames few no_host no_read no_write =
+      excused_whole (could_begin options f options.file can f.why) (no_host_fault options f options.file refl can f.why no_host)
+
+  completes_of : (given : Given) → RanOf given → Completes given before after (status_of ending)
+  completes_of given r options bytes asked e can told frames few no_host no_read no_write = run_completes options (ran_as given options r e) bytes asked can told frames few no_host no_read no_write
 
   -- the same of the status that is answered
-  module _ (status : ℕ) (is : status ≡ status_of ending) where
-    pub concludes_as : Concludes usage files limit left left' written written' noted noted' host_rose in_rose out_rose note_rose status
-    concludes_as = record { ending = ending; is = is; finishes = f }
+  module _ (given : Given) (r : RanOf given) (status : ℕ) (is : status ≡ status_of ending) where
+    pub concludes_as : Concludes given before after noted noted' status
+    concludes_as = record { ending = ending; is = is; run = r; line = line }
 
-    pub causes_as : Causes host_rose in_rose out_rose status
-    causes_as = let P : ℕ → Type 0 = λ s. Causes host_rose in_rose out_rose s in subst P (sym is) causes_of
+    pub counts_as : CountsFaults given before after status
+    counts_as = let P : ℕ → Type 0 = λ s. CountsFaults given before after s in subst P (sym is) (counts_of given r)
 
-    pub exactly_as : Exactly usage files limit left left' noted noted' host_rose in_rose out_rose note_rose status
-    exactly_as = let P : ℕ → Type 0 = λ s. Exactly usage files limit left left' noted noted' host_rose in_rose out_rose note_rose s in subst P (sym is) exactly_of
+    pub exactly_as : Exactly given before after noted noted' status
+    exactly_as = let P : ℕ → Type 0 = λ s. Exactly given before after noted noted' s in subst P (sym is) (exactly_of given r)
 
-    pub completes_as : Completes usage files limit left left' host_rose in_rose out_rose status
-    completes_as = let P : ℕ → Type 0 = λ s. Completes usage files limit left left' host_rose in_rose out_rose s in subst P (sym is) completes_of
+    pub completes_as : Completes given before after status
+    completes_as = let P : ℕ → Type 0 = λ s. Completes given before after s in subst P (sym is) (completes_of given r)
 
-    pub notes_as : NotesStatus noted noted' note_rose status
-    notes_as = record { ending = ending; is = is; line = f.line }
+    pub notes_as : NotesStatus noted noted' status
+    notes_as = record { ending = ending; is = is; line = line }

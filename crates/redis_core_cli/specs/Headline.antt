@@ -1,71 +1,152 @@
--- What the top call answers: from words, a file and bytes in to bytes out, a status and a line.
-use Rattle.std.specs.Prelude.{◌≡◌, ℕ, ◌≤◌, ◌<◌, List, ◌⊎◌, length, Option, Some, None, IsSome}
-use Rattle.plain_model.specs.Worlds.{World}
-use Rattle.redis_core_cli.specs.Engines.{Engine, world_of, IsFirst}
-use Rattle.rdb_grammar.specs.Files.{IsFault}
+-- What the top call answers: from words, a file, a clock and bytes in to bytes out, a status and a line.
+use Rattle.std.specs.Prelude.{◌≡◌, ℕ, ◌≤◌, ◌<◌, List, [], ◌∷◌, ◌⊎◌, length, Option, Some, None, ⊤, Bool, true, false}
+use Rattle.outside.specs.Clocks.{Answers, Tells}
+use Rattle.outside.specs.Counts.{Rose}
+use Rattle.outside.specs.Files.{Files, IsListed}
+use Rattle.outside.specs.Streams.{SinkSeen}
+use Rattle.plain_world.specs.Worlds.{World}
+use Rattle.plain_world.specs.Words.{Words}
+use Rattle.plain_world.specs.declared.reply.Part.{Part}
+use Rattle.plain_model.specs.Runs.{run, Call, Turn, calls_of, replies_of, moment_after}
+use Rattle.rdb_grammar.specs.Files.{IsFile, IsFault}
 use Rattle.rdb_grammar.specs.declared.fault.LoadKind.{LoadKind}
 use Rattle.rdb_reader.specs.Loads.{RefusesFile}
-use Rattle.redis_core_cli.specs.Served.{Served, ServesExactly, ServesWhole}
+use Rattle.redis_core.specs.Engines.{quits}
+use Rattle.resp_frames.specs.Ends.{Whole, Frames}
+use Rattle.serving.specs.declared.ending.Ended.{Ended}
+use Rattle.serving.specs.Exactly.{ServesExactly, NoReadFault, AllFit}
+use Rattle.redis_core_cli.specs.Given.{Options, Given, Wrong, Run, Outside}
 use Rattle.redis_core_cli.specs.Notes.{Notes, refused_line, line_of}
-use Rattle.redis_core_cli.specs.Starting.{Usage, Fresh, Loading, Wrong, Files, Begins, NotBegun}
-use Rattle.redis_core_cli.specs.Statuses.{status_of}
+use Rattle.redis_core_cli.specs.Running.{RunsOf}
+use Rattle.redis_core_cli.specs.Starting.{Standing, ReadsMoment, Begins}
+use Rattle.redis_core_cli.specs.Statuses.{status_of, ending_of}
 use Rattle.redis_core_cli.specs.declared.ending.Ending.{Ending}
 
--- a run: it begins, and is served by an engine that holds the world that it begins with; or nothing is taken and nothing
--- written
-pub data Runs (usage : Usage) (files : Files) (limit : ℕ) (left left' written written' : Option (List ℕ)) (host_rose in_rose out_rose : Type 0) (ending : Ending) : Type 0 where
-  begun : (first : Engine) → Begins files limit usage (world_of first) → IsFirst first → Served first limit left left' written written' in_rose out_rose (status_of ending) → Runs usage files limit left left' written written' host_rose in_rose out_rose ending
-  not_begun : NotBegun files limit host_rose usage ending → left' ≡ left → written' ≡ written → Runs usage files limit left left' written written' host_rose in_rose out_rose ending
+-- The clock is read once for each request, whose moment is the greatest of the answers so far: from a last moment and the
+-- answers that follow to those after the requests.
+abbrev pub Clocked : ℕ → Option Answers → List Words → List Call → ℕ → Option Answers → Type 0
+Clocked last clock [] [] last' clock' = (last' ≡ last) × (clock' ≡ clock)
+Clocked last clock (words ∷ asked) (call ∷ calls) last' clock' =
+    (now : ℕ) × (mid : Option Answers) × Tells clock now mid × (call.words ≡ words) × (call.moment ≡ moment_after last now) × Clocked call.moment mid asked calls last' clock'
+Clocked last clock [] (call ∷ calls) last' clock' = ⊥
+Clocked last clock (words ∷ asked) [] last' clock' = ⊥
 
--- a run, with its line in the notes
-pub record Finishes (usage : Usage) (files : Files) (limit : ℕ) (left left' written written' noted noted' : Option (List ℕ)) (host_rose in_rose out_rose note_rose : Type 0) (ending : Ending) : Type 0 where
-  pub run : Runs usage files limit left left' written written' host_rose in_rose out_rose ending
-  pub line : Notes noted noted' note_rose (line_of ending)
+-- from here on, a plain map may answer the requests by these replies
+pub record MayAnswer (options : Options) (first : Standing) (asked : List Words) (replies : List (List Part)) (last : Standing) : Type 0 where
+  pub turns : List Turn
+  pub clocked : Clocked first.last first.clock asked (calls_of turns) last.last last.clock
+  pub are : replies_of turns ≡ replies
+  pub ran : run options.seed first.world turns last.world
 
--- the headline: the same, where the status alone is answered
-pub record Concludes (usage : Usage) (files : Files) (limit : ℕ) (left left' written written' noted noted' : Option (List ℕ)) (host_rose in_rose out_rose note_rose : Type 0) (status : ℕ) : Type 0 where
+-- what is known of a world is known whether memory is refused or not
+abbrev pub never : Standing → Bool
+never standing = false
+
+-- the headline: a run, with its line in the notes, where the status alone is answered
+pub record Concludes (given : Given) (before after : Outside) (noted noted' : SinkSeen) (status : ℕ) : Type 0 where
   pub ending : Ending
   pub is : status ≡ status_of ending
-  pub finishes : Finishes usage files limit left left' written written' noted noted' host_rose in_rose out_rose note_rose ending
+  pub run : RunsOf Begins MayAnswer never given before after ending
+  pub line : Notes noted noted' (line_of ending)
 
--- a fault of the input, the output or the host has its count
-pub record Causes (host_rose in_rose out_rose : Type 0) (status : ℕ) : Type 0 where
-  pub read : status ≡ 4 → in_rose
-  pub write : status ≡ 5 → out_rose
-  pub host : status ≡ 6 → host_rose
+-- a count rose where a status came, and stayed where another did
+pub record RoseAt (which status before after : ℕ) : Type 0 where
+  pub came : status ≡ which → Rose before after
+  pub other : (status ≡ which → ⊥) → after ≡ before
 
--- the line of an ending of this status is put, or where the notes' count of faults rose a front of it
-pub record NotesStatus (noted noted' : Option (List ℕ)) (note_rose : Type 0) (status : ℕ) : Type 0 where
+-- the host has no name to look at
+abbrev pub NamesNoFile : Given → Type 0
+NamesNoFile Wrong = ⊤
+NamesNoFile (Run options) = options.file ≡ None
+
+-- A fault of the host, the input or the output is counted exactly where it ends the run, and none comes that surely doesn't.
+-- Where no file is named the host stays as it was.
+pub record CountsFaults (given : Given) (before after : Outside) (status : ℕ) : Type 0 where
+  pub read : RoseAt 4 status before.input.faults after.input.faults
+  pub write : RoseAt 5 status before.output.faults after.output.faults
+  pub host : RoseAt 6 status before.host.reading.faults after.host.reading.faults
+  pub sure_read : before.input.sure ≡ true → status ≡ 4 → ⊥
+  pub sure_host : (options : Options) (name : List ℕ) → given ≡ Run options → options.file ≡ Some name → before.host.reading.sure ≡ true → IsListed before.host.files name → status ≡ 6 → ⊥
+  pub no_file : NamesNoFile given → after.host ≡ before.host
+
+-- the line of an ending of this status is put, or a front of it where the notes failed
+pub record NotesStatus (noted noted' : SinkSeen) (status : ℕ) : Type 0 where
   pub ending : Ending
   pub is : status ≡ status_of ending
-  pub line : Notes noted noted' note_rose (line_of ending)
+  pub line : Notes noted noted' (line_of ending)
 
 -- the host tells that the name has this file
-abbrev pub Tells : Files → List ℕ → List ℕ → Type 0
-Tells None name bytes = ⊥
-Tells (Some files) name bytes = files name ≡ Some bytes
+abbrev pub IsTold : Files → List ℕ → List ℕ → Type 0
+IsTold None name bytes = ⊥
+IsTold (Some files) name bytes = files name ≡ Some bytes
+
+-- the host tells that the name has no file
+abbrev pub IsAbsent : Files → List ℕ → Type 0
+IsAbsent None name = ⊥
+IsAbsent (Some files) name = files name ≡ None
+
+-- this holds at each moment that the clock may answer first
+abbrev pub AtFirst : Option Answers → (ℕ → Type 0) → Type 0
+AtFirst clock P = (moment : ℕ) (after : Option Answers) → ReadsMoment clock after moment → P moment
+
+-- the file of a name is told, has at most so many bytes, and is one of the format
+pub record IsLoadable (before : Outside) (limit : ℕ) (name : List ℕ) : Type 0 where
+  pub bytes : List ℕ
+  pub is : IsTold before.host.files name bytes
+  pub few : length bytes ≤ limit
+  pub file : AtFirst before.clock (λ moment. (world : World) × IsFile bytes moment world)
+
+-- a run can begin: no file is named, or one that can be loaded
+abbrev pub CanBegin : Outside → Options → Option (List ℕ) → Type 0
+CanBegin before options None = ⊤
+CanBegin before options (Some name) = IsLoadable before options.max_input name
 
 -- a fault of the host, or want of memory
-abbrev pub Excused : Type 0 → ℕ → Type 0
-Excused host_rose status = ((status ≡ 6) × host_rose) ⊎ (status ≡ 8)
+abbrev pub Excused : ℕ → Type 0
+Excused status = (status ≡ 6) ⊎ (status ≡ 8)
+
+-- the file of the run is refused by this first fault, and its line says so
+pub record IsRefused (given : Given) (before : Outside) (noted noted' : SinkSeen) : Type 0 where
+  pub options : Options
+  pub name : List ℕ
+  pub given_is : given ≡ Run options
+  pub file_is : options.file ≡ Some name
+  pub what : LoadKind
+  pub at : ℕ
+  pub moment : ℕ
+  pub after : Option Answers
+  pub read : ReadsMoment before.clock after moment
+  pub refused : RefusesFile before.host.files name options.max_input moment what at
+  pub line : Notes noted noted' (refused_line what at)
 
 -- exactly when each status comes, unless the host failed or memory wanted, which wrong words never meet
-pub record Exactly (usage : Usage) (files : Files) (limit : ℕ) (left left' noted noted' : Option (List ℕ)) (host_rose in_rose out_rose note_rose : Type 0) (status : ℕ) : Type 0 where
-  pub wrong : usage ≡ Wrong → status ≡ 1
-  pub wrong_alone : status ≡ 1 → usage ≡ Wrong
+pub record Exactly (given : Given) (before after : Outside) (noted noted' : SinkSeen) (status : ℕ) : Type 0 where
+  pub wrong : given ≡ Wrong → status ≡ 1
+  pub wrong_alone : status ≡ 1 → given ≡ Wrong
   -- a file of at most the limit's bytes with this first fault
-  pub refused : (name bytes : List ℕ) (what : LoadKind) (at : ℕ) → usage ≡ Loading name → Tells files name bytes → length bytes ≤ limit → IsFault bytes 0 what at
-      → Excused host_rose status ⊎ ((status ≡ 7) × Notes noted noted' note_rose (refused_line what at))
-  pub refused_alone : status ≡ 7 → (name : List ℕ) × (what : LoadKind) × (at : ℕ) × (usage ≡ Loading name) × RefusesFile files name limit 0 what at × Notes noted noted' note_rose (refused_line what at)
+  pub refused : (options : Options) (name bytes : List ℕ) (what : LoadKind) (at : ℕ) → given ≡ Run options → options.file ≡ Some name → IsTold before.host.files name bytes → length bytes ≤ options.max_input
+      → AtFirst before.clock (λ moment. IsFault bytes moment what at) → Excused status ⊎ ((status ≡ 7) × Notes noted noted' (refused_line what at))
+  pub refused_alone : status ≡ 7 → IsRefused given before noted noted'
   -- a file of more bytes than the limit
-  pub long : (name bytes : List ℕ) → usage ≡ Loading name → Tells files name bytes → limit < length bytes → Excused host_rose status ⊎ (status ≡ 9)
+  pub long : (options : Options) (name bytes : List ℕ) → given ≡ Run options → options.file ≡ Some name → IsTold before.host.files name bytes → options.max_input < length bytes → Excused status ⊎ (status ≡ 9)
   -- a name that the host has no file of
-  pub absent : (name : List ℕ) (known : List ℕ → Option (List ℕ)) → usage ≡ Loading name → files ≡ Some known → known name ≡ None → Excused host_rose status
-  -- a run that begins ends as its input does
-  pub served : (first : World) → Begins files limit usage first → (usage ≡ Fresh) ⊎ IsSome files → Excused host_rose status ⊎ ServesExactly limit left left' in_rose out_rose status
+  pub absent : (options : Options) (name : List ℕ) → given ≡ Run options → options.file ≡ Some name → IsAbsent before.host.files name → Excused status
+  -- a run that can begin ends as its input does
+  pub served : (options : Options) → given ≡ Run options → CanBegin before options options.file
+      → Excused status ⊎ ((ended : Ended) × (status ≡ status_of (ending_of ended)) × ServesExactly quits options.max_input before.input after.input ended)
 
--- with words that are taken, no file or a file of the format of at most the limit's bytes, an input of fewer bytes than
--- the limit that ends after a whole request, and no counted fault, the run ends with status 0, unless memory wanted
-abbrev pub Completes : Usage → Files → ℕ → Option (List ℕ) → Option (List ℕ) → Type 0 → Type 0 → Type 0 → ℕ → Type 0
-Completes usage files limit left left' host_rose in_rose out_rose status =
-    (first : World) → Begins files limit usage first → (usage ≡ Fresh) ⊎ IsSome files → (host_rose → ⊥) → ServesWhole limit left left' in_rose out_rose status
+-- no fault of the host: none comes that surely doesn't, or none was counted
+abbrev pub NoHostFault : Outside → Outside → Type 0
+NoHostFault before after = (before.host.reading.sure ≡ true) ⊎ (Rose before.host.reading.faults after.host.reading.faults → ⊥)
+
+-- no fault of the output: whatever a plain map may answer fits, or none was counted
+abbrev pub NoOutputFault : Options → Outside → Outside → List Words → Type 0
+NoOutputFault options before after asked =
+    ((first : Standing) → Begins options before first → AllFit (MayAnswer options first) asked before.output.room) ⊎ (Rose before.output.faults after.output.faults → ⊥)
+
+-- with words that are taken, no file or one that can be loaded, an input of fewer bytes than the limit that ends after a
+-- whole request, and no fault, the run ends with status 0, unless memory wanted
+abbrev pub Completes : Given → Outside → Outside → ℕ → Type 0
+Completes given before after status =
+    (options : Options) (bytes : List ℕ) (asked : List Words) → given ≡ Run options → CanBegin before options options.file → before.input.told ≡ Some bytes → Frames bytes asked Whole → length bytes < options.max_input
+    → NoHostFault before after → NoReadFault before.input after.input → NoOutputFault options before after asked → (status ≡ 0) ⊎ (status ≡ 8)

@@ -1,8 +1,8 @@
+pub mod Given
 pub mod Statuses
 pub mod Engines
-pub mod Answering
-pub mod Serving
-pub mod Served
 pub mod Notes
 pub mod Starting
+pub mod Running
+pub mod Stepped
 pub mod Headline

@@ -1,71 +1,92 @@
--- What the words ask for, and how a run begins.
-use Rattle.std.specs.Prelude.{◌≡◌, ℕ, ◌≤◌, List, [], ◌∷◌, length, Option, Result, Ok, Err, codes, bytes_eq, if◌then◌else◌}
-use Rattle.plain_model.specs.Worlds.{World, new_world}
+-- How a run begins.
+use Rattle.std.specs.Prelude.{◌≡◌, ℕ, ◌≤◌, List, length, min, Option, Some, None, Result, Ok, Err, Bool, true, false}
+use Rattle.outside.specs.Clocks.{Answers, Tells}
+use Rattle.outside.specs.Counts.{Rose}
+use Rattle.outside.specs.Files.{Files, HostSeen, IsListed}
+use Rattle.plain_world.specs.Worlds.{World, new_world}
+use Rattle.plain_model.specs.Runs.{latest}
 use Rattle.rdb_grammar.specs.Files.{IsFile}
 use Rattle.rdb_reader.specs.Fetching.{IsFileOf, IsLongFile}
 use Rattle.rdb_reader.specs.Loads.{RefusesFile}
 use Rattle.rdb_reader.specs.declared.fault.LoadFault.{LoadFault}
 use Rattle.rdb_reader.specs.declared.fault.LoadFault.TheVariants as faults
-use Rattle.redis_core_cli.specs.Engines.{Engine, world_of, IsFirst, IsAtZero}
-use Rattle.redis_core_cli.specs.declared.words.Asked.{Asked}
-use Rattle.redis_core_cli.specs.declared.words.Asked.TheVariants as asked
+use Rattle.redis_core_cli.specs.Engines.{Engine, world_of, IsFirst}
+use Rattle.redis_core_cli.specs.Given.{Options, Outside}
 use Rattle.redis_core_cli.specs.declared.ending.Ending.{Ending}
 use Rattle.redis_core_cli.specs.declared.ending.Ending.TheVariants as endings
 
--- what the words behind the program's name ask for: to begin without a file, to load the file of a name, or nothing that there is
-pub data Usage : Type 0 where
-  Fresh : Usage
-  Loading : List ℕ → Usage
-  Wrong : Usage
+-- where a run stands: its world, the last moment that was used, and the clock's answers that follow
+pub record Standing : Type 0 where
+  pub world : World
+  pub last : ℕ
+  pub clock : Option Answers
 
--- no words, or `--load` and a name
-abbrev pub usage_of : List (List ℕ) → Usage
-usage_of [] = Fresh
-usage_of (option ∷ []) = Wrong
-usage_of (option ∷ name ∷ []) = if bytes_eq option (codes "--load") then Loading name else Wrong
-usage_of (option ∷ name ∷ word ∷ words) = Wrong
+-- the clock is read once, and its answer is the moment, cut at the greatest one
+pub record ReadsMoment (before after : Option Answers) (moment : ℕ) : Type 0 where
+  pub now : ℕ
+  pub read : Tells before now after
+  pub is : moment ≡ min now latest
 
--- what was read of the words
-abbrev pub usage_read : Asked → Usage
-usage_read asked.NoFile = Fresh
-usage_read (asked.File name) = Loading name.now
-usage_read asked.Wrong = Wrong
-
--- what a host tells of its files: the bytes of each name that has some
-abbrev pub Files : Type 0
-Files = Option (List ℕ → Option (List ℕ))
-
--- the host's file of this name has at most so many bytes, and is one of the format that means this world
-pub record IsLoaded (files : Files) (limit : ℕ) (name : List ℕ) (world : World) : Type 0 where
+-- the host's file of this name has at most so many bytes, and is one of the format that means this world at the moment
+pub record IsLoaded (files : Files) (limit : ℕ) (name : List ℕ) (moment : ℕ) (world : World) : Type 0 where
   pub bytes : List ℕ
   pub is : IsFileOf files name bytes
   pub few : length bytes ≤ limit
-  pub file : IsFile bytes 0 world
+  pub file : IsFile bytes moment world
 
--- a run that is asked for this begins with this world: that without a key, or the file's
-abbrev pub Begins : Files → ℕ → Usage → World → Type 0
-Begins files limit Fresh world = world ≡ new_world
-Begins files limit (Loading name) world = IsLoaded files limit name world
-Begins files limit Wrong world = ⊥
+-- a run begins with this world: that without a key, or the file's
+abbrev pub BeginsWith : Files → ℕ → Option (List ℕ) → ℕ → World → Type 0
+BeginsWith files limit None moment world = world ≡ new_world
+BeginsWith files limit (Some name) moment world = IsLoaded files limit name moment world
 
--- why the file of a name is not loaded: a fault of the host, the file's first fault, more bytes than the limit, or want of memory
-abbrev pub NotLoaded : Files → ℕ → Type 0 → List ℕ → Ending → Type 0
-NotLoaded files limit rose name endings.Host = rose
-NotLoaded files limit rose name (endings.Refused what at) = RefusesFile files name limit 0 what at
-NotLoaded files limit rose name endings.Limit = IsLongFile files name limit
-NotLoaded files limit rose name endings.Memory = Unit {0}
-NotLoaded files limit rose name endings.Whole = ⊥
-NotLoaded files limit rose name endings.Usage = ⊥
-NotLoaded files limit rose name endings.Protocol = ⊥
-NotLoaded files limit rose name endings.Cut = ⊥
-NotLoaded files limit rose name endings.ReadFault = ⊥
-NotLoaded files limit rose name endings.WriteFault = ⊥
+-- a run with these options begins here, at the moment that the clock answers first
+pub record Begins (options : Options) (before : Outside) (first : Standing) : Type 0 where
+  pub moment : ReadsMoment before.clock first.clock first.last
+  pub world : BeginsWith before.host.files options.max_input options.file first.last first.world
 
--- why a run doesn't begin: want of memory, or what else keeps its file from being loaded, or wrong words
-abbrev pub NotBegun : Files → ℕ → Type 0 → Usage → Ending → Type 0
-NotBegun files limit rose Fresh ending = ending ≡ endings.Memory
-NotBegun files limit rose (Loading name) ending = NotLoaded files limit rose name ending
-NotBegun files limit rose Wrong ending = ending ≡ endings.Usage
+-- why the file of a name is not loaded at a moment: a fault of the host, the file's first fault, more bytes than the limit,
+-- or want of memory
+abbrev pub NotLoaded : Files → ℕ → List ℕ → ℕ → Ending → Type 0
+NotLoaded files limit name moment endings.Host = Unit {0}
+NotLoaded files limit name moment (endings.Refused what at) = RefusesFile files name limit moment what at
+NotLoaded files limit name moment endings.Limit = IsLongFile files name limit
+NotLoaded files limit name moment endings.Memory = Unit {0}
+NotLoaded files limit name moment endings.Whole = ⊥
+NotLoaded files limit name moment endings.Quit = ⊥
+NotLoaded files limit name moment endings.Usage = ⊥
+NotLoaded files limit name moment (endings.Protocol rule at) = ⊥
+NotLoaded files limit name moment endings.Cut = ⊥
+NotLoaded files limit name moment endings.ReadFault = ⊥
+NotLoaded files limit name moment endings.WriteFault = ⊥
+
+-- why a run doesn't begin: want of memory, or what else keeps its file from being loaded
+abbrev pub NotBegun : Files → ℕ → Option (List ℕ) → ℕ → Ending → Type 0
+NotBegun files limit None moment ending = ending ≡ endings.Memory
+NotBegun files limit (Some name) moment ending = NotLoaded files limit name moment ending
+
+-- the host's count of faults rose exactly where it failed, as it doesn't where that is sure
+abbrev pub CountsHost : HostSeen → HostSeen → List ℕ → Bool → Type 0
+CountsHost before after name true = Rose before.reading.faults after.reading.faults × ((before.reading.sure ≡ true) × IsListed before.files name → ⊥)
+CountsHost before after name false = after.reading.faults ≡ before.reading.faults
+
+-- a host is left alone where no file is named
+abbrev pub UsesHost : Option (List ℕ) → HostSeen → HostSeen → Bool → Type 0
+UsesHost None before after fails = (after ≡ before) × (fails ≡ false)
+UsesHost (Some name) before after fails = CountsHost before after name fails
+
+-- whether a run ends by a fault of the host
+abbrev pub is_host : Ending → Bool
+is_host endings.Host = true
+is_host endings.Whole = false
+is_host endings.Quit = false
+is_host endings.Usage = false
+is_host (endings.Protocol rule at) = false
+is_host endings.Cut = false
+is_host endings.ReadFault = false
+is_host endings.WriteFault = false
+is_host (endings.Refused what at) = false
+is_host endings.Memory = false
+is_host endings.Limit = false
 
 -- the ending by a fault of the loading
 abbrev pub ending_by : LoadFault → Ending
@@ -74,12 +95,17 @@ ending_by faults.Host = endings.Host
 ending_by faults.Limit = endings.Limit
 ending_by faults.Memory = endings.Memory
 
--- what `start` answers
-abbrev pub Starts : Files → ℕ → Type 0 → Usage → Result Engine Ending → Type 0
-Starts files limit rose usage (Ok engine) = Begins files limit usage (world_of engine) × IsFirst engine × IsAtZero engine
-Starts files limit rose usage (Err ending) = NotBegun files limit rose usage ending
+-- what `load_file` answers, at this moment
+abbrev pub LoadsNamed : Files → ℕ → List ℕ → ℕ → World → Result (Unit {0}) Ending → Type 0
+LoadsNamed files limit name moment world (Ok x) = IsLoaded files limit name moment world
+LoadsNamed files limit name moment world (Err ending) = NotLoaded files limit name moment ending
 
--- what `load_file` answers
-abbrev pub LoadsNamed : Files → ℕ → Type 0 → List ℕ → World → Result (Unit {0}) Ending → Type 0
-LoadsNamed files limit rose name world (Ok x) = IsLoaded files limit name world
-LoadsNamed files limit rose name world (Err ending) = NotLoaded files limit rose name ending
+-- what `start` answers, at this moment: an engine that begins the run, with the options' seed
+abbrev pub Starts : Files → Options → ℕ → Result Engine Ending → Type 0
+Starts files options moment (Ok engine) = BeginsWith files options.max_input options.file moment (world_of engine) × IsFirst options.seed engine × (engine.last ≡ moment)
+Starts files options moment (Err ending) = NotBegun files options.max_input options.file moment ending
+
+-- whether a run is ended by a fault of the host before it begins
+abbrev pub host_failed : {A : Type 0} → Result A Ending → Bool
+host_failed (Ok x) = false
+host_failed (Err ending) = is_host ending

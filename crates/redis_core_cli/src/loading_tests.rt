@@ -2,7 +2,8 @@
 
 use crate::ending::Ending;
 use crate::notes::note;
-use crate::top_call::{redis_core, redis_core_up_to};
+use crate::test_runs::{clock_of, run_up_to};
+use crate::top_call::redis_core;
 use outside::{MemHost, MemSink, MemSource};
 use rdb_grammar::LoadKind;
 use std::alloc::{AllocError, Global};
@@ -76,7 +77,7 @@ fn ran(alloc: Global, given: &Given<'_>) -> Result<Came, AllocError> {
         Vec::from_slice(alloc, given.writes)?,
     );
     let mut notes = MemSink::new(vec![in alloc; 0u8; given.room]?, Vec::new(alloc));
-    let ending = redis_core_up_to(
+    let ending = run_up_to(
         alloc,
         words.as_slice(),
         &mut host,
@@ -84,7 +85,7 @@ fn ran(alloc: Global, given: &Given<'_>) -> Result<Came, AllocError> {
         &mut output,
         &mut notes,
         given.limit.min(MANY),
-    );
+    )?;
     Ok(Came {
         status: ending.status(),
         output: Vec::from_slice(alloc, output.written())?,
@@ -287,9 +288,9 @@ const RUNS: [Run; 8] = [
             input: b"PING\r\n",
             ..LOADING
         },
-        b"",
+        b"-ERR Protocol error: inline request not taken at byte 0\r\n",
         2,
-        b"",
+        b"redis-core: protocol error P6 at byte 0\n",
     ),
     Run(
         Given {
@@ -346,10 +347,14 @@ fn notes_that_fail(rt: HostRuntime) -> Result<(), Fail> {
     Ok(())
 }
 
-const LINES: [(Ending, &[u8]); 10] = [
+const LINES: [(Ending, &[u8]); 11] = [
     (Ending::Whole, b""),
     (Ending::Usage, b"redis-core: wrong usage\n"),
-    (Ending::Protocol, b""),
+    (Ending::Quit, b""),
+    (
+        Ending::Protocol { rule: 3, at: 4 },
+        b"redis-core: protocol error P3 at byte 4\n",
+    ),
     (Ending::Cut, b"redis-core: input ended inside a request\n"),
     (Ending::ReadFault, b"redis-core: input failed\n"),
     (Ending::WriteFault, b"redis-core: output failed\n"),
@@ -394,6 +399,7 @@ fn the_top_call(rt: HostRuntime) -> Result<(), Fail> {
         &mut input,
         &mut output,
         &mut notes,
+        &mut clock_of(rt.alloc(), &[])?,
     );
     assert_eq!(rt; status, 0);
     assert_eq!(rt; output.written(), b"$1\r\n5\r\n".as_slice());

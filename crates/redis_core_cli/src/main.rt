@@ -2,16 +2,15 @@
 //! replies to standard output and what ended the run to standard error.
 #![tactic(auto)]
 
-mod answering;
 mod ending;
 #[cfg(test)]
 mod loading_tests;
 mod notes;
-mod pending;
-mod serving;
 mod starting;
 #[cfg(test)]
 mod string_tests;
+#[cfg(test)]
+mod test_runs;
 #[cfg(test)]
 mod tests;
 mod top_call;
@@ -20,7 +19,8 @@ mod words;
 use crate::ending::Ending;
 use crate::notes::note;
 use crate::top_call::redis_core;
-use outside::{FileHost, StdSink, StdSource};
+use outside::{Clock, FileHost, StdSink, StdSource, SystemClock};
+use std::alloc::AllocError;
 use std::env;
 use std::io::ErrorKind;
 use std::process::ExitCode;
@@ -42,6 +42,11 @@ fn words_given(rt: &HostRuntime) -> Result<Vec<String>, Ending> {
     }
 }
 
+// The real clock.
+fn real_clock(rt: &HostRuntime) -> Result<Box<dyn Clock>, AllocError> {
+    Ok(Box::new(rt.alloc(), SystemClock::new(rt.clone()?))?)
+}
+
 fn main(rt: HostRuntime) -> ExitCode {
     let mut notes = StdSink::new(rt.stderr());
     let words = match words_given(&rt) {
@@ -54,6 +59,10 @@ fn main(rt: HostRuntime) -> ExitCode {
     let mut host = FileHost::new(&rt);
     let mut input = StdSource::new(rt.stdin());
     let mut output = StdSink::new(rt.stdout());
+    let Ok(mut clock) = real_clock(&rt) else {
+        note(&mut notes, Ending::Memory);
+        return ExitCode::from(Ending::Memory.status());
+    };
     ExitCode::from(redis_core(
         rt.alloc(),
         &words,
@@ -61,5 +70,6 @@ fn main(rt: HostRuntime) -> ExitCode {
         &mut input,
         &mut output,
         &mut notes,
+        &mut clock,
     ))
 }

@@ -1,21 +1,19 @@
 //! How a run begins.
 
-ghost use Rattle.std.specs.Prelude.{◌≡◌, map, string_bytes, IfOk, IfErr};
-ghost use Rattle.outside.specs.Counts.{Rose};
-ghost use Rattle.redis_core_cli.specs.Engines.{world_of, IsAtZero, IsFirst, Begun};
-ghost use Rattle.redis_core_cli.specs.Starting.{usage_of, Starts, LoadsNamed, ending_by};
+ghost use Rattle.std.specs.Prelude.{◌≡◌, ◌≤◌, ◌^◌, IfOk, IfErr, is_err};
+ghost use Rattle.object_codec.specs.Limits.{AreInRange};
+ghost use Rattle.redis_core_cli.specs.Engines.{world_of, IsFirst, Begun};
+ghost use Rattle.redis_core_cli.specs.Given.{options_read};
+ghost use Rattle.redis_core_cli.specs.Starting.{Starts, LoadsNamed, UsesHost, CountsHost, host_failed, ending_by};
 
 use crate::ending::Ending;
-use crate::words::{Asked, read_words};
+use crate::words::Options;
 use blocks::PlainStore;
 use object_codec::Limits;
 use outside::Host;
 use rdb_reader::LoadFault;
 use redis_core::Engine;
 use std::alloc::Global;
-
-// There is no option for the seed of hashes yet.
-const SEED: u64 = 0;
 
 // The ending of a run whose file is not loaded.
 fn not_loaded(fault: LoadFault) -> Ending
@@ -30,51 +28,58 @@ fn not_loaded(fault: LoadFault) -> Ending
 }
 
 // An engine without a key.
-fn begin(alloc: Global) -> Result<Engine<PlainStore>, Ending>
-    ensures begun { IfOk result (λ engine. Begun engine) }
+fn begin(alloc: Global, limits: Limits, seed: u64) -> Result<Engine<PlainStore>, Ending>
+    requires { AreInRange limits }
+    ensures begun { IfOk result (λ engine. Begun seed engine) }
     ensures memory { IfErr result (λ ending. ending ≡ Ending.Memory) }
 {
-    match Engine::new(alloc, PlainStore::new(alloc), Limits::default(), SEED) {
+    match Engine::new(alloc, PlainStore::new(alloc), limits, seed) {
         Ok(engine) => Ok(engine),
         Err(_) => Err(Ending::Memory),
     }
 }
 
-// Loads the host's file of this name. There is no clock yet: its moment is 0.
+// Loads the host's file of this name.
 fn load_file<H: Host>(
     engine: &mut Engine<PlainStore>,
     host: &mut H,
     name: &str,
     limit: u64,
+    moment: u64,
 ) -> Result<(), Ending>
-    requires { Begun engine.old }
-    ensures loads { LoadsNamed (H.files host.old) limit (Rose (H.faults host.old) (H.faults host.new)) name.now (world_of engine.new) result }
-    ensures first { IsFirst engine.new }
-    ensures zero { IsAtZero engine.new }
+    requires { Begun engine.old.bases.seed engine.old }
+    ensures loads { LoadsNamed (H.seen host.old).files limit name.now moment (world_of engine.new) result }
+    ensures first { IsFirst engine.old.bases.seed engine.new }
+    ensures moment { engine.new.last ≡ moment }
+    ensures host { CountsHost (H.seen host.old) (H.seen host.new) name.now (host_failed result) }
 {
-    match engine.load(host, name, limit, 0) {
+    match engine.load(host, name, limit, moment) {
         Ok(_) => Ok(()),
         Err(fault) => Err(not_loaded(fault)),
     }
 }
 
-/// The engine of a run with these words: without a key, or with those of the file that they name, of at most so many bytes.
+/// The engine of a run with these options, at its first moment: without a key, or with those of the file that is named.
 /// `Err` says how the run ends, where nothing is to be served.
 pub fn start<H: Host>(
     alloc: Global,
-    words: &[String],
+    options: Options<'_>,
     host: &mut H,
-    limit: u64,
+    moment: u64,
 ) -> Result<Engine<PlainStore>, Ending>
-    ensures { Starts (H.files host.old) limit (Rose (H.faults host.old) (H.faults host.new)) (usage_of (map string_bytes words.now)) result }
+    requires { AreInRange options.limits }
+    ensures starts { Starts (H.seen host.old).files (options_read options.entry) moment result }
+    ensures host { UsesHost (options_read options.entry).file (H.seen host.old) (H.seen host.new) (host_failed result) }
 {
-    match read_words(words) {
-        Asked::NoFile => begin(alloc),
-        Asked::File(name) => {
-            let mut engine = begin(alloc)?;
-            load_file(&mut engine, host, name, limit)?;
+    let mut engine = begin(alloc, options.limits, options.seed)?;
+    match options.file {
+        None => {
+            engine.observe(moment);
             Ok(engine)
         }
-        Asked::Wrong => Err(Ending::Usage),
+        Some(name) => match load_file(&mut engine, host, name, options.max_input, moment) {
+            Ok(()) => Ok(engine),
+            Err(ending) => Err(ending),
+        },
     }
 }

@@ -1,9 +1,9 @@
 //! Runs of the top call over the memory forms, without a file. The expected bytes are RESP2's, worked out by hand.
 
-ghost use Rattle.std.specs.Prelude.{◌≤◌, ◌^◌, Some};
+ghost use Rattle.std.specs.Prelude.{◌≤◌, ◌^◌, Some, None};
 
 use crate::ending::Ending;
-use crate::top_call::redis_core_up_to;
+use crate::test_runs::run_up_to;
 use outside::{MemHost, MemSink, MemSource, Sink, WriteFault};
 use std::alloc::{AllocError, Global};
 use std::test::Fail;
@@ -70,16 +70,32 @@ const ROWS: [Row; 22] = [
         b"-ERR unknown command\r\n",
         3,
     ),
-    // broken by each rule, after the requests that were whole
+    // broken by each rule, after the requests that were whole; the line of the rule follows the replies
     Row(
         b"*1\r\n$3\r\nFOO\r\n*01\r\n",
-        b"-ERR unknown command\r\n",
+        b"-ERR unknown command\r\n-ERR Protocol error: invalid multibulk length at byte 13\r\n",
         2,
     ),
-    Row(b"*1\r\nx", b"", 2),
-    Row(b"*1\r\n$536870913\r\n", b"", 2),
-    Row(b"*1\r\n$3\r\nFOO\r\r", b"", 2),
-    Row(b"PING\r\n", b"", 2),
+    Row(
+        b"*1\r\nx",
+        b"-ERR Protocol error: expected '$' at byte 4\r\n",
+        2,
+    ),
+    Row(
+        b"*1\r\n$536870913\r\n",
+        b"-ERR Protocol error: invalid bulk length at byte 4\r\n",
+        2,
+    ),
+    Row(
+        b"*1\r\n$3\r\nFOO\r\r",
+        b"-ERR Protocol error: expected CR LF at byte 12\r\n",
+        2,
+    ),
+    Row(
+        b"PING\r\n",
+        b"-ERR Protocol error: inline request not taken at byte 0\r\n",
+        2,
+    ),
 ];
 
 // A host without files.
@@ -96,7 +112,7 @@ fn served(
     room: usize,
     limit: u64,
 ) -> Result<(u8, Vec<u8>), AllocError>
-    requires { limit ≤ 2 ^ 61 }
+    requires { limit ≤ 2 ^ 62 }
 {
     let (reads, writes) = faults;
     let mut input = MemSource::new(
@@ -106,7 +122,7 @@ fn served(
     );
     let mut output = MemSink::new(vec![in alloc; 0u8; room]?, Vec::from_slice(alloc, writes)?);
     let mut notes = MemSink::new(vec![in alloc; 0u8; 100]?, Vec::new(alloc));
-    let status = redis_core_up_to(
+    let status = run_up_to(
         alloc,
         &[],
         &mut no_files(alloc),
@@ -114,7 +130,7 @@ fn served(
         &mut output,
         &mut notes,
         limit,
-    )
+    )?
     .status();
     Ok((status, Vec::from_slice(alloc, output.written())?))
 }
@@ -195,9 +211,7 @@ struct OneByOne {
 }
 
 impl Sink for OneByOne {
-    ghost told = { λ s. Some s.bytes.items };
-
-    ghost faults = { λ s. s.faults };
+    ghost seen = { λ s. record { told = Some s.bytes.items; faults = s.faults; room = None } };
 
     fn put(&mut self, piece: &[u8]) -> Result<usize, WriteFault> {
         let count = piece.len().min(1);
@@ -223,7 +237,7 @@ fn puts_of_one_byte(rt: HostRuntime) -> Result<(), Fail> {
         faults: 0,
     };
     let mut notes = MemSink::new(Vec::new(rt.alloc()), Vec::new(rt.alloc()));
-    let ended = redis_core_up_to(
+    let ended = run_up_to(
         rt.alloc(),
         &[],
         &mut no_files(rt.alloc()),
@@ -231,7 +245,7 @@ fn puts_of_one_byte(rt: HostRuntime) -> Result<(), Fail> {
         &mut output,
         &mut notes,
         MANY_BYTES,
-    );
+    )?;
     assert_eq!(rt; ended, Ending::Whole);
     assert_eq!(rt;
         output.bytes.as_slice(),

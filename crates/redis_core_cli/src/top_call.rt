@@ -1,68 +1,105 @@
 //! The top call.
 
 ghost use Rattle.std.specs.Prelude.{◌≡◌, ◌^◌, ◌≤◌, map, string_bytes};
-ghost use Rattle.outside.specs.Counts.{Rose};
-ghost use Rattle.redis_core_cli.specs.Headline.{Runs, Finishes, Concludes, Causes, Exactly, Completes, NotesStatus};
-ghost use Rattle.redis_core_cli.specs.Starting.{usage_of};
+ghost use Rattle.object_codec.specs.Limits.{AreInRange};
+ghost use Rattle.redis_core_cli.specs.Given.{AreTaken, given_by, given_read, options_read};
+ghost use Rattle.redis_core_cli.specs.Starting.{ReadsMoment};
+ghost use Rattle.redis_core_cli.specs.Running.{RunsOf};
+ghost use Rattle.redis_core_cli.specs.Stepped.{BeginsEngine, goes, is_spent, Steps, Finishes, StepsStatus};
+ghost use Rattle.redis_core_cli.specs.Headline.{Concludes, CountsFaults, Exactly, Completes, NotesStatus};
 
-use crate::ending::Ending;
+use crate::ending::{Ending, served_to};
 use crate::notes::note;
-use crate::serving::serve_input;
 use crate::starting::start;
-use outside::{Host, Sink, Source};
+use crate::words::{Given, Options, read_words};
+use outside::{Clock, Host, Sink, Source};
+use serving::{LATEST, serve_input};
 use std::alloc::Global;
 
-/// At most so many bytes are taken from the input, and from a file.
-const LIMIT: u64 = 1_099_511_627_776;
+// The moment that the clock answers, in milliseconds.
+fn first_moment(clock: &mut Box<dyn Clock>) -> u64
+    ensures { ReadsMoment (answers clock.old) (answers clock.new) result }
+{
+    clock.now().min(LATEST)
+}
 
 // Starts, and serves where the run begins.
-#[tactic(none)]
 fn run<H: Host, I: Source, O: Sink>(
     alloc: Global,
-    words: &[String],
+    options: Options<'_>,
     host: &mut H,
     input: &mut I,
     output: &mut O,
-    limit: u64,
+    clock: &mut Box<dyn Clock>,
 ) -> Ending
-    requires { limit ≤ 2 ^ 61 }
-    ensures { Runs (usage_of (map string_bytes words.now)) (H.files host.old) limit (I.told input.old) (I.told input.new) (O.told output.old) (O.told output.new)
-        (Rose (H.faults host.old) (H.faults host.new)) (Rose (I.faults input.old) (I.faults input.new)) (Rose (O.faults output.old) (O.faults output.new)) result }
+    requires limits { AreInRange options.limits }
+    requires limit { options.max_input ≤ 2 ^ 62 }
+    ensures { Steps (options_read options.entry) (record { host = H.seen host.old; input = I.seen input.old; output = O.seen output.old; clock = answers clock.old })
+        (record { host = H.seen host.new; input = I.seen input.new; output = O.seen output.new; clock = answers clock.new }) result }
 {
-    match start(alloc, words, host, limit) {
-        Ok(mut engine) => serve_input(alloc, &mut engine, input, output, limit),
+    let moment = first_moment(clock);
+    match start(alloc, options, host, moment) {
+        Ok(mut engine) => served_to(serve_input(
+            alloc,
+            &mut engine,
+            clock,
+            input,
+            output,
+            options.max_input,
+        )),
         Err(ending) => ending,
     }
 }
 
-/// The same with a limit of one's own, in bytes.
-#[tactic(none)]
-pub fn redis_core_up_to<H: Host, I: Source, O: Sink, N: Sink>(
+// Runs where the words are right.
+fn run_words<H: Host, I: Source, O: Sink>(
     alloc: Global,
-    words: &[String],
+    given: Given<'_>,
+    host: &mut H,
+    input: &mut I,
+    output: &mut O,
+    clock: &mut Box<dyn Clock>,
+) -> Ending
+    requires { AreTaken given }
+    ensures { RunsOf BeginsEngine goes is_spent (given_read given.entry) (record { host = H.seen host.old; input = I.seen input.old; output = O.seen output.old; clock = answers clock.old })
+        (record { host = H.seen host.new; input = I.seen input.new; output = O.seen output.new; clock = answers clock.new }) result }
+{
+    match given {
+        Given::Wrong => Ending::Usage,
+        Given::Run(options) => run(alloc, options, host, input, output, clock),
+    }
+}
+
+/// A run with what the words are read as, and its line in the notes.
+#[tactic(none)]
+pub fn run_given<H: Host, I: Source, O: Sink, N: Sink>(
+    alloc: Global,
+    given: Given<'_>,
     host: &mut H,
     input: &mut I,
     output: &mut O,
     notes: &mut N,
-    limit: u64,
+    clock: &mut Box<dyn Clock>,
 ) -> Ending
-    requires { limit ≤ 2 ^ 61 }
-    ensures { Finishes (usage_of (map string_bytes words.now)) (H.files host.old) limit (I.told input.old) (I.told input.new) (O.told output.old) (O.told output.new) (N.told notes.old) (N.told notes.new)
-        (Rose (H.faults host.old) (H.faults host.new)) (Rose (I.faults input.old) (I.faults input.new)) (Rose (O.faults output.old) (O.faults output.new)) (Rose (N.faults notes.old) (N.faults notes.new)) result }
+    requires { AreTaken given }
+    ensures { Finishes (given_read given.entry) (record { host = H.seen host.old; input = I.seen input.old; output = O.seen output.old; clock = answers clock.old })
+        (record { host = H.seen host.new; input = I.seen input.new; output = O.seen output.new; clock = answers clock.new }) (N.seen notes.old) (N.seen notes.new) result }
 {
-    let ending = run(alloc, words, host, input, output, limit);
+    let ending = run_words(alloc, given, host, input, output, clock);
     note(notes, ending);
     ending
 }
 
 /// Loads the file that the words name, serves the requests of the input, and says with which status the run ends.
 ///
-/// The words are those behind the program's name: none, or `--load` and a name. Anything else is status 1. The file is of
-/// the RDB format, version 11, and has at most 2^40 bytes: 6 where the host failed or has no file of the name, 7 where the
-/// format excludes the file, 9 where it has more bytes. Then nothing is served.
-/// Serving ends with 0 where the input ended after a whole request, 2 where it breaks a rule of RESP2, 3 where it ended
-/// inside a request, 4 where the input failed, 5 where the output failed, 9 where 2^40 bytes were taken.
-/// 8 is want of memory. Each status but 0 and 2 has its line in the notes.
+/// The words are those behind the program's name: none, or `--load` and a name. Anything else is status 1. The clock, in
+/// milliseconds, is read once before all else, and once for each request. The file is of the RDB format, version 9 to 11,
+/// and has at most 2^40 bytes: 6 where the host failed or has no file of the name, 7 where the format excludes the file, 9
+/// where it has more bytes. Then nothing is served.
+/// Serving ends with 0 where the input ended after a whole request or a request ended the run, 2 where it breaks a rule of
+/// RESP2, whose line stands behind the replies, 3 where it ended inside a request, 4 where the input failed, 5 where the
+/// output failed, 9 where 2^40 bytes were taken.
+/// 8 is want of memory. Each status but 0 has its line in the notes.
 #[tactic(none)]
 pub fn redis_core<H: Host, I: Source, O: Sink, N: Sink>(
     alloc: Global,
@@ -71,15 +108,20 @@ pub fn redis_core<H: Host, I: Source, O: Sink, N: Sink>(
     input: &mut I,
     output: &mut O,
     notes: &mut N,
+    clock: &mut Box<dyn Clock>,
 ) -> u8
-    ensures headline { Concludes (usage_of (map string_bytes words.now)) (H.files host.old) (2 ^ 40) (I.told input.old) (I.told input.new) (O.told output.old) (O.told output.new) (N.told notes.old) (N.told notes.new)
-        (Rose (H.faults host.old) (H.faults host.new)) (Rose (I.faults input.old) (I.faults input.new)) (Rose (O.faults output.old) (O.faults output.new)) (Rose (N.faults notes.old) (N.faults notes.new)) result }
-    ensures causes { Causes (Rose (H.faults host.old) (H.faults host.new)) (Rose (I.faults input.old) (I.faults input.new)) (Rose (O.faults output.old) (O.faults output.new)) result }
-    ensures exact { Exactly (usage_of (map string_bytes words.now)) (H.files host.old) (2 ^ 40) (I.told input.old) (I.told input.new) (N.told notes.old) (N.told notes.new)
-        (Rose (H.faults host.old) (H.faults host.new)) (Rose (I.faults input.old) (I.faults input.new)) (Rose (O.faults output.old) (O.faults output.new)) (Rose (N.faults notes.old) (N.faults notes.new)) result }
-    ensures complete { Completes (usage_of (map string_bytes words.now)) (H.files host.old) (2 ^ 40) (I.told input.old) (I.told input.new)
-        (Rose (H.faults host.old) (H.faults host.new)) (Rose (I.faults input.old) (I.faults input.new)) (Rose (O.faults output.old) (O.faults output.new)) result }
-    ensures notes { NotesStatus (N.told notes.old) (N.told notes.new) (Rose (N.faults notes.old) (N.faults notes.new)) result }
+    ensures headline { Concludes (given_by (map string_bytes words.now)) (record { host = H.seen host.old; input = I.seen input.old; output = O.seen output.old; clock = answers clock.old })
+        (record { host = H.seen host.new; input = I.seen input.new; output = O.seen output.new; clock = answers clock.new }) (N.seen notes.old) (N.seen notes.new) result }
+    ensures stepped { StepsStatus (given_by (map string_bytes words.now)) (record { host = H.seen host.old; input = I.seen input.old; output = O.seen output.old; clock = answers clock.old })
+        (record { host = H.seen host.new; input = I.seen input.new; output = O.seen output.new; clock = answers clock.new }) result }
+    ensures counts { CountsFaults (given_by (map string_bytes words.now)) (record { host = H.seen host.old; input = I.seen input.old; output = O.seen output.old; clock = answers clock.old })
+        (record { host = H.seen host.new; input = I.seen input.new; output = O.seen output.new; clock = answers clock.new }) result }
+    ensures exact { Exactly (given_by (map string_bytes words.now)) (record { host = H.seen host.old; input = I.seen input.old; output = O.seen output.old; clock = answers clock.old })
+        (record { host = H.seen host.new; input = I.seen input.new; output = O.seen output.new; clock = answers clock.new }) (N.seen notes.old) (N.seen notes.new) result }
+    ensures complete { Completes (given_by (map string_bytes words.now)) (record { host = H.seen host.old; input = I.seen input.old; output = O.seen output.old; clock = answers clock.old })
+        (record { host = H.seen host.new; input = I.seen input.new; output = O.seen output.new; clock = answers clock.new }) result }
+    ensures notes { NotesStatus (N.seen notes.old) (N.seen notes.new) result }
 {
-    redis_core_up_to(alloc, words, host, input, output, notes, LIMIT).status()
+    let given = read_words(words);
+    run_given(alloc, given, host, input, output, notes, clock).status()
 }

@@ -1,21 +1,36 @@
-use Rattle.std.proofs.Common.{◌^◌, lit≤}
-use Rattle.redis_core_cli.proofs.Whole.{concludes_as, causes_as, exactly_as, completes_as, notes_as}
+use Rattle.redis_core_cli.proofs.Worlds.{run_of_seen, finishes_as}
+use Rattle.redis_core_cli.proofs.Whole.{concludes_as, counts_as, exactly_as, completes_as, notes_as}
 use Rattle.redis_core_cli.proofs.top_call.redis_core.Goals as goal
 
-pub redis_core_up_to-requires : goal.redis_core_up_to-requires
-redis_core_up_to-requires g c = lit≤ tt
+pub run_given-requires : goal.run_given-requires
+run_given-requires g c = c.read_words-given.ensures.taken
 
 pub returns-clause-headline : goal.returns-clause-headline
-returns-clause-headline g c = concludes_as _ _ (2 ^ 40) _ _ _ _ _ _ _ _ _ _ c.redis_core_up_to.result c.redis_core_up_to.ensures _ c.status.ensures
+returns-clause-headline g c =
+    let f = finishes_as _ _ _ _ _ _ c.run_given.result c.read_words-given.ensures.options c.run_given.ensures in
+    concludes_as _ _ _ _ c.run_given.result f.line _ (run_of_seen _ _ _ c.run_given.result f.run) _ c.status.ensures
 
-pub returns-clause-causes : goal.returns-clause-causes
-returns-clause-causes g c = causes_as _ _ (2 ^ 40) _ _ _ _ _ _ _ _ _ _ c.redis_core_up_to.result c.redis_core_up_to.ensures _ c.status.ensures
+pub returns-clause-counts : goal.returns-clause-counts
+returns-clause-counts g c =
+    let f = finishes_as _ _ _ _ _ _ c.run_given.result c.read_words-given.ensures.options c.run_given.ensures in
+    counts_as _ _ _ _ c.run_given.result f.line _ (run_of_seen _ _ _ c.run_given.result f.run) _ c.status.ensures
 
 pub returns-clause-exact : goal.returns-clause-exact
-returns-clause-exact g c = exactly_as _ _ (2 ^ 40) _ _ _ _ _ _ _ _ _ _ c.redis_core_up_to.result c.redis_core_up_to.ensures _ c.status.ensures
+returns-clause-exact g c =
+    let f = finishes_as _ _ _ _ _ _ c.run_given.result c.read_words-given.ensures.options c.run_given.ensures in
+    exactly_as _ _ _ _ c.run_given.result f.line _ (run_of_seen _ _ _ c.run_given.result f.run) _ c.status.ensures
 
 pub returns-clause-complete : goal.returns-clause-complete
-returns-clause-complete g c = completes_as _ _ (2 ^ 40) _ _ _ _ _ _ _ _ _ _ c.redis_core_up_to.result c.redis_core_up_to.ensures _ c.status.ensures
+returns-clause-complete g c =
+    let f = finishes_as _ _ _ _ _ _ c.run_given.result c.read_words-given.ensures.options c.run_given.ensures in
+    completes_as _ _ _ _ c.run_given.result f.line _ (run_of_seen _ _ _ c.run_given.result f.run) _ c.status.ensures
 
 pub returns-clause-notes : goal.returns-clause-notes
-returns-clause-notes g c = notes_as _ _ (2 ^ 40) _ _ _ _ _ _ _ _ _ _ c.redis_core_up_to.result c.redis_core_up_to.ensures _ c.status.ensures
+returns-clause-notes g c =
+    let f = finishes_as _ _ _ _ _ _ c.run_given.result c.read_words-given.ensures.options c.run_given.ensures in
+    notes_as _ _ _ _ c.run_given.result f.line _ (run_of_seen _ _ _ c.run_given.result f.run) _ c.status.ensures
+
+pub returns-clause-stepped : goal.returns-clause-stepped
+returns-clause-stepped g c =
+    let f = finishes_as _ _ _ _ _ _ c.run_given.result c.read_words-given.ensures.options c.run_given.ensures in
+    record { ending = c.run_given.result; is = c.status.ensures; run = f.run }

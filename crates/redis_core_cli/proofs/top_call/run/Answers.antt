@@ -1,15 +1,9 @@
-use Rattle.std.proofs.Common.{refl}
-use Rattle.redis_core_cli.specs.Headline.{begun, not_begun}
+use Rattle.redis_core_cli.specs.Given.{options_read}
+use Rattle.redis_core_cli.specs.Running.{begun}
+use Rattle.redis_core_cli.proofs.Worlds.{begins_engine}
 use Rattle.redis_core_cli.proofs.top_call.run.Goals as goal
 
-pub serve_input-requires-clause-zero : goal.serve_input-requires-clause-zero
-serve_input-requires-clause-zero g c = c.in-Ok.ensures.2
-
-pub serve_input-requires-clause-limit : goal.serve_input-requires-clause-limit
-serve_input-requires-clause-limit g c = c.requires
-
 pub returns-in-Ok : goal.returns-in-Ok
-returns-in-Ok g c = begun c.in-Ok.engine c.in-Ok.ensures.0 c.in-Ok.ensures.1 c.serve_input.ensures
-
-pub returns-in-Err : goal.returns-in-Err
-returns-in-Err g c = not_begun c.in-Err.ensures refl refl
+returns-in-Ok g c =
+    let s = c.in-Ok.ensures.starts in
+    begun _ _ c.serve_input.result (begins_engine (options_read c.args.options) _ c.in-Ok.engine _ c.first_moment-moment.result c.first_moment-moment.ensures s.0 s.1 s.2) c.in-Ok.ensures.host c.serve_input.ensures c.served_to.ensures

@@ -1,0 +1,35 @@
+-- How a run goes, over any states of what serves.
+use Rattle.std.specs.Prelude.{◌≡◌, ℕ, List, Bool, false}
+use Rattle.outside.specs.Clocks.{Answers}
+use Rattle.plain_world.specs.Words.{Words}
+use Rattle.plain_world.specs.declared.reply.Part.{Part}
+use Rattle.redis_core.specs.Engines.{quits}
+use Rattle.serving.specs.Served.{Served}
+use Rattle.serving.specs.declared.ending.Ended.{Ended}
+use Rattle.redis_core_cli.specs.Given.{Options, Given, Wrong, Run, Outside}
+use Rattle.redis_core_cli.specs.Starting.{ReadsMoment, NotBegun, UsesHost, is_host}
+use Rattle.redis_core_cli.specs.Statuses.{ending_of}
+use Rattle.redis_core_cli.specs.declared.ending.Ending.{Ending}
+use Rattle.redis_core_cli.specs.declared.ending.Ending.TheVariants as endings
+
+-- a run that doesn't begin reads the clock, takes nothing and writes nothing
+pub record Fails (options : Options) (before after : Outside) (ending : Ending) : Type 0 where
+  pub moment : ℕ
+  pub read : ReadsMoment before.clock after.clock moment
+  pub why : NotBegun before.host.files options.max_input options.file moment ending
+  pub host : UsesHost options.file before.host after.host (is_host ending)
+  pub input : after.input ≡ before.input
+  pub output : after.output ≡ before.output
+
+-- From a first state some replies are allowed to requests, on the way to a last one.
+module _ {E : Type 0} (Begins : Options → Outside → E → Type 0) (Allowed : Options → E → List Words → List (List Part) → E → Type 0) (spent : E → Bool) where
+  -- it begins with a state, and replies that are allowed from there are written; or it doesn't begin
+  pub data Runs (options : Options) (before after : Outside) (ending : Ending) : Type 0 where
+    begun : (first last : E) (ended : Ended) → Begins options before first → UsesHost options.file before.host after.host false
+        → Served (Allowed options first) quits spent options.max_input before.input after.input before.output after.output last ended → ending ≡ ending_of ended → Runs options before after ending
+    not_begun : Fails options before after ending → Runs options before after ending
+
+  -- wrong words touch nothing
+  abbrev pub RunsOf : Given → Outside → Outside → Ending → Type 0
+  RunsOf Wrong before after ending = (ending ≡ endings.Usage) × (after ≡ before)
+  RunsOf (Run options) before after ending = Runs options before after ending
