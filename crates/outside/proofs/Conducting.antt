@@ -1,6 +1,5 @@
 -- A conductor goes along its pacers.
-use Rattle.std.proofs.Common.{◌≡◌, ℕ, zero, suc, ◌+◌, add-one, ◌<◌, ◌≤◌, List, [], ◌∷◌, ◌++◌, length, get_or, set, take, drop, map, true, false, refl, arith, sym, subst, ◌∙◌, ap}
-use Rattle.std.proofs.lemmas.Grind.{common_steps}
+use Rattle.std.proofs.Common.{◌≡◌, ℕ, zero, suc, ◌+◌, add-one, ◌<◌, ◌≤◌, List, [], ◌∷◌, length, get_or, set, drop, map, true, false, refl, arith, sym, subst, ◌∙◌, ap}
 use Rattle.outside.specs.declared.pacing.Plan.{Plan}
 use Rattle.outside.specs.Pacing.{PacerSeen, Paces, SaysSpent, Conducts, cut, tuned, no_plan}
 use Rattle.outside.specs.Pacing.Conducts.{Drops, Asks, HasNone}

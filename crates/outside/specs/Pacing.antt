@@ -1,5 +1,5 @@
 -- What is told of pacers and of a conductor over them.
-use Rattle.std.specs.Prelude.{◌≡◌, ℕ, ◌&&◌, Bool, true, false, List, [], ◌∷◌, Option, Some, None, ⊤, min, not}
+use Rattle.std.specs.Prelude.{◌≡◌, ℕ, Bool, true, false, List, [], ◌∷◌, Option, Some, None, ⊤, min, not}
 use Rattle.outside.specs.declared.pacing.Plan.{Plan}
 
 -- the plans that are left, and whether plans by the effort alone follow them

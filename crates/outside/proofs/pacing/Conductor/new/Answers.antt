@@ -1,4 +1,4 @@
-use Rattle.std.proofs.Common.{◌≡◌, rules, map, arith, ◌+◌, add-one, refl, length, ◌<◌, ◌∙◌}
+use Rattle.std.proofs.Common.{arith, add-one, refl, ◌∙◌}
 use Rattle.std.proofs.lemmas.Grind.{common_steps}
 use Rattle.outside.proofs.Conducting.{tuned_none, tuned_all, tuned_more}
 use Rattle.outside.proofs.pacing.Conductor.new.Goals as goal

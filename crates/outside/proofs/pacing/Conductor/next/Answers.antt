@@ -1,4 +1,4 @@
-use Rattle.std.proofs.Common.{◌≡◌, rules, map, drop, arith, ◌+◌, refl, sym, length, ◌<◌, subst}
+use Rattle.std.proofs.Common.{arith}
 use Rattle.outside.proofs.Conducting.{drops_spent, asks_next, has_none}
 use Rattle.outside.proofs.pacing.Conductor.next.Goals as goal
 

@@ -1,4 +1,4 @@
-use Rattle.std.proofs.Common.{◌≡◌, ◌-◌, ◌≤◌, length, vec_len, map, drop, List}
+use Rattle.std.proofs.Common.{◌-◌, length, map, drop, List}
 use Rattle.outside.specs.declared.pacing.Plan.{Plan}
 use Rattle.outside.specs.Pacing.{PacerSeen, Conducts}
 use Rattle.outside.proofs.pacing.Conductor.next.Given as goal

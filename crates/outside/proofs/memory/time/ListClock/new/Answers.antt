@@ -1,5 +1,4 @@
-use Rattle.std.proofs.Common.{◌≡◌, ℕ, ◌+◌, add-one, zero, suc, ◌<◌, List, [], ◌∷◌, length, get_or, take, refl, arith}
-use Rattle.std.proofs.lemmas.Grind.{common_steps}
+use Rattle.std.proofs.Common.{◌≡◌, ℕ, add-one, zero, suc, ◌<◌, List, [], ◌∷◌, length, get_or, take, refl, arith}
 use Rattle.outside.specs.Clocks.{last_or}
 use Rattle.outside.proofs.memory.time.ListClock.new.Goals as goal
 
