@@ -1,10 +1,11 @@
 -- The edits of a dictionary make its tables grow, each as an edit of the tables by key bytes.
-use Rattle.std.proofs.Common.{◌≡◌, ℕ, ◌<◌, false, ◌||◌, List, [], ◌∷◌, map, Some, refl, ap, ◌∙◌, arith}
+use Rattle.std.proofs.Common.{◌≡◌, ℕ, ◌<◌, false, ◌||◌, List, [], ◌∷◌, map, Some, IsSome, Result, Ok, Err, IfOk, OnErr, refl, ap, ◌∙◌, arith}
 use Rattle.blocks.specs.Blocks.{Blocks, bytes_at}
 use Rattle.blocks.proofs.Serve.{Served-once, Served-then, Served-same}
 use Rattle.rev_cursor.specs.Span.{times}
 use Rattle.rehash_dict.specs.Tables.{Tables, bucket, inserted, removed, shrunk}
 use Rattle.rehash_dict.specs.Table.{Element, Table, item}
+use Rattle.rehash_dict.specs.Steps.{Adds}
 use Rattle.rehash_dict.specs.Keyed.{hash_of, same_key, key_of, Lacks, Keyed, key_tables}
 use Rattle.rehash_dict.specs.Grown.{has_key, Absent, joins, leaves, shrinks, Grown}
 use Rattle.rehash_dict.proofs.Counts.{times-here}
@@ -37,6 +38,12 @@ module _ {V : Type 0} where
   -- the tables after `insert`, by its clause `tables`
   pub Grown-insert : (blocks : Blocks) (old new : Table V) (key : List ℕ) → Keyed blocks old → Lacks blocks old key → key_tables blocks new ≡ inserted (hash_of old.seed) (key_tables blocks old) key → Grown (hash_of old.seed) (key_tables blocks old) (key_tables blocks new)
   Grown-insert blocks old new key k l is = Served-once (key_tables blocks old) (key_tables blocks new) (joins key (Lacks-absent blocks old key k l) is)
+
+  -- `insert`, where it may want memory
+  pub Grown-adds : {E : Type 0} (blocks : Blocks) (old new : Table V) (e : Element V) (result : Result ℕ E) → IfOk result (λ at. Adds old new at e) → OnErr result (new ≡ old)
+      → Keyed blocks old → IsSome (blocks e.key) → e.hash ≡ hash_of old.seed (bytes_at blocks e.key) → Lacks blocks old (bytes_at blocks e.key) → Grown (hash_of old.seed) (key_tables blocks old) (key_tables blocks new)
+  Grown-adds blocks old new e (Ok at) a same k live hashed lacks = Grown-insert blocks old new (bytes_at blocks e.key) k lacks (a.keyed blocks k live hashed lacks).1
+  Grown-adds blocks old new e (Err x) a same k live hashed lacks = Served-same _ _ (ap (key_tables blocks) same)
 
 -- the tables after `remove`, by its clause `tables`
 pub Grown-remove : (hash : List ℕ → ℕ) (old new : Tables (List ℕ)) (key : List ℕ) → new ≡ removed same_key old key → Grown hash old new

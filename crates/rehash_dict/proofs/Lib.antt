@@ -15,6 +15,7 @@ pub mod Rooms
 pub mod Named
 pub mod Growing
 pub mod Keys
+pub mod MapOf
 pub mod Edited
 pub mod Masks
 pub mod BlockPlaces

@@ -5,6 +5,7 @@ pub mod Placed
 pub mod Chains
 pub mod Grown
 pub mod Keyed
+pub mod MapOf
 pub mod Sides
 pub mod Steps
 pub mod Scan

@@ -4,10 +4,13 @@ ghost use Rattle.std.specs.Prelude.{◌≡◌, ◌≢◌, ℕ, ◌+◌, ◌*◌,
 ghost use Rattle.rev_cursor.specs.Span.{times};
 ghost use Rattle.blocks.specs.declared.BlockRef.{BlockRef};
 ghost use Rattle.blocks.specs.Blocks.{Blocks, bytes_at};
-ghost use Rattle.rehash_dict.specs.Tables.{Tables, bucket, count, full_within, is_rehashing, stepped, inserted, removed, shrunk, wants_shrink, with_room, no_elements, least_power, rehashed};
+ghost use Rattle.rehash_dict.specs.Tables.{Tables, bucket, count, full_within, is_rehashing, stepped, inserted, removed, shrunk, wants_shrink, with_room, no_elements, least_power, rehashed, IsSettled};
 ghost use Rattle.rehash_dict.specs.Table.{Element, Table, item, tables, table_len, Agrees, Updates};
 ghost use Rattle.rehash_dict.specs.Placed.{IsPlaced, IsSize};
-ghost use Rattle.rehash_dict.specs.Keyed.{hash_of, same_key, Stands, Lacks, Keyed, key_tables};
+ghost use Rattle.rehash_dict.specs.Keyed.{hash_of, key_of, same_key, Stands, Lacks, Keyed, key_tables};
+ghost use Rattle.std.specs.FinMap.{empty, get, insert, remove, len};
+ghost use Rattle.rehash_dict.specs.MapOf.{content, value_found, value_taken};
+ghost use Rattle.rehash_dict.specs.Grown.{Grown};
 ghost use Rattle.rehash_dict.specs.Steps.{table_of, table_rows, Holds, Adds, Swaps, Renames, Removes, Takes, IsSpot, IsOther};
 ghost use Rattle.rehash_dict.specs.Sides.{IsBehind};
 
@@ -75,6 +78,7 @@ impl<V> Dict<V> {
         ensures seed { result.seed ≡ seed }
         ensures top { result.top ≡ 0 }
         ensures keyed { (blocks : Blocks) → Keyed blocks result }
+        ensures map { (blocks : Blocks) → content blocks result ≡ empty }
     {
         Dict {
             alloc,
@@ -89,6 +93,7 @@ impl<V> Dict<V> {
     pub fn len(&self) -> usize
         ensures value { result ≡ table_len self.now }
         ensures placed { IsPlaced self.now }
+        ensures map { (blocks : Blocks) → Keyed blocks self.now → result ≡ len (content blocks self.now) }
     {
         self.chains.len()
     }
@@ -112,6 +117,7 @@ impl<V> Dict<V> {
         requires { Keyed (B.blocks store.now) self.now }
         ensures found { IfSome result (λ at. Stands (B.blocks store.now) self.now at key.now) }
         ensures none { IfNone result (Lacks (B.blocks store.now) self.now key.now) }
+        ensures map { get (content (B.blocks store.now) self.now) key.now ≡ value_found self.now result }
     {
         self.find_hashed(store, self.hash(key), key)
     }
@@ -122,6 +128,7 @@ impl<V> Dict<V> {
         requires hashed { hash ≡ hash_of self.now.seed key.now }
         ensures found { IfSome result (λ at. Stands (B.blocks store.now) self.now at key.now) }
         ensures none { IfNone result (Lacks (B.blocks store.now) self.now key.now) }
+        ensures map { get (content (B.blocks store.now) self.now) key.now ≡ value_found self.now result }
     {
         match self.search(Side::Older, store, hash, key) {
             Some(spot) => Some(spot.at),
@@ -168,6 +175,8 @@ impl<V> Dict<V> {
         ensures swaps { Swaps self.old self.new at result value }
         ensures keyed { (blocks : Blocks) → Keyed blocks self.old → Keyed blocks self.new }
         ensures tables { (blocks : Blocks) → key_tables blocks self.new ≡ key_tables blocks self.old }
+        ensures map { (blocks : Blocks) → Keyed blocks self.old → content blocks self.new ≡ insert (content blocks self.old) (key_of blocks (item self.old at)) value }
+        ensures had { (blocks : Blocks) → Keyed blocks self.old → get (content blocks self.old) (key_of blocks (item self.old at)) ≡ Some result }
     {
         self.chains.swap_value(at, value)
     }
@@ -199,6 +208,8 @@ impl<V> Dict<V> {
         ensures tables { OnOk result (key_tables (B.blocks store.now) self.new ≡ inserted (hash_of self.old.seed) (key_tables (B.blocks store.now) self.old) (bytes_at (B.blocks store.now) key)) }
         ensures value_returned { IfErr result (λ failed. failed.0 ≡ value) }
         ensures err { OnErr result (self.new ≡ self.old) }
+        ensures map { OnOk result (content (B.blocks store.now) self.new ≡ insert (content (B.blocks store.now) self.old) (bytes_at (B.blocks store.now) key) value) }
+        ensures grown { Grown (hash_of self.old.seed) (key_tables (B.blocks store.now) self.old) (key_tables (B.blocks store.now) self.new) }
     {
         let hash = self.hash(store.bytes(key));
         self.insert_hashed(hash, key, value)
@@ -214,6 +225,7 @@ impl<V> Dict<V> {
         ensures added { IfOk result (λ at. Adds self.old self.new at (record { key = key; hash = hash; value = value })) }
         ensures value_returned { IfErr result (λ failed. failed.0 ≡ value) }
         ensures err { OnErr result (self.new ≡ self.old) }
+        ensures grown { (blocks : Blocks) → Keyed blocks self.old → IsSome (blocks key) → hash ≡ hash_of self.old.seed (bytes_at blocks key) → Lacks blocks self.old (bytes_at blocks key) → Grown (hash_of self.old.seed) (key_tables blocks self.old) (key_tables blocks self.new) }
     {
         if let Err(error) = make_room(&mut self.chains, self.alloc, self.position) {
             return Err((value, error));
@@ -232,6 +244,9 @@ impl<V> Dict<V> {
         ensures keyed { Keyed (B.blocks store.now) self.new }
         ensures tables { IfSome result (λ _. key_tables (B.blocks store.now) self.new ≡ removed same_key (key_tables (B.blocks store.now) self.old) key.now) }
         ensures none { IfNone result ((self.new ≡ self.old) × Lacks (B.blocks store.now) self.old key.now) }
+        ensures map { content (B.blocks store.now) self.new ≡ remove (content (B.blocks store.now) self.old) key.now }
+        ensures had { get (content (B.blocks store.now) self.old) key.now ≡ value_taken result }
+        ensures grown { Grown (hash_of self.old.seed) (key_tables (B.blocks store.now) self.old) (key_tables (B.blocks store.now) self.new) }
     {
         let hash = self.hash(key);
         if let Some(spot) = self.search(Side::Older, store, hash, key) {
@@ -252,6 +267,7 @@ impl<V> Dict<V> {
         ensures seed { self.new.seed ≡ self.old.seed }
         ensures top { self.new.top ≡ self.old.top }
         ensures tables { (blocks : Blocks) → Keyed blocks self.old → key_tables blocks self.new ≡ rehashed (hash_of self.old.seed) (key_tables blocks self.old) 1 }
+        ensures map { (blocks : Blocks) → content blocks self.new ≡ content blocks self.old }
     {
         if self.chains.buckets(Side::Newer) == 0 {
             return false;
@@ -270,6 +286,9 @@ impl<V> Dict<V> {
         ensures top { self.new.top ≡ self.old.top }
         ensures tables { (blocks : Blocks) → OnOk result (key_tables blocks self.new ≡ shrunk (key_tables blocks self.old)) }
         ensures err { OnErr result (self.new ≡ self.old) }
+        ensures map { (blocks : Blocks) → content blocks self.new ≡ content blocks self.old }
+        ensures grown { (blocks : Blocks) → Grown (hash_of self.old.seed) (key_tables blocks self.old) (key_tables blocks self.new) }
+        ensures settled { OnOk result (IsSettled (tables self.new)) }
     {
         let buckets = self.chains.buckets(Side::Older);
         let len = self.chains.len();

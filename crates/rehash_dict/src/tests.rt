@@ -5,6 +5,7 @@ use blocks::{BlockStore, PlainStore, put_block};
 use rand_core::Rng;
 use rand_pcg::Pcg32;
 use rev_cursor::BucketScan;
+use scan_cursor::page;
 use std::alloc::Global;
 use std::collections::BTreeMap;
 use std::marker::Model;
@@ -160,6 +161,27 @@ fn moves_give_the_buckets_of_both_tables(rt: HostRuntime) -> Result<(), Fail> {
     Ok(())
 }
 
+// A dictionary of the keys `k0`, `k1` and on.
+fn of_names(rt: &impl Abort, alloc: Global, count: u64) -> Result<Held, Memory> {
+    let mut held = Held::new(alloc);
+    for n in 0..count {
+        let name = format!(in alloc; "k{n}")?;
+        assert_eq!(rt; held.put(name.as_bytes(), n)?, None);
+    }
+    Ok(held)
+}
+
+// How many of so many rehash steps found a rehash going on.
+fn steps(held: &mut Held, count: u32) -> u32 {
+    let mut made = 0u32;
+    for _ in 0..count {
+        if held.rehash_step() {
+            made = made.saturating_add(1);
+        }
+    }
+    made
+}
+
 #[test]
 fn a_fifth_element_begins_a_rehash(rt: HostRuntime) -> Result<(), Fail> {
     let mut dict = of_hashes(rt.alloc(), &[0, 1, 2, 3])?;
@@ -170,21 +192,105 @@ fn a_fifth_element_begins_a_rehash(rt: HostRuntime) -> Result<(), Fail> {
     }
     assert_eq!(rt; dict.len(), 5);
     assert_eq!(rt; dict.top(), 5);
+    let mut held = of_names(&rt, rt.alloc(), 5)?;
+    assert!(rt; steps(&mut held, 4) <= 3);
+    assert_eq!(rt; steps(&mut held, 4), 0);
+    assert_eq!(rt; held.dict.len(), 5);
     Ok(())
 }
 
 #[test]
 fn the_first_element_above_1024_begins_a_rehash(rt: HostRuntime) -> Result<(), Fail> {
-    let mut held = Held::new(rt.alloc());
-    for n in 0..1024u64 {
-        assert_eq!(rt; held.put(&n.to_le_bytes(), n)?, None);
-    }
-    assert!(rt; !held.rehash_step());
-    assert_eq!(rt; held.put(&1024u64.to_le_bytes(), 1024)?, None);
-    for _ in 0..10 {
-        assert!(rt; held.rehash_step());
-    }
+    let mut held = of_names(&rt, rt.alloc(), 1024)?;
+    assert_eq!(rt; steps(&mut held, 1), 0);
+    assert_eq!(rt; held.put(b"k1024", 1024)?, None);
+    assert_eq!(rt; steps(&mut held, 10), 10);
     assert_eq!(rt; held.dict.len(), 1025);
+    Ok(())
+}
+
+// Pages from a cursor on: how many elements are asked for, which are met, and where the next page begins.
+type Row<'a> = (u64, u64, &'a [usize], u64);
+
+fn pages_give(
+    rt: &impl Abort,
+    alloc: Global,
+    dict: &Dict<u64>,
+    rows: &[Row<'_>],
+) -> Result<(), Memory> {
+    for (cursor, count, items, next) in rows {
+        if *count > 0 {
+            let given = page(alloc, dict, *cursor, *count)?;
+            assert_eq!(rt; given.items.as_slice(), *items);
+            assert_eq!(rt; given.next, *next);
+        }
+    }
+    Ok(())
+}
+
+#[test]
+fn pages_are_the_moves_of_the_tables(rt: HostRuntime) -> Result<(), Fail> {
+    let empty = Dict::<u64>::new(rt.alloc(), 7);
+    pages_give(&rt, rt.alloc(), &empty, &[(0, 1, &[], 0), (5, 9, &[], 0)])?;
+    let one = of_hashes(rt.alloc(), &[0, 2, 6, 3])?;
+    let rows: [Row<'_>; 5] = [
+        (0, 1, &[0], 2),
+        (0, 2, &[0, 2, 1], 1),
+        (2, 1, &[2, 1], 1),
+        (1, 1, &[3], 0),
+        (0, 100, &[0, 2, 1, 3], 0),
+    ];
+    pages_give(&rt, rt.alloc(), &one, &rows)?;
+    let two = of_hashes(rt.alloc(), &[0, 2, 3, 6, 10])?;
+    let rows: [Row<'_>; 4] = [
+        (0, 1, &[0], 2),
+        (0, 2, &[0, 3, 1, 4], 1),
+        (1, 1, &[2], 0),
+        (0, 100, &[0, 3, 1, 4, 2], 0),
+    ];
+    pages_give(&rt, rt.alloc(), &two, &rows)?;
+    // 64 buckets, of which the last alone has elements: ten moves for each element asked for
+    let mut sparse = of_hashes(rt.alloc(), &[63; 33])?;
+    for _ in 0..4 {
+        sparse.rehash_step();
+    }
+    let given = page(rt.alloc(), &sparse, 0, 1)?;
+    assert_eq!(rt; given.items.len(), 0);
+    assert_eq!(rt; given.next, 20);
+    let given = page(rt.alloc(), &sparse, 0, 7)?;
+    assert_eq!(rt; given.items.len(), 33);
+    assert_eq!(rt; given.next, 0);
+    Ok(())
+}
+
+// Where memory is refused a call leaves all, and goes through when it is asked again.
+#[test]
+fn a_refusal_leaves_all(rt: HostRuntime) -> Result<(), Fail> {
+    let mut held = Held::new(rt.alloc());
+    for n in 0..40u64 {
+        let key = n.to_le_bytes();
+        if held.put(&key, n).is_err() {
+            assert_eq!(rt; held.find(&key), None);
+            assert_eq!(rt; held.dict.len() as u64, n);
+            assert_eq!(rt; held.put(&key, n)?, None);
+        }
+        assert_eq!(rt; held.dict.len() as u64, n + 1);
+    }
+    let given = match page(rt.alloc(), &held.dict, 0, 1000) {
+        Ok(given) => given,
+        Err(_) => page(rt.alloc(), &held.dict, 0, 1000)?,
+    };
+    assert_eq!(rt; given.items.len(), 40);
+    steps(&mut held, 64);
+    for n in 2..40u64 {
+        assert_eq!(rt; held.remove(&n.to_le_bytes()), Some(n));
+    }
+    let began = match held.shrink() {
+        Ok(began) => began,
+        Err(_) => held.shrink()?,
+    };
+    assert!(rt; began);
+    assert_eq!(rt; held.dict.len(), 2);
     Ok(())
 }
 
