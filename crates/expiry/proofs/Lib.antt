@@ -1,0 +1,3 @@
+pub mod Gathering
+pub mod Finding
+pub mod Setting

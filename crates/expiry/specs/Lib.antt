@@ -1,0 +1,3 @@
+pub mod Timed
+pub mod Found
+pub mod Changes
