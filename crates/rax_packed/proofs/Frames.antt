@@ -49,7 +49,7 @@ below_from levels b after each (l ∷ links) h =
     }
 
 -- the same node over the same trees
-in_node : (levels : ℕ) (b after : Blocks) (node : Node) → ((to : BlockRef) → ((r : BlockRef) → IsIn r (refs levels b to) → after r ≡ b r) → SameTree levels b after to)
+pub in_node : (levels : ℕ) (b after : Blocks) (node : Node) → ((to : BlockRef) → ((r : BlockRef) → IsIn r (refs levels b to) → after r ≡ b r) → SameTree levels b after to)
     → ((r : BlockRef) → IsIn r (refs_in (refs levels b) node) → after r ≡ b r)
     → (entries_in (entries levels after) node ≡ entries_in (entries levels b) node) × (refs_in (refs levels after) node ≡ refs_in (refs levels b) node) × (marks_in (marks levels after) node ≡ marks_in (marks levels b) node) × ((rest : ℕ) → Below (λ left to. IsTree levels left b to) rest node → Below (λ left to. IsTree levels left after to) rest node)
 in_node levels b after (Leaf prefix value) each h = (refl, refl, refl, λ rest t. t)
@@ -142,6 +142,17 @@ module _ (levels : ℕ) (b : Blocks) (at : BlockRef) where
   pub leaf_refs : (prefix : List ℕ) (value : BlockRef) → node_at b at ≡ Leaf prefix value → refs (suc levels) b at ≡ at ∷ []
   unfolding refs
   leaf_refs prefix value is = ap (λ n. at ∷ refs_in (refs levels b) n) is
+
+-- the marks of a node
+pub inner_marks : (levels : ℕ) (b : Blocks) (at : BlockRef) (prefix : List ℕ) (links : List Link) → node_at b at ≡ Inner prefix links → marks (suc levels) b at ≡ (record { least = first_key (entries (suc levels) b at); at = at }) ∷ marks_below prefix (marks levels b) links
+unfolding marks
+inner_marks levels b at prefix links is = ap (λ n. (record { least = first_key (entries (suc levels) b at); at = at }) ∷ marks_in (marks levels b) n) is
+
+pub leaf_marks : (levels : ℕ) (b : Blocks) (at : BlockRef) (prefix : List ℕ) (value : BlockRef) → node_at b at ≡ Leaf prefix value → marks (suc levels) b at ≡ (record { least = prefix; at = at }) ∷ []
+unfolding marks
+leaf_marks levels b at prefix value is =
+    ap (λ n. (record { least = first_key (entries (suc levels) b at); at = at }) ∷ marks_in (marks levels b) n) is
+    ∙ ap (λ es. (record { least = first_key es; at = at }) ∷ []) (leaf_entries levels b at prefix value is)
 
 -- More levels than a tree has change nothing.
 pub record SameLevels (m k rest : ℕ) (b : Blocks) (at : BlockRef) : Type 0 where

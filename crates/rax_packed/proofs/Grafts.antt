@@ -9,9 +9,9 @@ use Rattle.blocks.proofs.Times.{times-append}
 use Rattle.blocks.proofs.Refs.{ref_eq-refl, cases_ref}
 use Rattle.blocks.proofs.Change.{one, live-once, live-Some, other_than, Counts, Counts-then, Counts-beside, Counts-changed, Changes-counted, Changes-owned, Owned-others}
 use Rattle.rax_packed.specs.Nodes.{Link, Inner, HoldsNode, IsInner}
-use Rattle.rax_packed.specs.Trees.{Entry, under, entries, refs, IsTree}
+use Rattle.rax_packed.specs.Trees.{Entry, Mark, under, mark_under, entries, refs, marks, first_key, IsTree}
 use Rattle.rax_packed.proofs.Entries.{below_links, all-front, all-back, all-append}
-use Rattle.rax_packed.proofs.Frames.{refs_below, SameBelow, same_below, InnerAt, inner_node, inner_tree, inner_entries, inner_refs}
+use Rattle.rax_packed.proofs.Frames.{refs_below, marks_below, inner_marks, SameBelow, same_below, InnerAt, inner_node, inner_tree, inner_entries, inner_refs}
 
 -- all that an inner node owns, by its links
 unfoldable pub owned_by : BlockRef → List BlockRef → List BlockRef → List BlockRef → List BlockRef
@@ -30,6 +30,11 @@ three_entries prefix n b before middle after =
     let f : Link → List Entry = λ l. map (under (prefix ++ l.edge ∷ [])) (entries n b l.to) in
     flat_map-append f before (middle ++ after) ∙ ap (λ xs. below_links prefix (entries n b) before ++ xs) (flat_map-append f middle after)
 
+pub three_marks : (prefix : List ℕ) (n : ℕ) (b : Blocks) (before middle after : List Link) → marks_below prefix (marks n b) (before ++ (middle ++ after)) ≡ marks_below prefix (marks n b) before ++ (marks_below prefix (marks n b) middle ++ marks_below prefix (marks n b) after)
+three_marks prefix n b before middle after =
+    let f : Link → List Mark = λ l. map (mark_under (prefix ++ l.edge ∷ [])) (marks n b l.to) in
+    flat_map-append f before (middle ++ after) ∙ ap (λ xs. marks_below prefix (marks n b) before ++ xs) (flat_map-append f middle after)
+
 -- What a node's links name has changed from one list of links to another, and the node's block tells them now.
 pub record IsGraft (n rest : ℕ) (b mid later : Blocks) (at : BlockRef) (prefix : List ℕ) (before old new after : List Link) : Type 0 where
   pub node : InnerAt n rest b at prefix (before ++ (old ++ after))
@@ -46,6 +51,7 @@ pub record Grafted (n rest : ℕ) (b mid later : Blocks) (at : BlockRef) (prefix
   pub tree : IsTree (suc n) rest later at
   pub entries_are : entries (suc n) later at ≡ below_links prefix (entries n b) before ++ (below_links prefix (entries n mid) new ++ below_links prefix (entries n b) after)
   pub changes : Changes b later (refs (suc n) b at) (refs (suc n) later at)
+  pub marks_are : marks (suc n) later at ≡ (record { least = first_key (entries (suc n) later at); at = at }) ∷ (marks_below prefix (marks n b) before ++ (marks_below prefix (marks n mid) new ++ marks_below prefix (marks n b) after))
 
 module _ (n rest : ℕ) (b mid later : Blocks) (at : BlockRef) (prefix : List ℕ) (before old new after : List Link) (g : IsGraft n rest b mid later at prefix before old new after) where
   all : List BlockRef
@@ -148,5 +154,11 @@ module _ (n rest : ℕ) (b mid later : Blocks) (at : BlockRef) (prefix : List �
         ∙ ap (λ xs. xs ++ (below_links prefix (entries n later) new ++ below_links prefix (entries n later) after)) (same_before.entries_are prefix)
         ∙ ap (λ xs. below_links prefix (entries n b) before ++ (xs ++ below_links prefix (entries n later) after)) (same_new.entries_are prefix)
         ∙ ap (λ xs. below_links prefix (entries n b) before ++ (below_links prefix (entries n mid) new ++ xs)) (same_after.entries_are prefix);
+    marks_are = inner_marks n later at prefix (before ++ (new ++ after)) (inner_node n rest later at prefix (before ++ (new ++ after)) now)
+        ∙ ap (λ ms. (record { least = first_key (entries (suc n) later at); at = at }) ∷ ms)
+        (three_marks prefix n later before new after
+        ∙ ap (λ xs. xs ++ (marks_below prefix (marks n later) new ++ marks_below prefix (marks n later) after)) (same_before.marks_are prefix)
+        ∙ ap (λ xs. marks_below prefix (marks n b) before ++ (xs ++ marks_below prefix (marks n later) after)) (same_new.marks_are prefix)
+        ∙ ap (λ xs. marks_below prefix (marks n b) before ++ (marks_below prefix (marks n mid) new ++ xs)) (same_after.marks_are prefix));
     changes = Changes-counted b later (refs (suc n) b at) (refs (suc n) later at) g.own (subst (λ xs. Counts b later xs (refs (suc n) later at)) (sym refs_are) (subst (Counts b later all) (sym now_refs) (Counts-then b mid later all left left first second)));
   }

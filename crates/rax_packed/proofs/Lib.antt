@@ -1,5 +1,7 @@
 pub mod Choices
+pub mod Copyings
 pub mod Cuts
+pub mod Depends
 pub mod Ends
 pub mod Entries
 pub mod Frames
@@ -9,10 +11,13 @@ pub mod Keys
 pub mod Layouts
 pub mod Links
 pub mod Looks
+pub mod Paths
 pub mod Releases
+pub mod Relocations
 pub mod Roots
 pub mod Seeks
 pub mod Spellings
 pub mod Splits
 pub mod Steps
 pub mod Turnings
+pub mod Copied

@@ -8,7 +8,7 @@ use Rattle.blocks.specs.declared.BlockRef.{BlockRef}
 use Rattle.blocks.specs.Blocks.{Blocks, times, live, Changes, Owned, with_block}
 use Rattle.blocks.proofs.Times.{times-append}
 use Rattle.blocks.proofs.Refs.{ref_eq-refl}
-use Rattle.blocks.proofs.Change.{one, live-once, cases_in, Owned-others, Changes-both, Counts-ended, Changes-counted, Counts-then, Counts-changed, Counts-beside}
+use Rattle.blocks.proofs.Change.{one, live-once, live-is, cases_in, Owned-others, Changes-both, Counts-ended, Changes-counted, Counts-then, Counts-changed, Counts-beside}
 use Rattle.rax_packed.specs.Nodes.{Link, Node, Leaf, Inner, IsNode, IsRef, refs_bytes, ref_from, prefix_from, node_of}
 use Rattle.rax_packed.proofs.Choices.{inner_told, ref_at}
 use Rattle.rax_packed.proofs.Spellings.{node_cases}
@@ -34,7 +34,7 @@ pub node_trees : (n : ℕ) (b : Blocks) (at : BlockRef) → IsTreeAt n b at → 
 unfolding IsTree
 node_trees n b at t = below_links_in n n b (node_at b at) (subst (Below (λ left to. IsTree n left b to) n) (sym (ap (λ o. node_of (unwrap_or o [])) t.1)) t.3)
 
-all_at : (P : Link → Type 0) (links : List Link) (k : ℕ) (d : Link) → k < length links → AllByRecursion P links → P (get_or links k d)
+pub all_at : (P : Link → Type 0) (links : List Link) (k : ℕ) (d : Link) → k < length links → AllByRecursion P links → P (get_or links k d)
 all_at P [] k d h a = absurd (omega arith)
 all_at P (l ∷ links) zero d h a = a.0
 all_at P (l ∷ links) (suc k) d h a = all_at P links k d (omega arith) a.1
@@ -53,64 +53,64 @@ refs_more n b links k d h =
     let f : Link → List BlockRef = λ l. refs n b l.to in
     ap (flat_map f) (take_more links k d h) ∙ flat_map-append f (take k links) (get_or links k d ∷ []) ∙ ap (λ xs. flat_map f (take k links) ++ xs) (append-nil (f (get_or links k d)))
 
-module _ (n : ℕ) (b : Blocks) (at : BlockRef) (t : IsTreeAt n b at) (own : Owned (refs_at n b at) b) where
-  links : List Link
-  links = links_in (node_at b at)
+-- what a node owns: its block, and the trees of its links
+pub node_own : (n : ℕ) (b : Blocks) (at : BlockRef) → Owned (refs_at n b at) b → Owned (at ∷ refs_below n b (links_in (node_at b at))) b
+node_own n b at own = subst (λ xs. Owned xs b) (node_refs n b at) own
 
+-- a block, and the trees of links, are given back one after the other
+module _ (n left : ℕ) (b : Blocks) (at : BlockRef) (links : List Link) (trees : AllByRecursion (λ l. IsTree n left b l.to) links) (own : Owned (at ∷ refs_below n b links) b) where
   here : one at at ≡ 1
   here = cond-true _ _ _ (ref_eq-refl at)
 
   -- after the trees of the first links
-  module _ (mid : Blocks) (k : ℕ) (d : Link) (h : k < length (links_in (node_at b at))) (gone : Changes b mid (refs_below n b (take k (links_in (node_at b at)))) []) where
+  module _ (mid : Blocks) (k : ℕ) (d : Link) (h : k < length links) (gone : Changes b mid (refs_below n b (take k links)) []) where
     to : BlockRef
-    to = (get_or (links_in (node_at b at)) k d).to
+    to = (get_or links k d).to
 
-    all : (r : BlockRef) → times r (refs_at n b at) ≡ one r at + (times r (refs_below n b (take k (links_in (node_at b at)))) + (times r (refs n b (get_or (links_in (node_at b at)) k d).to) + times r (refs_below n b (drop (k + 1) (links_in (node_at b at))))))
-    all r = ap (times r) (node_refs n b at) ∙ ap (λ m. one r at + m) (refs_split n b (links_in (node_at b at)) k d r h)
+    all : (r : BlockRef) → times r (at ∷ refs_below n b links) ≡ one r at + (times r (refs_below n b (take k links)) + (times r (refs n b (get_or links k d).to) + times r (refs_below n b (drop (k + 1) links))))
+    all r = ap (λ m. one r at + m) (refs_split n b links k d r h)
 
     pub mid_block : mid at ≡ b at
-    mid_block = Owned-others b mid (refs_below n b (take k (links_in (node_at b at)))) [] (refs_at n b at) own gone at (omega (arith, all at, here)) (omega (arith, own at, all at, live-once b at, here))
+    mid_block = Owned-others b mid (refs_below n b (take k links)) [] (at ∷ refs_below n b links) own gone at (omega (arith, here)) (omega (arith, own at, all at, live-once b at, here))
 
-    same : SameTree n b mid (get_or (links_in (node_at b at)) k d).to
-    same = same_tree n b mid (get_or (links_in (node_at b at)) k d).to (λ r is. Owned-others b mid (refs_below n b (take k (links_in (node_at b at)))) [] (refs_at n b at) own gone r (omega (arith, all r, is)) (omega (arith, own r, all r, live-once b r, is)))
+    same : SameTree n b mid (get_or links k d).to
+    same = same_tree n b mid (get_or links k d).to (λ r is. Owned-others b mid (refs_below n b (take k links)) [] (at ∷ refs_below n b links) own gone r (omega (arith, all r, is)) (omega (arith, own r, all r, live-once b r, is)))
 
-    pub mid_child : Named mid (get_or (links_in (node_at b at)) k d).to n (n - suc (length (prefix_in (node_at b at))))
-    mid_child = named mid (get_or (links_in (node_at b at)) k d).to n (n - suc (length (prefix_in (node_at b at)))) (same.tree (n - suc (length (prefix_in (node_at b at)))) (all_at (λ l. IsTree n (n - suc (length (prefix_in (node_at b at)))) b l.to) (links_in (node_at b at)) k d h (node_trees n b at t)))
+    pub mid_child : Named mid (get_or links k d).to n left
+    mid_child = named mid (get_or links k d).to n left (same.tree left (all_at (λ l. IsTree n left b l.to) links k d h trees))
 
-    mid_refs : refs_at (n - suc (length (prefix_in (node_at b at)))) mid (get_or (links_in (node_at b at)) k d).to ≡ refs n b (get_or (links_in (node_at b at)) k d).to
+    mid_refs : refs_at left mid (get_or links k d).to ≡ refs n b (get_or links k d).to
     mid_refs = mid_child.refs_are ∙ same.refs_are
 
-    first : Owned (refs_below n b (take k (links_in (node_at b at))) ++ refs n b (get_or (links_in (node_at b at)) k d).to) b
-    first r = omega (arith, own r, all r, times-append r (refs_below n b (take k (links_in (node_at b at)))) (refs n b (get_or (links_in (node_at b at)) k d).to))
+    first : Owned (refs_below n b (take k links) ++ refs n b (get_or links k d).to) b
+    first r = omega (arith, own r, all r, times-append r (refs_below n b (take k links)) (refs n b (get_or links k d).to))
 
-    pub mid_own : Owned (refs_at (n - suc (length (prefix_in (node_at b at)))) mid (get_or (links_in (node_at b at)) k d).to) mid
+    pub mid_own : Owned (refs_at left mid (get_or links k d).to) mid
     mid_own =
-        subst (λ xs. Owned xs mid) (sym mid_refs) (λ r. (let part : times r (refs n b (get_or (links_in (node_at b at)) k d).to) ≤ live b r = omega (arith, own r, all r) in
-        elim (cases_in r (refs n b (get_or (links_in (node_at b at)) k d).to)) [
+        subst (λ xs. Owned xs mid) (sym mid_refs) (λ r. (let part : times r (refs n b (get_or links k d).to) ≤ live b r = omega (arith, own r, all r) in
+        elim (cases_in r (refs n b (get_or links k d).to)) [
           | inl out ↦ omega (arith, out)
-          | inr is ↦ (let kept : mid r ≡ b r = Owned-others b mid (refs_below n b (take k (links_in (node_at b at)))) [] (refs_at n b at) own gone r (omega (arith, all r, is)) (omega (arith, own r, all r, live-once b r, is)) in
+          | inr is ↦ (let kept : mid r ≡ b r = Owned-others b mid (refs_below n b (take k links)) [] (at ∷ refs_below n b links) own gone r (omega (arith, all r, is)) (omega (arith, own r, all r, live-once b r, is)) in
               let still : live mid r ≡ live b r = ap (λ o. cond (is_some o) 1 0) kept in omega (arith, part, still))
         ]))
 
-    pub mid_next : (after : Blocks) → Changes mid after (refs_at (n - suc (length (prefix_in (node_at b at)))) mid (get_or (links_in (node_at b at)) k d).to) [] → Changes b after (refs_below n b (take (k + 1) (links_in (node_at b at)))) []
+    pub mid_next : (after : Blocks) → Changes mid after (refs_at left mid (get_or links k d).to) [] → Changes b after (refs_below n b (take (k + 1) links)) []
     mid_next after ended =
-        subst (λ xs. Changes b after xs []) (sym (refs_more n b (links_in (node_at b at)) k d h))
-        (Changes-both b mid after (refs_below n b (take k (links_in (node_at b at)))) [] (refs n b (get_or (links_in (node_at b at)) k d).to) [] first gone (subst (λ xs. Changes mid after xs []) mid_refs ended))
+        subst (λ xs. Changes b after xs []) (sym (refs_more n b links k d h))
+        (Changes-both b mid after (refs_below n b (take k links)) [] (refs n b (get_or links k d).to) [] first gone (subst (λ xs. Changes mid after xs []) mid_refs ended))
 
   -- after all of them
-  pub last_block : (mid : Blocks) → Changes b mid (refs_below n b (links_in (node_at b at))) [] → mid at ≡ b at
-  last_block mid gone =
-      let whole : times at (refs_at n b at) ≡ one at at + times at (refs_below n b (links_in (node_at b at))) = ap (times at) (node_refs n b at) in
-      Owned-others b mid (refs_below n b (links_in (node_at b at))) [] (refs_at n b at) own gone at (omega (arith, whole, here)) (omega (arith, own at, whole, live-once b at, here))
+  pub last_block : (mid : Blocks) → Changes b mid (refs_below n b links) [] → mid at ≡ b at
+  last_block mid gone = Owned-others b mid (refs_below n b links) [] (at ∷ refs_below n b links) own gone at (omega (arith, here)) (omega (arith, own at, live-once b at, here))
 
-  -- and the node itself
-  pub all_gone : (mid after : Blocks) → Changes b mid (refs_below n b (links_in (node_at b at))) [] → after ≡ with_block mid at None → Changes b after (refs_at n b at) []
+  -- and the block itself
+  pub all_gone : (mid after : Blocks) → Changes b mid (refs_below n b links) [] → after ≡ with_block mid at None → Changes b after (at ∷ refs_below n b links) []
   all_gone mid after gone back =
-      let whole : (r : BlockRef) → times r (refs_at n b at) ≡ one r at + times r (refs_below n b (links_in (node_at b at))) = λ r. ap (times r) (node_refs n b at) in
-      let part : Owned (refs_below n b (links_in (node_at b at))) b = λ r. omega (arith, own r, whole r) in
+      let part : Owned (refs_below n b links) b = λ r. omega (arith, own r) in
       let same = last_block mid gone in
-      let first = Counts-beside b mid (refs_below n b (links_in (node_at b at))) [] (refs_at n b at) (at ∷ []) (Counts-changed b mid (refs_below n b (links_in (node_at b at))) [] part gone) (λ r. one r at) (λ r. omega (arith, whole r)) (λ r. omega arith) in
-      Changes-counted b after (refs_at n b at) [] own (Counts-then b mid after (refs_at n b at) (at ∷ []) [] first (Counts-ended mid after at (at ∷ []) [] (subst (λ o. IsSome o) (sym same) (tree_live (suc n) n b at t)) back (λ r. omega arith)))
+      let stands : IsSome (b at) = live-is b at (omega (arith, own at, here)) in
+      let first = Counts-beside b mid (refs_below n b links) [] (at ∷ refs_below n b links) (at ∷ []) (Counts-changed b mid (refs_below n b links) [] part gone) (λ r. one r at) (λ r. omega arith) (λ r. omega arith) in
+      Changes-counted b after (at ∷ refs_below n b links) [] own (Counts-then b mid after (at ∷ refs_below n b links) (at ∷ []) [] first (Counts-ended mid after at (at ∷ []) [] (subst (λ o. IsSome o) (sym same) stands) back (λ r. omega arith)))
 
 -- the node that a link names
 pub child_ref : (bytes refs : List ℕ) (place : ℕ) (d : Link) → IsInnerBytes bytes → place < length (links_in (node_of bytes)) → refs ≡ refs_bytes (links_in (node_of bytes)) → ref_from (drop (12 * place) refs) ≡ (get_or (links_in (node_of bytes)) place d).to

@@ -8,11 +8,11 @@ use Rattle.blocks.specs.Blocks.{Blocks, ref_eq, times, IsOut, Changes, Owned, wi
 use Rattle.blocks.proofs.Refs.{ref_eq-refl, with_block-same, with_block-other}
 use Rattle.blocks.proofs.Change.{one, live-once, Owned-others, Counts-written, Changes-counted}
 use Rattle.rax_packed.specs.Nodes.{Link, Leaf, Inner, HoldsNode, IsRef, IsNode, node_of, ref_bytes}
-use Rattle.rax_packed.specs.Trees.{Entry, under, entries, refs, IsTree, entries_at, refs_at, IsTreeAt, Becomes}
+use Rattle.rax_packed.specs.Trees.{Entry, Mark, under, mark_under, first_key, entries, refs, marks, IsTree, entries_at, marks_at, refs_at, IsTreeAt, Becomes}
 use Rattle.rax_packed.specs.Ways.{LeadsTo, IsInnerBytes, prefix_in, links_in}
 use Rattle.rax_packed.specs.Packed.{order, with_entry, without}
 use Rattle.rax_packed.proofs.Entries.{below_links, with_entry-link, without-link}
-use Rattle.rax_packed.proofs.Frames.{SameLevels, same_levels, refs_below, LeafAt, inner_node, inner_entries, inner_refs, leaf_at, leaf_tree, leaf_entries, leaf_refs, leaf_node}
+use Rattle.rax_packed.proofs.Frames.{SameLevels, same_levels, refs_below, marks_below, LeafAt, inner_node, inner_entries, inner_refs, leaf_at, leaf_tree, leaf_entries, leaf_refs, leaf_node}
 use Rattle.rax_packed.proofs.Grafts.{three_refs, times-owned_by, owned_by, IsGraft, Grafted, grafted}
 use Rattle.rax_packed.proofs.Keys.{order-same}
 use Rattle.rax_packed.proofs.Links.{inner_relinked, revalued_bytes, relinked_bytes}
@@ -105,6 +105,11 @@ module _ (b : Blocks) (at to : BlockRef) (bytes key : List ℕ) (place from : �
         done.entries_are ∙ ap (λ xs. below_links split.prefix (entries (length key) b) split.before ++ (xs ++ below_links split.prefix (entries (length key) b) split.after))
         (append-nil (map (under (split.prefix ++ split.edge ∷ [])) (entries (length key) mid new)) ∙ ap (map (under (split.prefix ++ split.edge ∷ []))) (lifted.entries_are ∙ below.entries_are))
 
+    pub step_marks : marks_at (length key) later at ≡ (record { least = first_key (entries_at (length key) later at); at = at }) ∷ (marks_below split.prefix (marks (length key) b) split.before ++ (map (mark_under (split.prefix ++ split.edge ∷ [])) (marks_at (length (drop from key)) mid new) ++ marks_below split.prefix (marks (length key) b) split.after))
+    step_marks =
+        done.marks_are ∙ ap (λ xs. (record { least = first_key (entries_at (length key) later at); at = at }) ∷ (marks_below split.prefix (marks (length key) b) split.before ++ (xs ++ marks_below split.prefix (marks (length key) b) split.after)))
+        (append-nil (map (mark_under (split.prefix ++ split.edge ∷ [])) (marks (length key) mid new)) ∙ ap (map (mark_under (split.prefix ++ split.edge ∷ []))) lifted.marks_are)
+
   -- what the edits of the entries come to
   old_entries : entries_at (length key) b at ≡ below_links split.prefix (entries (length key) b) (split.before ++ (record { edge = split.edge; to = to }) ∷ split.after)
   old_entries =
@@ -172,30 +177,59 @@ set_leaf b after at old value bytes key t own read is fits written =
           (Changes-counted b after (at ∷ []) (at ∷ []) alone (Counts-written b after at (overwritten (bytes_at b at) (2 + length key) (ref_bytes value)) (at ∷ []) (at ∷ []) (subst (λ o. IsSome o) (sym leaf.block) refl) written (omega (arith, here)) (λ r. refl))));
     }
 
+-- the node's block after a link of a key's way was written anew
+pub record LinkWritten (mid later : Blocks) (at new : BlockRef) (prefix : List ℕ) (before after : List Link) (edge : ℕ) : Type 0 where
+  pub now : List ℕ
+  pub block : later at ≡ Some now
+  pub holds : HoldsNode now (Inner prefix (before ++ (record { edge = edge; to = new }) ∷ after))
+  pub others : (r : BlockRef) → ref_eq r at ≡ false → later r ≡ mid r
+
+module _ (b mid later : Blocks) (at to new : BlockRef) (bytes key : List ℕ) (place from : ℕ) (es : List Entry) (t : IsTreeAt (length key) b at) (read : b at ≡ Some bytes) (leads : LeadsTo (node_of bytes) key place from to) (own : Owned (refs_at (length key) b at) b)
+    (below : Becomes (length (drop from key)) b mid to new es) (ref : IsRef new)
+    (written : (offset : ℕ) → offset ≡ 4 + length (prefix_in (node_of (bytes_at mid at))) + length (links_in (node_of (bytes_at mid at))) + 12 * place → later ≡ with_block mid at (Some (overwritten (bytes_at mid at) offset (ref_bytes new)))) where
+  abbrev pub s : Split b at key place from to (length key) (length key)
+  s = split b at to bytes key place from t read leads
+
+  link_written : LinkWritten mid later at new s.prefix s.before s.after s.edge
+  link_written =
+      let links = s.before ++ (record { edge = s.edge; to = to }) ∷ s.after in
+      let same : mid at ≡ b at = kept_block b at to bytes key place from t read leads mid (refs_at (length (drop from key)) mid new) own below.changes in
+      let stood : bytes_at mid at ≡ s.node.bytes = ap (λ o. unwrap_or o []) (same ∙ s.node.block) in
+      let node : node_of (bytes_at mid at) ≡ Inner s.prefix links = ap node_of stood ∙ node_told (length key) s.node.bytes (Inner s.prefix links) s.node.holds s.node.inner in
+      let offset = 4 + length s.prefix + length links + 12 * length s.before in
+      let at_offset : offset ≡ 4 + length (prefix_in (node_of (bytes_at mid at))) + length (links_in (node_of (bytes_at mid at))) + 12 * place =
+      ap (λ n. 4 + length (prefix_in n) + length (links_in n) + 12 * length s.before) (sym node) ∙ ap (λ m. 4 + length (prefix_in (node_of (bytes_at mid at))) + length (links_in (node_of (bytes_at mid at))) + 12 * m) s.many in
+      let is = written offset at_offset in
+      record {
+        now = overwritten s.node.bytes offset (ref_bytes new);
+        block = ap (λ m. m at) is ∙ with_block-same mid at (Some (overwritten (bytes_at mid at) offset (ref_bytes new))) ∙ ap (λ xs. Some (overwritten xs offset (ref_bytes new))) stood;
+        holds = relinked_bytes s.node.bytes s.prefix s.before s.after s.edge offset to new s.node.holds refl;
+        others = λ r other. ap (λ m. m r) is ∙ with_block-other mid at r (Some (overwritten (bytes_at mid at) offset (ref_bytes new))) other;
+      }
+
+  pub link_tree : IsTreeAt (length key) later at
+  link_tree = step_tree b at to bytes key place from t read leads mid later new es own below link_written.now link_written.block link_written.holds ref link_written.others
+
+  pub link_entries : entries_at (length key) later at ≡ below_links s.prefix (entries (length key) b) s.before ++ (map (under (s.prefix ++ s.edge ∷ [])) es ++ below_links s.prefix (entries (length key) b) s.after)
+  link_entries = step_entries b at to bytes key place from t read leads mid later new es own below link_written.now link_written.block link_written.holds ref link_written.others
+
+  pub link_changes : Changes b later (refs_at (length key) b at) (refs_at (length key) later at)
+  link_changes = step_changes b at to bytes key place from t read leads mid later new es own below link_written.now link_written.block link_written.holds ref link_written.others
+
+  pub link_marks : marks_at (length key) later at ≡ (record { least = first_key (entries_at (length key) later at); at = at }) ∷ (marks_below s.prefix (marks (length key) b) s.before ++ (map (mark_under (s.prefix ++ s.edge ∷ [])) (marks_at (length (drop from key)) mid new) ++ marks_below s.prefix (marks (length key) b) s.after))
+  link_marks = step_marks b at to bytes key place from t read leads mid later new es own below link_written.now link_written.block link_written.holds ref link_written.others
+
 -- a link of a key's way is written anew
 pub add_link : (b mid later : Blocks) (at to new : BlockRef) (bytes key : List ℕ) (place from : ℕ) (value : BlockRef) (t : IsTreeAt (length key) b at) (read : b at ≡ Some bytes) (leads : LeadsTo (node_of bytes) key place from to) → Owned (refs_at (length key) b at) b
     → Becomes (length (drop from key)) b mid to new (with_entry (entries_at (length (drop from key)) b to) (drop from key) value) → IsRef new
     → ((offset : ℕ) → offset ≡ 4 + length (prefix_in (node_of (bytes_at mid at))) + length (links_in (node_of (bytes_at mid at))) + 12 * place → later ≡ with_block mid at (Some (overwritten (bytes_at mid at) offset (ref_bytes new))))
     → Becomes (length key) b later at at (with_entry (entries_at (length key) b at) key value)
 add_link b mid later at to new bytes key place from value t read leads own below ref written =
-    let s = split b at to bytes key place from t read leads in
     let es = with_entry (entries_at (length (drop from key)) b to) (drop from key) value in
-    let links = s.before ++ (record { edge = s.edge; to = to }) ∷ s.after in
-    let same : mid at ≡ b at = kept_block b at to bytes key place from t read leads mid (refs_at (length (drop from key)) mid new) own below.changes in
-    let stood : bytes_at mid at ≡ s.node.bytes = ap (λ o. unwrap_or o []) (same ∙ s.node.block) in
-    let node : node_of (bytes_at mid at) ≡ Inner s.prefix links = ap node_of stood ∙ node_told (length key) s.node.bytes (Inner s.prefix links) s.node.holds s.node.inner in
-    let offset = 4 + length s.prefix + length links + 12 * length s.before in
-    let at_offset : offset ≡ 4 + length (prefix_in (node_of (bytes_at mid at))) + length (links_in (node_of (bytes_at mid at))) + 12 * place =
-    ap (λ n. 4 + length (prefix_in n) + length (links_in n) + 12 * length s.before) (sym node) ∙ ap (λ m. 4 + length (prefix_in (node_of (bytes_at mid at))) + length (links_in (node_of (bytes_at mid at))) + 12 * m) s.many in
-    let is = written offset at_offset in
-    let now = overwritten s.node.bytes offset (ref_bytes new) in
-    let block : later at ≡ Some now = ap (λ m. m at) is ∙ with_block-same mid at (Some (overwritten (bytes_at mid at) offset (ref_bytes new))) ∙ ap (λ xs. Some (overwritten xs offset (ref_bytes new))) stood in
-    let holds : HoldsNode now (Inner s.prefix (s.before ++ (record { edge = s.edge; to = new }) ∷ s.after)) = relinked_bytes s.node.bytes s.prefix s.before s.after s.edge offset to new s.node.holds refl in
-    let others : (r : BlockRef) → ref_eq r at ≡ false → later r ≡ mid r = λ r other. ap (λ m. m r) is ∙ with_block-other mid at r (Some (overwritten (bytes_at mid at) offset (ref_bytes new))) other in
     record {
-      tree = step_tree b at to bytes key place from t read leads mid later new es own below now block holds ref others;
-      entries_are = step_entries b at to bytes key place from t read leads mid later new es own below now block holds ref others ∙ sym (step_with b at to bytes key place from t read leads value);
-      changes = step_changes b at to bytes key place from t read leads mid later new es own below now block holds ref others;
+      tree = link_tree b mid later at to new bytes key place from es t read leads own below ref written;
+      entries_are = link_entries b mid later at to new bytes key place from es t read leads own below ref written ∙ sym (step_with b at to bytes key place from t read leads value);
+      changes = link_changes b mid later at to new bytes key place from es t read leads own below ref written;
     }
 
 -- what code asks of a link that it writes

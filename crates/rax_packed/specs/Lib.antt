@@ -1,6 +1,9 @@
+pub mod Copies
+pub mod Laws
 pub mod Maps
 pub mod Nodes
 pub mod Packed
+pub mod Paths
 pub mod Trees
 pub mod Turns
 pub mod Ways

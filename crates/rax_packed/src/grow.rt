@@ -49,6 +49,7 @@ pub(crate) fn relink<B: BlockStore>(store: &mut B, at: BlockRef, place: usize, t
     ensures written { (offset : ℕ) → offset ≡ 4 + length (prefix_in (node_of (bytes_at (B.blocks store.old) at))) + length (links_in (node_of (bytes_at (B.blocks store.old) at))) + 12 * place
         → B.blocks store.new ≡ with_block (B.blocks store.old) at (Some (overwritten (bytes_at (B.blocks store.old) at) offset (ref_bytes to))) }
     ensures fits { IsRef to }
+    ensures slabs { B.heap store.new ≡ B.heap store.old }
     ensures served { Served B.step store.old store.new }
 {
     let offset = link_offset(store.bytes(at), place);

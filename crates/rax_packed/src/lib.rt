@@ -2,15 +2,21 @@
 #![tactic(auto)]
 
 mod build;
+mod copy;
 mod cut;
 mod edit;
 mod grow;
+mod laws;
 mod look;
 mod node;
+mod path;
 mod release;
+mod relocate;
 mod seek;
 mod tree;
 
+pub use laws::packed_laws;
+pub use path::PathNodes;
 pub use tree::PackedTree;
 
 /// Want of memory.

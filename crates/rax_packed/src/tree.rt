@@ -1,15 +1,19 @@
 //! The map.
 
-ghost use Rattle.std.specs.Prelude.{◌≡◌, Some, None, [], true, false, IfOk, OnOk, OnErr, IfSome, IfNone, OnSome};
+ghost use Rattle.std.specs.Prelude.{◌≡◌, ◌≤◌, Some, None, [], true, false, IfOk, OnOk, OnErr, IfSome, IfNone, OnSome, IsSome, length};
 ghost use Rattle.blocks.specs.Blocks.{Blocks, Changes, Served};
+ghost use Rattle.blocks.specs.Slabs.{Calmer};
 
 use crate::Memory;
 use crate::build::leaf_bytes;
+use crate::copy::copy_below;
 use crate::cut::cut_below;
 use crate::edit::set_below;
 use crate::grow::add_below;
 use crate::look::find_below;
+use crate::path::{PathNodes, nodes_below};
 use crate::release::release_below;
+use crate::relocate::relocate_below;
 use crate::seek::seek_below;
 use blocks::{BlockRef, BlockStore, put_block};
 
@@ -23,7 +27,8 @@ pub struct PackedTree {
 impl PackedTree {
     ghost use Rattle.std.specs.Option.{option_map};
     ghost use Rattle.rax_packed.specs.Packed.{value_at, with_entry, without, nearest};
-    ghost use Rattle.rax_packed.specs.Maps.{entries_of, refs_of, IsSound};
+    ghost use Rattle.rax_packed.specs.Maps.{entries_of, refs_of, marks_of, IsSound};
+    ghost use Rattle.rax_packed.specs.Paths.{nodes_with, moved, ArePassed};
 
     /// The map of no key. It takes no memory.
     pub fn new() -> PackedTree
@@ -135,6 +140,56 @@ impl PackedTree {
             self.root = None;
         }
         Some(value)
+    }
+
+    /// The nodes whose least key is this one of the map, from the top. It takes no memory.
+    pub fn nodes_of<B: BlockStore>(&self, store: &B, key: &[u8; 16]) -> PathNodes
+        requires sound { IsSound (B.blocks store.now) self.now }
+        requires stands { IsSome (value_at (entries_of (B.blocks store.now) self.now) key.now) }
+        ensures { result ≡ nodes_with (marks_of (B.blocks store.now) self.now) key.now }
+    {
+        let mut nodes = PathNodes::new();
+        match self.root {
+            None => {}
+            Some(at) => nodes_below(store, at, key, &mut nodes),
+        }
+        nodes
+    }
+
+    /// Moves the nodes whose least key is this one of the map that want it, and lets the node above each, or the map, name
+    /// it where it stands then. Answers how many moved. It takes no memory.
+    pub fn relocate_path<B: BlockStore>(&mut self, store: &mut B, key: &[u8; 16]) -> u32
+        requires sound { IsSound (B.blocks store.old) self.old }
+        requires stands { IsSome (value_at (entries_of (B.blocks store.old) self.old) key.now) }
+        ensures sound { IsSound (B.blocks store.new) self.new }
+        ensures entries { entries_of (B.blocks store.new) self.new ≡ entries_of (B.blocks store.old) self.old }
+        ensures changes { Changes (B.blocks store.old) (B.blocks store.new) (refs_of (B.blocks store.old) self.old) (refs_of (B.blocks store.new) self.new) }
+        ensures passed { ArePassed (B.heap store.old) (B.heap store.new) key.now (marks_of (B.blocks store.old) self.old) (marks_of (B.blocks store.new) self.new) }
+        ensures moved { result ≡ moved (marks_of (B.blocks store.old) self.old) (marks_of (B.blocks store.new) self.new) }
+        ensures few { result ≤ 17 }
+        ensures calmer { Calmer (B.heap store.old) (B.heap store.new) }
+    {
+        let Some(at) = self.root else { unreachable!() };
+        let passed = relocate_below(store, at, key);
+        self.root = Some(passed.at);
+        passed.moved
+    }
+
+    /// A map of the same entries, over as many nodes of its own, in blocks that weren't live. `Memory` leaves all blocks.
+    pub fn copy<B: BlockStore>(&self, store: &mut B) -> Result<PackedTree, Memory>
+        requires { IsSound (B.blocks store.old) self.now }
+        ensures sound { IfOk result (λ copy. IsSound (B.blocks store.new) copy) }
+        ensures entries { IfOk result (λ copy. entries_of (B.blocks store.new) copy ≡ entries_of (B.blocks store.old) self.now) }
+        ensures nodes { IfOk result (λ copy. length (refs_of (B.blocks store.new) copy) ≡ length (refs_of (B.blocks store.old) self.now)) }
+        ensures changes { IfOk result (λ copy. Changes (B.blocks store.old) (B.blocks store.new) [] (refs_of (B.blocks store.new) copy)) }
+        ensures served { Served B.step store.old store.new }
+        ensures err { OnErr result (B.blocks store.new ≡ B.blocks store.old) }
+    {
+        let root = match self.root {
+            None => None,
+            Some(at) => Some(copy_below(store, at, 16)?),
+        };
+        Ok(PackedTree { root })
     }
 
     /// Gives back all nodes. It takes no memory.
