@@ -1,6 +1,6 @@
 // Lists.
 
-ghost use Rattle.std.specs.Prelude.{◌≡◌, ◌∷◌, ◌≤◌, [], length, slice_index_or, MatchOption};
+ghost use Rattle.std.specs.Prelude.{◌≡◌, ◌∷◌, ◌≤◌, ◌↔◌, [], length, IsTrue, slice_index_or, MatchOption};
 ghost use Rattle.blocks.specs.Blocks.{Blocks, Changes, Served};
 ghost use Rattle.listpack.specs.Element.{element_text};
 ghost use Rattle.object_codec.specs.Forms.{IsLeast, FitsList};
@@ -59,7 +59,9 @@ impl Quick {
     }
 
     /// Whether it has no element.
-    pub fn is_empty(&self) -> bool {
+    pub fn is_empty(&self) -> bool
+        ensures { IsTrue result ↔ (self.now.len ≡ 0) }
+    {
         self.len == 0
     }
 
