@@ -1,20 +1,22 @@
 -- What becomes of databases where the store changes outside them, and where one of their tables changes.
-use Rattle.std.proofs.Common.{◌≡◌, inl, inr, ℕ, zero, suc, ◌+◌, ◌≤◌, ◌<◌, List, [], ◌∷◌, ◌++◌, get_or, flat_map, Some, None, refl, sym, ap, ◌∙◌, subst, arith}
+use Rattle.std.proofs.Common.{◌≡◌, inl, inr, ℕ, zero, suc, ◌+◌, ◌≤◌, ◌<◌, List, [], ◌∷◌, ◌++◌, get_or, flat_map, Some, None, is_some, refl, sym, ap, ◌∙◌, subst, arith}
 use Rattle.std.proofs.lemmas.Bool.{cases_eq, eq-eqb, ne_eqb, cond-true, cond-false}
 use Rattle.blocks.specs.declared.BlockRef.{BlockRef}
-use Rattle.blocks.specs.Blocks.{Blocks, times, Changes}
+use Rattle.std.specs.FinMap.{insert}
+use Rattle.blocks.specs.Blocks.{Blocks, ref_eq, times, Changes}
+use Rattle.blocks.proofs.Refs.{ref_eq-refl}
 use Rattle.blocks.proofs.Times.{times-append, times_changed}
-use Rattle.blocks.proofs.Change.{live-once, Counts-changed, Owned-others}
+use Rattle.blocks.proofs.Change.{one_if, live-once, Counts-changed, Owned-others}
 use Rattle.object_codec.specs.Limits.{AreInRange}
-use Rattle.plain_world.specs.Worlds.{Value, Str, Database, with_base, put}
-use Rattle.held.specs.declared.table.Element.{Element}
-use Rattle.held.specs.Each.{Each}
-use Rattle.held.specs.Table.{Keyed, Joins, Swaps, refs, map_of}
+use Rattle.plain_world.specs.Worlds.{Value, Database, with_base, put}
+use Rattle.rehash_dict.specs.Keyed.{key_of}
+use Rattle.rehash_dict.proofs.Keys.{Keyed-frame}
+use Rattle.rehash_dict.proofs.MapOf.{map_of-frame, map_of-adds, map_of-swaps, refs_changed}
+use Rattle.held.specs.Table.{Table, Element, item, Keyed, Adds, Swaps, Removes, no_keys, own_of, refs, map_of}
 use Rattle.held.specs.Databases.{ReadsOwn, Bases, table_at, owned, entry_of, means, ChangesTable}
 use Rattle.held.specs.Sound.{IsArranged, IsIntact, SoundBeside}
 use Rattle.held.specs.Calls.{AreParts}
-use Rattle.held.proofs.Lists.{Each-weaker}
-use Rattle.held.proofs.Tables.{Keyed-kept, Keyed-swapped, refs-joined, Each-named, map_of-kept, map_of-swapped, map_of-joins}
+use Rattle.held.proofs.Tables.{some_bytes, named_in}
 
 module _ {V : Type 0} (refs_of : V → List BlockRef) (value_of : Blocks → V → Value) (own : ReadsOwn refs_of value_of) where
   -- ---- values
@@ -28,33 +30,30 @@ module _ {V : Type 0} (refs_of : V → List BlockRef) (value_of : Blocks → V �
   pub table_owned : (bases : Bases V) (db : ℕ) (r : BlockRef) → times r (refs refs_of (table_at bases db)) ≤ times r (owned refs_of bases)
   table_owned bases db r = in_list bases.tables db
     where
-      in_list : (tables : List (List (Element V))) (db : ℕ) → times r (refs refs_of (get_or tables db [])) ≤ times r (flat_map (refs refs_of) tables)
+      in_list : (tables : List (Table V)) (db : ℕ) → times r (refs refs_of (get_or tables db (no_keys 0))) ≤ times r (flat_map (refs refs_of) tables)
       in_list [] db = omega arith
       in_list (t ∷ tables) zero = omega (arith, times-append r (refs refs_of t) (flat_map (refs refs_of) tables))
       in_list (t ∷ tables) (suc db) = omega (arith, times-append r (refs refs_of t) (flat_map (refs refs_of) tables), in_list tables db)
 
   -- one table changes
   pub owned_changed : (old new : Bases V) (db : ℕ) → ChangesTable old new db → (r : BlockRef) → times r (owned refs_of new) + times r (refs refs_of (table_at old db)) ≡ times r (owned refs_of old) + times r (refs refs_of (table_at new db))
-  owned_changed old new db c r = times_changed (refs refs_of) [] refl r old.tables new.tables db c.others
+  owned_changed old new db c r = times_changed (refs refs_of) (no_keys 0) refl r old.tables new.tables db c.others
 
   module _ (old new : Bases V) (db : ℕ) (c : ChangesTable old new db) (r : BlockRef) where
-    pub owned_joins : (e : Element V) → Joins (table_at old db) (table_at new db) e → times r (owned refs_of new) ≡ times r (owned refs_of old) + times r (e.key ∷ refs_of e.value)
-    owned_joins e j =
-        let before : times r (refs refs_of (table_at old db)) ≡ times r (refs refs_of (j.front ++ j.back)) = ap (λ t. times r (refs refs_of t)) j.before in
-        let after : times r (refs refs_of (table_at new db)) ≡ times r (refs refs_of (j.front ++ e ∷ j.back)) = ap (λ t. times r (refs refs_of t)) j.after in
-        omega (arith, before, after, refs-joined refs_of j.front j.back e r, owned_changed old new db c r)
+    pub owned_joins : (at : ℕ) (e : Element V) → Adds (table_at old db) (table_at new db) at e → times r (owned refs_of new) ≡ times r (owned refs_of old) + times r (e.key ∷ refs_of e.value)
+    owned_joins at e a =
+        let none : times r (own_of refs_of (item (table_at old db) at)) ≡ 0 = ap (λ o. times r (own_of refs_of o)) a.vacant in
+        omega (arith, none, refs_changed refs_of (table_at old db) (table_at new db) at (Some e) a.updates r, owned_changed old new db c r)
 
-    pub owned_leaves : (e : Element V) → Joins (table_at new db) (table_at old db) e → times r (owned refs_of old) ≡ times r (owned refs_of new) + times r (e.key ∷ refs_of e.value)
-    owned_leaves e j =
-        let before : times r (refs refs_of (table_at new db)) ≡ times r (refs refs_of (j.front ++ j.back)) = ap (λ t. times r (refs refs_of t)) j.before in
-        let after : times r (refs refs_of (table_at old db)) ≡ times r (refs refs_of (j.front ++ e ∷ j.back)) = ap (λ t. times r (refs refs_of t)) j.after in
-        omega (arith, before, after, refs-joined refs_of j.front j.back e r, owned_changed old new db c r)
+    pub owned_leaves : (m : Blocks) (key : List ℕ) (ref : BlockRef) (value : V) → Removes m (table_at old db) (table_at new db) key ref value → times r (owned refs_of old) ≡ times r (owned refs_of new) + times r (ref ∷ refs_of value)
+    owned_leaves m key ref value l =
+        let there : times r (own_of refs_of (item (table_at old db) l.at)) ≡ times r (ref ∷ refs_of value) = ap (λ o. times r (own_of refs_of o)) l.found in
+        omega (arith, there, refs_changed refs_of (table_at old db) (table_at new db) l.at None l.updates r, owned_changed old new db c r)
 
     pub owned_swaps : (at : ℕ) (was value : V) → Swaps (table_at old db) (table_at new db) at was value → times r (owned refs_of new) + times r (refs_of was) ≡ times r (owned refs_of old) + times r (refs_of value)
     owned_swaps at was value s =
-        let before : times r (refs refs_of (table_at old db)) ≡ times r (refs refs_of (s.front ++ (record { key = s.key; value = was }) ∷ s.back)) = ap (λ t. times r (refs refs_of t)) s.before in
-        let after : times r (refs refs_of (table_at new db)) ≡ times r (refs refs_of (s.front ++ (record { key = s.key; value = value }) ∷ s.back)) = ap (λ t. times r (refs refs_of t)) s.after in
-        omega (arith, before, after, refs-joined refs_of s.front s.back (record { key = s.key; value = was }) r, refs-joined refs_of s.front s.back (record { key = s.key; value = value }) r, owned_changed old new db c r)
+        let there : times r (own_of refs_of (item (table_at old db) at)) ≡ times r (s.key ∷ refs_of was) = ap (λ o. times r (own_of refs_of o)) s.found in
+        omega (arith, there, refs_changed refs_of (table_at old db) (table_at new db) at (Some (record { key = s.key; hash = s.hash; value = value })) s.updates r, owned_changed old new db c r)
 
   -- ---- the store changes outside
 
@@ -69,21 +68,19 @@ module _ {V : Type 0} (refs_of : V → List BlockRef) (value_of : Blocks → V �
       pub kept_inside : (r : BlockRef) → 0 < times r (owned refs_of bases) → after r ≡ m r
       kept_inside r named = kept_named r (omega (arith, named)) (omega (arith, named, intact.owned r, live-once m r, part r))
 
-      kept_table : (db : ℕ) → Each (λ e. (after e.key ≡ m e.key) × (entry_of value_of after e.value ≡ entry_of value_of m e.value)) (table_at bases db)
-      kept_table db =
-          Each-weaker (λ (e : Element V). (after e.key ≡ m e.key) × ((r : BlockRef) → 0 < times r (refs_of e.value) → after r ≡ m r)) (λ e. (after e.key ≡ m e.key) × (entry_of value_of after e.value ≡ entry_of value_of m e.value))
-          (λ e h. (h.0, entry_own m after e.value h.1)) (table_at bases db)
-          (Each-named refs_of (λ r. after r ≡ m r) (table_at bases db) (λ r named. kept_inside r (omega (arith, named, table_owned bases db r))))
+      kept_table : (db at : ℕ) (e : Element V) → item (table_at bases db) at ≡ Some e → (after e.key ≡ m e.key) × (entry_of value_of after e.value ≡ entry_of value_of m e.value)
+      kept_table db at e found =
+          let named : (r : BlockRef) → 0 < times r (e.key ∷ refs_of e.value) → after r ≡ m r = (λ r one. kept_inside r (omega (arith, one, named_in refs_of (table_at bases db) at e r found, table_owned bases db r))) in
+          (named e.key (let itself : one_if (ref_eq e.key e.key) ≡ 1 = cond-true _ _ _ (ref_eq-refl e.key) in omega (arith, itself)), entry_own m after e.value (λ r one. named r (omega (arith, one))))
+
+      kept_keyed : (db : ℕ) → Keyed after (table_at bases db)
+      kept_keyed db = (Keyed-frame m after (table_at bases db) (intact.arranged.keyed db) (λ at e found. (kept_table db at e found).0)).0
 
       pub arranged_out : IsArranged bases after
-      arranged_out = record {
-        keyed = λ db. Keyed-kept m after (table_at bases db) (Each-weaker (λ (e : Element V). (after e.key ≡ m e.key) × (entry_of value_of after e.value ≡ entry_of value_of m e.value)) (λ e. after e.key ≡ m e.key) (λ e h. h.0) (table_at bases db) (kept_table db)) (intact.arranged.keyed db);
-        sixteen = intact.arranged.sixteen;
-        limits = intact.arranged.limits;
-      }
+      arranged_out = record { keyed = kept_keyed; sixteen = intact.arranged.sixteen; limits = intact.arranged.limits }
 
       pub base_out : (db : ℕ) → map_of after (entry_of value_of after) (table_at bases db) ≡ map_of m (entry_of value_of m) (table_at bases db)
-      base_out db = map_of-kept m after (entry_of value_of m) (entry_of value_of after) (table_at bases db) (kept_table db)
+      base_out db = map_of-frame m after (entry_of value_of m) (entry_of value_of after) (table_at bases db) (intact.arranged.keyed db) (kept_keyed db) (kept_table db)
 
       pub means_out : (db : ℕ) → means value_of db bases after ≡ means value_of db bases m
       means_out db = λ i. record { bases = λ number. base_out number i; selected = db }
@@ -119,34 +116,30 @@ module _ {V : Type 0} (refs_of : V → List BlockRef) (value_of : Blocks → V �
 
     module _ (out : List BlockRef) (intact : IsIntact refs_of old m out) where
       -- a value takes the place of another
-      module _ (at : ℕ) (was value : V) (s : Swaps (table_at old db) (table_at new db) at was value) where
+      module _ (at : ℕ) (was value : V) (s : Swaps (table_at old db) (table_at new db) at was value) (keyed : Keyed m (table_at new db)) where
         pub swapped_intact : (later : List BlockRef) → ((r : BlockRef) → times r later + times r (refs_of value) ≡ times r out + times r (refs_of was)) → IsIntact refs_of new m later
         swapped_intact later same = record {
           owned = λ r. omega (arith, intact.owned r, same r, owned_swaps old new db c r at was value s);
-          arranged = arranged_changed intact.arranged (Keyed-swapped m (table_at old db) (table_at new db) at was value (intact.arranged.keyed db) s);
+          arranged = arranged_changed intact.arranged keyed;
         }
 
         pub swapped_means : (key : List ℕ) → m s.key ≡ Some key → means value_of db new m ≡ put (means value_of db old m) key (entry_of value_of m value)
-        swapped_means key bytes = means_changed _ (map_of-swapped m (entry_of value_of m) (table_at old db) (table_at new db) at was value key (intact.arranged.keyed db) s s bytes)
+        swapped_means key bytes =
+            means_changed _ (map_of-swaps m (entry_of value_of m) (table_at old db) (table_at new db) (intact.arranged.keyed db) at was value keyed s
+            ∙ ap (λ k. insert (map_of m (entry_of value_of m) (table_at old db)) k (entry_of value_of m value)) (ap (key_of m) s.found ∙ some_bytes m s.key key bytes))
 
       -- an element joins
-      module _ (e : Element V) (j : Joins (table_at old db) (table_at new db) e) (keyed : Keyed m (table_at new db)) where
+      module _ (at : ℕ) (e : Element V) (a : Adds (table_at old db) (table_at new db) at e) (keyed : Keyed m (table_at new db)) where
         pub joined_intact : (later : List BlockRef) → ((r : BlockRef) → times r later + times r (e.key ∷ refs_of e.value) ≡ times r out) → IsIntact refs_of new m later
         joined_intact later same = record {
-          owned = λ r. omega (arith, intact.owned r, same r, owned_joins old new db c r e j);
+          owned = λ r. omega (arith, intact.owned r, same r, owned_joins old new db c r at e a);
           arranged = arranged_changed intact.arranged keyed;
         }
 
         pub joined_means : (key : List ℕ) → m e.key ≡ Some key → means value_of db new m ≡ put (means value_of db old m) key (entry_of value_of m e.value)
-        joined_means key bytes = means_changed _ (map_of-joins m (entry_of value_of m) (table_at old db) (table_at new db) e key keyed j bytes)
-
-      -- an element leaves
-      module _ (e : Element V) (j : Joins (table_at new db) (table_at old db) e) (keyed : Keyed m (table_at new db)) where
-        pub left_intact : (later : List BlockRef) → ((r : BlockRef) → times r later ≡ times r out + times r (e.key ∷ refs_of e.value)) → IsIntact refs_of new m later
-        left_intact later same = record {
-          owned = λ r. omega (arith, intact.owned r, same r, owned_leaves old new db c r e j);
-          arranged = arranged_changed intact.arranged keyed;
-        }
+        joined_means key bytes =
+            means_changed _ (map_of-adds m (entry_of value_of m) (table_at old db) (table_at new db) (intact.arranged.keyed db) at e keyed (ap is_some bytes) a
+            ∙ ap (λ k. insert (map_of m (entry_of value_of m) (table_at old db)) k (entry_of value_of m e.value)) (some_bytes m e.key key bytes))
 
   -- ---- soundness after a call
 

@@ -1,7 +1,5 @@
-pub mod Lists
 pub mod Tables
-pub mod Searches
-pub mod Edits
+pub mod Releases
 pub mod Bases
 pub mod Calls
 pub mod Uses

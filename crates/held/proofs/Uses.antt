@@ -2,7 +2,7 @@
 -- world it leaves. Each lemma takes the clauses of the calls as they stand.
 use Rattle.std.proofs.Common.{Some, None, ◌≡◌, ℕ, ◌+◌, ◌≤◌, List, [], ◌++◌, Option, sym, ap, ◌∙◌, subst, arith}
 use Rattle.blocks.specs.declared.BlockRef.{BlockRef}
-use Rattle.blocks.specs.Blocks.{Blocks, times, Changes, Owned}
+use Rattle.blocks.specs.Blocks.{Blocks, times, Changes}
 use Rattle.blocks.proofs.Times.{times-append}
 use Rattle.std.proofs.lemmas.Bool.{cond-true}
 use Rattle.blocks.proofs.Refs.{ref_eq-refl}
@@ -75,7 +75,7 @@ module _ {V : Type 0} (refs_of : V → List BlockRef) (value_of : Blocks → V �
 
   -- ---- a value is lifted, changed and lowered again
 
-  module _ (old mid : Bases V) (m after : Blocks) (db moment : ℕ) (key : List ℕ) (lifted changed : Lifted V) (out : List BlockRef) (lifts : Lifts refs_of value_of old mid m db key moment lifted) (sound : SoundBeside refs_of mid m (refs_of lifted.value ++ out))
+  module _ (old mid : Bases V) (m after : Blocks) (db moment : ℕ) (key : List ℕ) (lifted changed : Lifted V) (out : List BlockRef) (empty : V) (lifts : Lifts refs_of value_of empty old mid m db key moment lifted) (sound : SoundBeside refs_of mid m (refs_of lifted.value ++ out))
       (p : Changes m after (refs_of lifted.value) (refs_of changed.value)) (same_db : changed.db ≡ lifted.db) (same_item : changed.item ≡ lifted.item) where
     part : (r : BlockRef) → times r (refs_of lifted.value) ≤ times r (refs_of lifted.value ++ out)
     part r = omega (arith, times-append r (refs_of lifted.value) out)
@@ -88,8 +88,8 @@ module _ {V : Type 0} (refs_of : V → List BlockRef) (value_of : Blocks → V �
     pub Lower-intact : IsIntact refs_of mid after (refs_of changed.value)
     Lower-intact = record { owned = λ r. omega (arith, changed_sound.owns r, times-append r (refs_of changed.value) out); arranged = changed_sound.arranged }
 
-    pub Lower-vacant : IsVacant refs_of mid changed.db changed.item
-    Lower-vacant = subst (λ d. IsVacant refs_of mid d changed.item) (sym (same_db ∙ lifts.same_db)) (subst (IsVacant refs_of mid db) (sym same_item) lifts.vacant)
+    pub Lower-vacant : IsVacant empty mid changed.db changed.item
+    Lower-vacant = subst (λ d. IsVacant empty mid d changed.item) (sym (same_db ∙ lifts.same_db)) (subst (IsVacant empty mid db) (sym same_item) lifts.vacant)
 
     -- the place is that of the key still
     place : IsPlace mid after changed.db changed.item key lifts.deadline

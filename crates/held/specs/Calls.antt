@@ -1,11 +1,10 @@
 -- What the calls of a keyspace hand out.
-use Rattle.std.specs.Prelude.{◌≡◌, ℕ, ◌+◌, List, [], Option, Some, None}
+use Rattle.std.specs.Prelude.{◌≡◌, ℕ, ◌+◌, List, Option, Some, None}
 use Rattle.blocks.specs.declared.BlockRef.{BlockRef}
 use Rattle.blocks.specs.Blocks.{Blocks, Owned, times}
 use Rattle.plain_world.specs.Worlds.{Entry, Value, look, put, live}
-use Rattle.held.specs.declared.table.Element.{Element}
 use Rattle.held.specs.declared.keyspace.Lifted.{Lifted}
-use Rattle.held.specs.Table.{item}
+use Rattle.held.specs.Table.{Element, item, value_at}
 use Rattle.held.specs.Databases.{Bases, table_at, means}
 
 module _ {V : Type 0} where
@@ -22,19 +21,17 @@ module _ {V : Type 0} where
     pub bytes : blocks element.key ≡ Some key
     pub lasts : deadline ≡ None
 
-  -- in the place stands a value that owns no block
-  pub record IsVacant (refs_of : V → List BlockRef) (bases : Bases V) (db at : ℕ) : Type 0 where
-    pub element : Element V
-    pub found : item (table_at bases db) at ≡ Some element
-    pub empty : refs_of element.value ≡ []
+  -- in the place stands what stands there for a value that was taken out
+  abbrev pub IsVacant : V → Bases V → ℕ → ℕ → Type 0
+  IsVacant vacant bases db at = value_at (item (table_at bases db) at) ≡ Some vacant
 
   -- The value was taken out of the place of the key, at which the world had it.
-  pub record Lifts (refs_of : V → List BlockRef) (value_of : Blocks → V → Value) (old new : Bases V) (blocks : Blocks) (db : ℕ) (key : List ℕ) (moment : ℕ) (lifted : Lifted V) : Type 0 where
+  pub record Lifts (refs_of : V → List BlockRef) (value_of : Blocks → V → Value) (empty : V) (old new : Bases V) (blocks : Blocks) (db : ℕ) (key : List ℕ) (moment : ℕ) (lifted : Lifted V) : Type 0 where
     pub same_db : lifted.db ≡ db
     pub deadline : Option ℕ
     pub stands : look (live (means value_of db old blocks) moment) key ≡ Some (record { value = value_of blocks lifted.value; deadline = deadline })
     pub owned : Owned (refs_of lifted.value) blocks
-    pub vacant : IsVacant refs_of new db lifted.item
+    pub vacant : IsVacant empty new db lifted.item
     pub place : IsPlace new blocks db lifted.item key deadline
     -- whatever is put at the key next, the world becomes what it would have become before
     pub back : (entry : Entry) → put (means value_of db new blocks) key entry ≡ put (means value_of db old blocks) key entry

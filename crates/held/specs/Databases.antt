@@ -1,17 +1,15 @@
 -- What contracts see of the databases, the blocks that they own, and the world that they mean, whatever the values are.
-use Rattle.std.specs.Prelude.{◌≡◌, ◌≢◌, ℕ, List, [], None, length, slice_index_or}
+use Rattle.std.specs.Prelude.{◌≡◌, ◌≢◌, ◌<◌, ℕ, List, None, length, slice_index_or}
 use Rattle.std.specs.List.{flat_map}
 use Rattle.blocks.specs.declared.BlockRef.{BlockRef}
 use Rattle.blocks.specs.Blocks.{Blocks, times}
-use Rattle.std.specs.Prelude.{◌<◌}
 use Rattle.object_codec.specs.declared.limits.Limits.{Limits}
 use Rattle.plain_world.specs.Worlds.{Entry, World, Value}
-use Rattle.held.specs.declared.table.Element.{Element}
-use Rattle.held.specs.Table.{refs, map_of}
+use Rattle.held.specs.Table.{Table, no_keys, refs, map_of}
 
 -- the key tables by the numbers of their databases, and what every value is made with
 pub record Bases (V : Type 0) : Type 0 where
-  pub tables : List (List (Element V))
+  pub tables : List (Table V)
   pub limits : Limits
   pub seed : ℕ
 
@@ -21,8 +19,8 @@ ReadsOwn {V} refs_of value_of = (m after : Blocks) (value : V) → ((r : BlockRe
 
 module _ {V : Type 0} where
   -- the key table of a database
-  abbrev pub table_at : Bases V → ℕ → List (Element V)
-  table_at bases db = slice_index_or bases.tables db []
+  abbrev pub table_at : Bases V → ℕ → Table V
+  table_at bases db = slice_index_or bases.tables db (no_keys 0)
 
   -- the references that the databases own: of each database the key blocks, and of each value its own blocks
   abbrev pub owned : (V → List BlockRef) → Bases V → List BlockRef

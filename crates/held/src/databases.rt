@@ -1,14 +1,16 @@
-ghost use Rattle.std.specs.Prelude.{◌≡◌, ◌≢◌, ◌<◌, ℕ, [], IfOk, IfErr, OnOk, OnErr, IfSome, IfNone, IsSome, length, replicate};
-ghost use Rattle.blocks.specs.Blocks.{bytes_at};
-ghost use Rattle.held.specs.declared.table.Element.{Element};
-ghost use Rattle.held.specs.Table.{item, Stands, Holds, Lacks, Keyed, Joins, Swaps, Leaves};
+ghost use Rattle.std.specs.Prelude.{◌≡◌, ◌≢◌, ◌<◌, ℕ, IfOk, IfErr, OnErr, Some, IfSome, IfNone, IsSome, length, replicate};
+ghost use Rattle.blocks.specs.Blocks.{Blocks, bytes_at};
+ghost use Rattle.rehash_dict.specs.Table.{table_len};
+ghost use Rattle.rehash_dict.specs.Keyed.{hash_of};
+ghost use Rattle.held.specs.Table.{item, value_at, no_keys, Stands, Lacks, Keyed, Adds, Swaps, Removes};
 ghost use Rattle.held.specs.Databases.{table_at, ChangesTable};
 
-use crate::table::KeyTable;
 use blocks::{BlockRef, BlockStore, Memory};
 use object_codec::Limits;
+use rehash_dict::Dict;
 use std::alloc::Global;
 use std::marker::Model;
+use std::mem;
 
 // How many databases there are.
 const COUNT: usize = 16;
@@ -17,7 +19,7 @@ const COUNT: usize = 16;
 #[derive(Drop)]
 pub struct Databases<V> {
     alloc: Global,
-    tables: Vec<KeyTable<V>>,
+    tables: Vec<Dict<V>>,
     limits: Limits,
     seed: u64,
 }
@@ -33,13 +35,13 @@ impl<V> Model for Databases<V> {
 impl<V: Drop> Databases<V> {
     // 16 databases without a key.
     pub(crate) fn new(alloc: Global, limits: Limits, seed: u64) -> Result<Databases<V>, Memory>
-        ensures tables { IfOk result (λ bases. bases.tables ≡ replicate 16 []) }
+        ensures tables { IfOk result (λ bases. bases.tables ≡ replicate 16 (no_keys seed)) }
         ensures limits { IfOk result (λ bases. bases.limits ≡ limits) }
         ensures seed { IfOk result (λ bases. bases.seed ≡ seed) }
     {
         let mut tables = Vec::new(alloc);
         for _ in 0..COUNT {
-            tables.push(KeyTable::new(alloc))?;
+            tables.push(Dict::new(alloc, seed))?;
         }
         Ok(Databases {
             alloc,
@@ -68,7 +70,7 @@ impl<V: Drop> Databases<V> {
     // The number of a database's keys.
     pub(crate) fn len(&self, db: usize) -> usize
         requires { db < length self.now.tables }
-        ensures { result ≡ length (table_at self.now db) }
+        ensures { result ≡ table_len (table_at self.now db) }
     {
         self.tables[db].len()
     }
@@ -87,9 +89,9 @@ impl<V: Drop> Databases<V> {
     pub(crate) fn value(&self, db: usize, at: usize) -> &V
         requires db { db < length self.now.tables }
         requires item { IsSome (item (table_at self.now db) at) }
-        ensures { Holds (table_at self.now db) at result.now }
+        ensures { value_at (item (table_at self.now db) at) ≡ Some result.now }
     {
-        self.tables[db].value(at)
+        self.tables[db].entry(at).1
     }
 
     // Puts a value in the place of another, which it answers.
@@ -98,24 +100,25 @@ impl<V: Drop> Databases<V> {
         requires item { IsSome (item (table_at self.old db) at) }
         ensures changes { ChangesTable self.old self.new db }
         ensures swaps { Swaps (table_at self.old db) (table_at self.new db) at result value }
+        ensures keyed { (blocks : Blocks) → Keyed blocks (table_at self.old db) → Keyed blocks (table_at self.new db) }
     {
         self.tables[db].swap_value(at, value)
     }
 
-    // Adds a key that is not there.
+    // Adds a key that is not there, and answers its item number.
     pub(crate) fn insert<B: BlockStore>(
         &mut self,
         store: &B,
         db: usize,
         key: BlockRef,
         value: V,
-    ) -> Result<(), (V, Memory)>
+    ) -> Result<usize, (V, Memory)>
         requires db { db < length self.old.tables }
         requires keyed { Keyed (B.blocks store.now) (table_at self.old db) }
         requires live { IsSome (B.blocks store.now key) }
         requires lacks { Lacks (B.blocks store.now) (table_at self.old db) (bytes_at (B.blocks store.now) key) }
         ensures changes { ChangesTable self.old self.new db }
-        ensures joins { OnOk result (Joins (table_at self.old db) (table_at self.new db) (record { key = key; value = value })) }
+        ensures adds { IfOk result (λ at. Adds (table_at self.old db) (table_at self.new db) at (record { key = key; hash = hash_of (table_at self.old db).seed (bytes_at (B.blocks store.now) key); value = value })) }
         ensures keyed { Keyed (B.blocks store.now) (table_at self.new db) }
         ensures err { OnErr result (self.new ≡ self.old) }
         ensures value_returned { IfErr result (λ e. e.0 ≡ value) }
@@ -133,7 +136,7 @@ impl<V: Drop> Databases<V> {
         requires db { db < length self.old.tables }
         requires keyed { Keyed (B.blocks store.now) (table_at self.old db) }
         ensures changes { ChangesTable self.old self.new db }
-        ensures removed { IfSome result (λ pair. Leaves (B.blocks store.now) (table_at self.old db) (table_at self.new db) key.now (record { key = pair.0; value = pair.1 })) }
+        ensures removed { IfSome result (λ pair. Removes (B.blocks store.now) (table_at self.old db) (table_at self.new db) key.now pair.0 pair.1) }
         ensures keyed { Keyed (B.blocks store.now) (table_at self.new db) }
         ensures same { IfNone result (self.new ≡ self.old) }
         ensures none { IfNone result (Lacks (B.blocks store.now) (table_at self.old db) key.now) }
@@ -141,14 +144,14 @@ impl<V: Drop> Databases<V> {
         self.tables[db].remove(store, key)
     }
 
-    // Takes out a key with its value, if the database has one.
-    pub(crate) fn pop(&mut self, db: usize) -> Option<(BlockRef, V)>
+    // Takes out all keys with their values: the database has none afterwards.
+    pub(crate) fn take(&mut self, db: usize) -> Dict<V>
         requires { db < length self.old.tables }
         ensures changes { ChangesTable self.old self.new db }
-        ensures popped { IfSome result (λ pair. Joins (table_at self.new db) (table_at self.old db) (record { key = pair.0; value = pair.1 })) }
-        ensures same { IfNone result (self.new ≡ self.old) }
-        ensures none { IfNone result (table_at self.old db ≡ []) }
+        ensures taken { result ≡ table_at self.old db }
+        ensures none { table_at self.new db ≡ no_keys self.old.seed }
     {
-        self.tables[db].pop()
+        let none = Dict::new(self.alloc, self.seed);
+        mem::replace(&mut self.tables[db], none)
     }
 }

@@ -14,9 +14,12 @@ pub trait Held: Drop {
     /// What it means over the blocks of a store.
     ghost value_of: { Blocks → Self → Value };
 
-    /// A value that owns no block.
+    /// What stands in the place of a value that was taken out.
+    ghost vacant: { Self };
+
+    /// What stands in the place of a value that was taken out. It owns no block.
     fn zero() -> Self
-        ensures { refs_of result ≡ [] };
+        ensures { result ≡ vacant };
 
     /// Gives back all its blocks.
     fn release<B: BlockStore>(self, store: &mut B)
@@ -26,4 +29,7 @@ pub trait Held: Drop {
 
     /// What it means is read out of its own blocks.
     ghost reads_own: { ReadsOwn refs_of value_of };
+
+    /// What stands in the place of a value that was taken out owns no block.
+    ghost owns_none: { refs_of vacant ≡ [] };
 }

@@ -6,13 +6,14 @@ ghost use Rattle.object_codec.specs.Limits.{AreInRange};
 ghost use Rattle.plain_world.specs.Worlds.{World, new_world, live, look, put};
 ghost use Rattle.held.specs.Databases.{means, owned, entry_of, SameSettings, table_at};
 ghost use Rattle.held.specs.Sound.{IsArranged, IsIntact, Sound, SoundBeside};
-ghost use Rattle.held.specs.Table.{Lacks};
+ghost use Rattle.held.specs.Table.{Lacks, refs};
 ghost use Rattle.held.specs.Worlds.{without, emptied};
 ghost use Rattle.held.specs.Calls.{Found, IsPlace, IsVacant, Lifts, AreParts};
 
 use crate::{Databases, Held};
 use blocks::{BlockRef, BlockStore, Memory, put_block};
 use object_codec::Limits;
+use rehash_dict::Dict;
 use std::alloc::{AllocError, Global};
 
 /// A store, and the databases whose keys and values stand in its blocks. The databases are numbered below 16.
@@ -42,6 +43,21 @@ fn release_both<V: Held, B: BlockStore>(store: &mut B, key: BlockRef, value: V)
 {
     value.release(store);
     store.give_back(key);
+}
+
+// Gives back the blocks of all keys of a table, and all blocks of their values.
+fn release_all<V: Held, B: BlockStore>(store: &mut B, mut table: Dict<V>)
+    requires { Owned (refs V.refs_of table) (B.blocks store.old) }
+    ensures changes { Changes (B.blocks store.old) (B.blocks store.new) (refs V.refs_of table) [] }
+    ensures served { Served B.step store.old store.new }
+{
+    for at in 0..table.top() {
+        if table.is_entry(at) {
+            let value = table.swap_value(at, V::zero());
+            let key = table.entry(at).0;
+            release_both(store, key, value);
+        }
+    }
 }
 
 impl<V: Held, B: BlockStore> Keyspace<V, B> {
@@ -101,12 +117,12 @@ impl<V: Held, B: BlockStore> Keyspace<V, B> {
         Some(self.bases.value(db, at))
     }
 
-    /// Takes out the value that stands at a key at the moment, in milliseconds; the string of the number 0, which
-    /// owns no block, then stands there. `None` comes exactly where no value does, and then nothing changes.
+    /// Takes out the value that stands at a key at the moment, in milliseconds; `vacant`, which owns no block,
+    /// then stands there. `None` comes exactly where no value does, and then nothing changes.
     pub fn lift(&mut self, db: usize, key: &[u8], moment: u64) -> Option<Lifted<V>>
         requires db { db < 16 }
         requires intact { IsIntact V.refs_of self.old.bases (B.blocks self.old.store) [] }
-        ensures lifts { IfSome result (λ lifted. Lifts V.refs_of V.value_of self.old.bases self.new.bases (B.blocks self.old.store) db key.now moment lifted) }
+        ensures lifts { IfSome result (λ lifted. Lifts V.refs_of V.value_of V.vacant self.old.bases self.new.bases (B.blocks self.old.store) db key.now moment lifted) }
         ensures sound { IfSome result (λ lifted. (out : List BlockRef) → SoundBeside V.refs_of self.old.bases (B.blocks self.old.store) out → SoundBeside V.refs_of self.new.bases (B.blocks self.old.store) (V.refs_of lifted.value ++ out)) }
         ensures none { IfNone result (look (live (means V.value_of db self.old.bases (B.blocks self.old.store)) moment) key.now ≡ None) }
         ensures same { IfNone result (self.new.bases ≡ self.old.bases) }
@@ -120,10 +136,10 @@ impl<V: Held, B: BlockStore> Keyspace<V, B> {
         Some(Lifted { db, item, value })
     }
 
-    /// Puts a lifted value back into its place, in which still stands the string of the number 0.
+    /// Puts a lifted value back into its place, in which `vacant` still stands.
     pub fn lower(&mut self, lifted: Lifted<V>)
         requires intact { IsIntact V.refs_of self.old.bases (B.blocks self.old.store) (V.refs_of lifted.value) }
-        requires vacant { IsVacant V.refs_of self.old.bases lifted.db lifted.item }
+        requires vacant { IsVacant V.vacant self.old.bases lifted.db lifted.item }
         ensures means { (key : List ℕ) (deadline : Option ℕ) → IsPlace self.old.bases (B.blocks self.old.store) lifted.db lifted.item key deadline →
             means V.value_of lifted.db self.new.bases (B.blocks self.old.store) ≡ put (means V.value_of lifted.db self.old.bases (B.blocks self.old.store)) key (record { value = V.value_of (B.blocks self.old.store) lifted.value; deadline = deadline }) }
         ensures sound { (all out : List BlockRef) → SoundBeside V.refs_of self.old.bases (B.blocks self.old.store) all → AreParts all (V.refs_of lifted.value) out → SoundBeside V.refs_of self.new.bases (B.blocks self.old.store) out }
@@ -185,7 +201,7 @@ impl<V: Held, B: BlockStore> Keyspace<V, B> {
             return Err(AllocError);
         };
         match self.bases.insert(&self.store, db, at, value) {
-            Ok(()) => Ok(()),
+            Ok(_) => Ok(()),
             Err((value, _)) => {
                 release_both(&mut self.store, at, value);
                 Err(AllocError)
@@ -221,25 +237,7 @@ impl<V: Held, B: BlockStore> Keyspace<V, B> {
         ensures served { Served B.step self.old.store self.new.store }
         ensures settings { SameSettings self.old.bases self.new.bases }
     {
-        'keys: while self.bases.len(db) > 0 {
-            self.drop_any(db);
-        }
-    }
-
-    // Removes a key of a database that has one.
-    fn drop_any(&mut self, db: usize)
-        requires db { db < 16 }
-        requires intact { IsIntact V.refs_of self.old.bases (B.blocks self.old.store) [] }
-        requires some { 0 < length (table_at self.old.bases db) }
-        ensures fewer { length (table_at self.new.bases db) < length (table_at self.old.bases db) }
-        ensures others { (number : ℕ) → number ≢ db → (means V.value_of db self.new.bases (B.blocks self.new.store)).bases number ≡ (means V.value_of db self.old.bases (B.blocks self.old.store)).bases number }
-        ensures arranged { IsArranged self.new.bases (B.blocks self.new.store) }
-        ensures changes { Changes (B.blocks self.old.store) (B.blocks self.new.store) (owned V.refs_of self.old.bases) (owned V.refs_of self.new.bases) }
-        ensures served { Served B.step self.old.store self.new.store }
-        ensures settings { SameSettings self.old.bases self.new.bases }
-    {
-        if let Some((at, value)) = self.bases.pop(db) {
-            release_both(&mut self.store, at, value);
-        }
+        let table = self.bases.take(db);
+        release_all(&mut self.store, table);
     }
 }

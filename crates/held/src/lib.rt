@@ -4,9 +4,7 @@
 mod databases;
 mod held;
 mod keyspace;
-mod table;
 
 pub use databases::Databases;
 pub use held::Held;
 pub use keyspace::{Keyspace, Lifted};
-pub use table::Element;

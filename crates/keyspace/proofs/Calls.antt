@@ -1,4 +1,3 @@
-use Rattle.std.proofs.Common.{◌≡◌}
 use Rattle.held.proofs.Calls as held
 use Rattle.held.specs.Databases.{SameSettings}
 use Rattle.keyspace.specs.Databases.{Bases}

@@ -1,6 +1,6 @@
 -- For whoever calls a keyspace: what a command function needs to say that the keyspace is sound after it, and which
 -- world it leaves. Each lemma takes the clauses of the calls as they stand.
-use Rattle.std.proofs.Common.{Some, None, ◌≡◌, ℕ, ◌+◌, ◌≤◌, List, [], ◌++◌, Option, sym, ap, ◌∙◌, subst, arith}
+use Rattle.std.proofs.Common.{Some, None, ◌≡◌, ℕ, ◌+◌, ◌≤◌, List, [], ◌++◌, Option, sym, ap, ◌∙◌, subst}
 use Rattle.blocks.specs.declared.BlockRef.{BlockRef}
 use Rattle.blocks.specs.Blocks.{Blocks, times, Changes, Owned}
 use Rattle.plain_world.specs.Worlds.{Entry, World, look, put}
@@ -9,7 +9,7 @@ use Rattle.string_object.specs.declared.text.Text as texts
 use Rattle.string_object.specs.Text.{text_bytes, text_refs}
 use Rattle.keyspace.specs.declared.value.Value.{Value}
 use Rattle.keyspace.specs.declared.value.Value.TheVariants.{Text}
-use Rattle.keyspace.specs.Values.{value_of, value_refs, value_own}
+use Rattle.keyspace.specs.Values.{value_of, value_refs, value_own, vacant}
 use Rattle.keyspace.specs.Databases.{Bases, means}
 use Rattle.keyspace.specs.Sound.{IsIntact, Sound, SoundBeside}
 use Rattle.keyspace.specs.Calls.{Lifted, IsPlace, IsVacant, Lifts, AreParts}
@@ -73,22 +73,20 @@ module _ (bases : Bases) (m after : Blocks) (value : Value) (sound : Sound bases
 module _ (old mid : Bases) (m after : Blocks) (db moment : ℕ) (key : List ℕ) (lifted changed : Lifted) (out : List BlockRef) (lifts : Lifts old mid m db key moment lifted) (sound : SoundBeside mid m (value_refs lifted.value ++ out)) (p : Changes m after (value_refs lifted.value) (value_refs changed.value)) (same_db : changed.db ≡ lifted.db) (same_item : changed.item ≡ lifted.item) where
   -- what `lower` asks
   pub Lower-intact : IsIntact mid after (value_refs changed.value)
-  Lower-intact = held.Lower-intact value_refs value_of value_own old mid m after db moment key lifted changed out lifts sound p same_db same_item
+  Lower-intact = held.Lower-intact value_refs value_of value_own old mid m after db moment key lifted changed out vacant lifts sound p same_db same_item
 
   pub Lower-vacant : IsVacant mid changed.db changed.item
-  Lower-vacant = held.Lower-vacant value_refs value_of value_own old mid m after db moment key lifted changed out lifts sound p same_db same_item
-
-  -- the place is that of the key still
+  Lower-vacant = held.Lower-vacant value_refs value_of value_own old mid m after db moment key lifted changed out vacant lifts sound p same_db same_item
 
   module _ (new : Bases) where
     -- from the clause `sound` of `lower`
     pub Lower-sound : ((all rest : List BlockRef) → SoundBeside mid after all → AreParts all (value_refs changed.value) rest → SoundBeside new after rest) → SoundBeside new after out
-    Lower-sound = held.Lower-sound value_refs value_of value_own old mid m after db moment key lifted changed out lifts sound p same_db same_item new
+    Lower-sound = held.Lower-sound value_refs value_of value_own old mid m after db moment key lifted changed out vacant lifts sound p same_db same_item new
 
     -- from the clause `means` of `lower`: the value stands at the key, with the deadline that was there
     pub Lower-means : ((k : List ℕ) (deadline : Option ℕ) → IsPlace mid after changed.db changed.item k deadline → means changed.db new after ≡ put (means changed.db mid after) k (record { value = value_of after changed.value; deadline = deadline }))
         → means db new after ≡ put (model.live (means db old m) moment) key (record { value = value_of after changed.value; deadline = lifts.deadline })
-    Lower-means = held.Lower-means value_refs value_of value_own old mid m after db moment key lifted changed out lifts sound p same_db same_item new
+    Lower-means = held.Lower-means value_refs value_of value_own old mid m after db moment key lifted changed out vacant lifts sound p same_db same_item new
 
 -- ---- strings: from what a call on the text of a lifted value asks and says
 

@@ -1,12 +1,11 @@
 -- What contracts see of the databases, the blocks that they own, and the world that they mean.
-use Rattle.std.specs.Prelude.{ℕ, List}
-use Rattle.blocks.specs.declared.BlockRef.{BlockRef}
+use Rattle.std.specs.Prelude.{ℕ}
 use Rattle.blocks.specs.Blocks.{Blocks}
 use Rattle.plain_world.specs.Worlds.{Entry, World}
 use Rattle.held.specs.declared.keyspace.Keyspace as held_keyspace
 use Rattle.held.specs.Databases as held
 use Rattle.keyspace.specs.declared.value.Value.{Value}
-use Rattle.keyspace.specs.Values.{value_of, value_refs}
+use Rattle.keyspace.specs.Values.{value_of}
 pub use Rattle.held.specs.Databases.{table_at, SameSettings, ChangesTable}
 
 -- the key tables by the numbers of their databases, and what every value is made with
@@ -16,10 +15,6 @@ Bases = held.Bases Value
 -- the databases and their store
 abbrev pub Keyspace : Type 0 → Type 0
 Keyspace S = held_keyspace.Keyspace Value S
-
--- the references that the databases own: of each database the key blocks, and of each value its own blocks
-abbrev pub owned : Bases → List BlockRef
-owned bases = held.owned value_refs bases
 
 -- what a key's value means there: no key has a deadline yet
 abbrev pub entry_of : Blocks → Value → Entry

@@ -1,2 +1,2 @@
 -- What a key table means over a store.
-pub use Rattle.held.specs.Table.{item, Stands, Holds, Lacks, Keyed, Joins, Swaps, Leaves, refs, map_of}
+pub use Rattle.held.specs.Table.{no_keys as no_table, map_of}

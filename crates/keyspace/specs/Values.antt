@@ -1,8 +1,9 @@
 -- What a value over the blocks of a store means, and the blocks that it owns: a line for each type of value.
-use Rattle.std.specs.Prelude.{List}
-use Rattle.std.proofs.Common.{ap}
+use Rattle.std.specs.Prelude.{◌≡◌, List, [], pos}
+use Rattle.std.proofs.Common.{refl, ap}
 use Rattle.blocks.specs.declared.BlockRef.{BlockRef}
 use Rattle.blocks.specs.Blocks.{Blocks}
+use Rattle.string_object.specs.declared.text.Text.TheVariants.{Number}
 use Rattle.string_object.specs.Text.{text_bytes, text_refs}
 use Rattle.string_object.proofs.Texts.{text-own}
 use Rattle.held.specs.Databases.{ReadsOwn}
@@ -18,6 +19,13 @@ value_of blocks (Text text) = Str (text_bytes blocks text)
 -- the references that it owns
 abbrev pub value_refs : Value → List BlockRef
 value_refs (Text text) = text_refs text
+
+-- what stands in the place of a value that was taken out: the string of the number 0
+abbrev pub vacant : Value
+vacant = Text (Number (pos 0))
+
+pub vacant_owns_none : value_refs vacant ≡ []
+vacant_owns_none = refl
 
 -- what it means is read out of its own blocks
 pub value_own : ReadsOwn value_refs value_of

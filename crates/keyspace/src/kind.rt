@@ -11,7 +11,11 @@ impl Held for Value {
 
     ghost value_of = { values.value_of };
 
+    ghost vacant = { values.vacant };
+
     ghost reads_own = { value_own };
+
+    ghost owns_none = { values.vacant_owns_none };
 
     // The string of the number 0.
     fn zero() -> Self {

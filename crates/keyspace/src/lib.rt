@@ -6,7 +6,6 @@ mod kind;
 mod tests;
 mod value;
 
-pub use held::Element;
 pub use value::Value;
 
 /// A store, and the databases over it.

@@ -1,42 +1,38 @@
-use Rattle.std.proofs.Common.{refl, ◌∙◌, arith}
-use Rattle.blocks.specs.Blocks.{no_step}
-use Rattle.blocks.proofs.Change.{Changes-then}
-use Rattle.blocks.proofs.Serve.{Served-then}
-use Rattle.held.specs.Databases.{table_at, owned}
+use Rattle.std.proofs.Common.{[], sym, subst}
+use Rattle.blocks.specs.Blocks.{Changes, Owned}
+use Rattle.held.specs.Table.{Keyed, refs}
+use Rattle.held.specs.Databases.{table_at}
+use Rattle.held.proofs.Tables.{Keyed-none}
 use Rattle.held.proofs.Bases.{sound_kept}
-use Rattle.held.proofs.Calls.{changes_none, settings_then, emptied_means, no_elements, intact_kept}
+use Rattle.held.proofs.Calls.{all_gone, all_means, left_owned, left_means, left_arranged, left_changes}
 use Rattle.held.proofs.keyspace.Keyspace.clear.Goals as goal
 
-pub keys-init : goal.keys-init
-keys-init g c = record {
-  within = c.requires.db;
-  others = λ number other. refl;
-  arranged = c.requires.intact.arranged;
-  changes = changes_none g.V.Held.refs_of g.V.Held.value_of g.met.V.Held.reads_own c.args.self.now.bases (g.B.BlockStore.blocks c.args.self.now.store) c.requires.intact;
-  served = no_step;
-  settings = record { limits = refl; seed = refl };
-}
-
-pub drop_any-requires-clause-intact : goal.drop_any-requires-clause-intact
-drop_any-requires-clause-intact g c =
-    intact_kept g.V.Held.refs_of g.V.Held.value_of g.met.V.Held.reads_own c.args.self.now.bases c.keys.self.bases (g.B.BlockStore.blocks c.args.self.now.store) (g.B.BlockStore.blocks c.keys.self.store) c.keys.invariant.changes c.keys.invariant.arranged
-
-pub keys-preserved : goal.keys-preserved
-keys-preserved g c = record {
-  within = c.keys.invariant.within;
-  others = λ number other. c.drop_any.ensures.others number other ∙ c.keys.invariant.others number other;
-  arranged = c.drop_any.ensures.arranged;
-  changes = Changes-then (g.B.BlockStore.blocks c.args.self.now.store) (g.B.BlockStore.blocks c.keys.self.store) (g.B.BlockStore.blocks c.drop_any.new.self.store) (owned g.V.Held.refs_of c.args.self.now.bases) (owned g.V.Held.refs_of c.keys.self.bases) (owned g.V.Held.refs_of c.drop_any.new.self.bases)
-      c.keys.invariant.changes c.drop_any.ensures.changes;
-  served = Served-then _ _ _ c.keys.invariant.served c.drop_any.ensures.served;
-  settings = settings_then g.V.Held.refs_of g.V.Held.value_of g.met.V.Held.reads_own c.args.self.now.bases c.keys.self.bases c.drop_any.new.self.bases c.keys.invariant.settings c.drop_any.ensures.settings;
-}
+pub release_all-requires : goal.release_all-requires
+release_all-requires g c =
+    let m = g.B.BlockStore.blocks c.args.self.now.store in
+    subst (λ t. Owned (refs g.V.Held.refs_of t) m) (sym c.take-table.ensures.taken)
+    (left_owned g.V.Held.refs_of g.V.Held.value_of g.met.V.Held.reads_own c.args.self.now.bases c.take-table.new.self c.args.db m m c.take-table.ensures.changes c.requires.intact (refs g.V.Held.refs_of (table_at c.args.self.now.bases c.args.db)) (all_gone g.V.Held.refs_of g.V.Held.value_of g.met.V.Held.reads_own c.args.self.now.bases c.take-table.new.self c.args.db c.take-table.ensures.changes c.args.self.now.bases.seed c.take-table.ensures.none) (subst (Keyed m) (sym c.take-table.ensures.none) (Keyed-none m c.args.self.now.bases.seed)))
 
 pub returns-clause-means : goal.returns-clause-means
 returns-clause-means g c =
-    emptied_means g.V.Held.refs_of g.V.Held.value_of g.met.V.Held.reads_own c.args.self.now.bases c.keys.self.bases c.args.db (g.B.BlockStore.blocks c.args.self.now.store) (g.B.BlockStore.blocks c.keys.self.store) c.keys.invariant.others
-    (no_elements g.V.Held.refs_of g.V.Held.value_of g.met.V.Held.reads_own (table_at c.keys.self.bases c.args.db) (omega (arith, c.len.ensures)))
+    let m = g.B.BlockStore.blocks c.args.self.now.store in
+    let after = g.B.BlockStore.blocks c.release_all.new.store in
+    left_means g.V.Held.refs_of g.V.Held.value_of g.met.V.Held.reads_own c.args.self.now.bases c.take-table.new.self c.args.db m after c.take-table.ensures.changes c.requires.intact (refs g.V.Held.refs_of (table_at c.args.self.now.bases c.args.db)) (all_gone g.V.Held.refs_of g.V.Held.value_of g.met.V.Held.reads_own c.args.self.now.bases c.take-table.new.self c.args.db c.take-table.ensures.changes c.args.self.now.bases.seed c.take-table.ensures.none) (subst (Keyed m) (sym c.take-table.ensures.none) (Keyed-none m c.args.self.now.bases.seed))
+    (subst (λ t. Changes m after (refs g.V.Held.refs_of t) []) c.take-table.ensures.taken c.release_all.ensures.changes) _ (all_means g.V.Held.refs_of g.V.Held.value_of g.met.V.Held.reads_own c.take-table.new.self c.args.db m c.args.self.now.bases.seed c.take-table.ensures.none)
 
 pub returns-clause-sound : goal.returns-clause-sound
 returns-clause-sound g c =
-    sound_kept g.V.Held.refs_of g.V.Held.value_of g.met.V.Held.reads_own c.args.self.now.bases c.keys.self.bases (g.B.BlockStore.blocks c.args.self.now.store) (g.B.BlockStore.blocks c.keys.self.store) c.keys.invariant.changes c.keys.invariant.arranged
+    let m = g.B.BlockStore.blocks c.args.self.now.store in
+    let after = g.B.BlockStore.blocks c.release_all.new.store in
+    sound_kept g.V.Held.refs_of g.V.Held.value_of g.met.V.Held.reads_own c.args.self.now.bases c.take-table.new.self m after
+    (left_changes g.V.Held.refs_of g.V.Held.value_of g.met.V.Held.reads_own c.args.self.now.bases c.take-table.new.self c.args.db m after c.take-table.ensures.changes c.requires.intact (refs g.V.Held.refs_of (table_at c.args.self.now.bases c.args.db)) (all_gone g.V.Held.refs_of g.V.Held.value_of g.met.V.Held.reads_own c.args.self.now.bases c.take-table.new.self c.args.db c.take-table.ensures.changes c.args.self.now.bases.seed c.take-table.ensures.none) (subst (Keyed m) (sym c.take-table.ensures.none) (Keyed-none m c.args.self.now.bases.seed))
+    (subst (λ t. Changes m after (refs g.V.Held.refs_of t) []) c.take-table.ensures.taken c.release_all.ensures.changes))
+    (left_arranged g.V.Held.refs_of g.V.Held.value_of g.met.V.Held.reads_own c.args.self.now.bases c.take-table.new.self c.args.db m after c.take-table.ensures.changes c.requires.intact (refs g.V.Held.refs_of (table_at c.args.self.now.bases c.args.db)) (all_gone g.V.Held.refs_of g.V.Held.value_of g.met.V.Held.reads_own c.args.self.now.bases c.take-table.new.self c.args.db c.take-table.ensures.changes c.args.self.now.bases.seed c.take-table.ensures.none) (subst (Keyed m) (sym c.take-table.ensures.none) (Keyed-none m c.args.self.now.bases.seed))
+    (subst (λ t. Changes m after (refs g.V.Held.refs_of t) []) c.take-table.ensures.taken c.release_all.ensures.changes))
+
+pub returns-clause-changes : goal.returns-clause-changes
+returns-clause-changes g c =
+    let m = g.B.BlockStore.blocks c.args.self.now.store in
+    let after = g.B.BlockStore.blocks c.release_all.new.store in
+    left_changes g.V.Held.refs_of g.V.Held.value_of g.met.V.Held.reads_own c.args.self.now.bases c.take-table.new.self c.args.db m after c.take-table.ensures.changes c.requires.intact (refs g.V.Held.refs_of (table_at c.args.self.now.bases c.args.db)) (all_gone g.V.Held.refs_of g.V.Held.value_of g.met.V.Held.reads_own c.args.self.now.bases c.take-table.new.self c.args.db c.take-table.ensures.changes c.args.self.now.bases.seed c.take-table.ensures.none) (subst (Keyed m) (sym c.take-table.ensures.none) (Keyed-none m c.args.self.now.bases.seed))
+    (subst (λ t. Changes m after (refs g.V.Held.refs_of t) []) c.take-table.ensures.taken c.release_all.ensures.changes)

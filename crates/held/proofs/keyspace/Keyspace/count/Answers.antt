@@ -1,6 +1,6 @@
 use Rattle.std.proofs.Common.{sym, ◌∙◌}
+use Rattle.rehash_dict.proofs.MapOf.{len-map_of}
 use Rattle.held.specs.Databases.{table_at, entry_of}
-use Rattle.held.proofs.Tables.{len-map_of}
 use Rattle.held.proofs.keyspace.Keyspace.count.Goals as goal
 
 pub returns : goal.returns

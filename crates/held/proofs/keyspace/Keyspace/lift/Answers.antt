@@ -1,4 +1,4 @@
-use Rattle.std.proofs.Common.{None, refl}
+use Rattle.std.proofs.Common.{None, refl, ap, ◌∙◌}
 use Rattle.held.proofs.Calls.{if_none, look_now, look_lacks, lifts, lifted_sound}
 use Rattle.held.proofs.keyspace.Keyspace.lift.Goals as goal
 
@@ -9,10 +9,10 @@ returns-in_err-item-clause-none g c =
 
 pub returns-clause-lifts : goal.returns-clause-lifts
 returns-clause-lifts g c =
-    lifts g.V.Held.refs_of g.V.Held.value_of g.met.V.Held.reads_own c.args.self.now.bases c.swap_value-value.new.self c.args.db (g.B.BlockStore.blocks c.args.self.now.store) c.swap_value-value.ensures.changes c.in_ok-item.item c.swap_value-value.result c.zero.result c.zero.ensures c.swap_value-value.ensures.swaps
+    lifts g.V.Held.refs_of g.V.Held.value_of g.met.V.Held.reads_own c.args.self.now.bases c.swap_value-value.new.self c.args.db (g.B.BlockStore.blocks c.args.self.now.store) c.swap_value-value.ensures.changes c.in_ok-item.item c.swap_value-value.result c.zero.result (ap g.V.Held.refs_of c.zero.ensures ∙ g.met.V.Held.owns_none) g.V.Held.vacant c.zero.ensures c.swap_value-value.ensures.swaps (c.swap_value-value.ensures.keyed (g.B.BlockStore.blocks c.args.self.now.store) (c.requires.intact.arranged.keyed c.args.db))
     c.requires.intact c.args.key.now c.in_ok-item.ensures.found c.args.moment _ refl
 
 pub returns-clause-sound : goal.returns-clause-sound
 returns-clause-sound g c =
-    lifted_sound g.V.Held.refs_of g.V.Held.value_of g.met.V.Held.reads_own c.args.self.now.bases c.swap_value-value.new.self c.args.db (g.B.BlockStore.blocks c.args.self.now.store) c.swap_value-value.ensures.changes c.in_ok-item.item c.swap_value-value.result c.zero.result c.zero.ensures c.swap_value-value.ensures.swaps
+    lifted_sound g.V.Held.refs_of g.V.Held.value_of g.met.V.Held.reads_own c.args.self.now.bases c.swap_value-value.new.self c.args.db (g.B.BlockStore.blocks c.args.self.now.store) c.swap_value-value.ensures.changes c.in_ok-item.item c.swap_value-value.result c.zero.result (ap g.V.Held.refs_of c.zero.ensures ∙ g.met.V.Held.owns_none) g.V.Held.vacant c.zero.ensures c.swap_value-value.ensures.swaps (c.swap_value-value.ensures.keyed (g.B.BlockStore.blocks c.args.self.now.store) (c.requires.intact.arranged.keyed c.args.db))
     c.requires.intact c.args.key.now c.in_ok-item.ensures.found

@@ -3,10 +3,10 @@ use Rattle.held.proofs.keyspace.Keyspace.lower.Goals as goal
 
 pub returns-clause-means : goal.returns-clause-means
 returns-clause-means g c =
-    lowered_means g.V.Held.refs_of g.V.Held.value_of g.met.V.Held.reads_own c.args.self.now.bases c.swap_value-zero.new.self c.args.lifted.db (g.B.BlockStore.blocks c.args.self.now.store) c.swap_value-zero.ensures.changes c.args.lifted.item c.swap_value-zero.result c.args.lifted.value c.swap_value-zero.ensures.swaps
-    c.requires.intact c.requires.vacant
+    lowered_means g.V.Held.refs_of g.V.Held.value_of g.met.V.Held.reads_own c.args.self.now.bases c.swap_value-zero.new.self c.args.lifted.db (g.B.BlockStore.blocks c.args.self.now.store) c.swap_value-zero.ensures.changes c.args.lifted.item c.swap_value-zero.result c.args.lifted.value c.swap_value-zero.ensures.swaps (c.swap_value-zero.ensures.keyed (g.B.BlockStore.blocks c.args.self.now.store) (c.requires.intact.arranged.keyed c.args.lifted.db))
+    c.requires.intact g.V.Held.vacant g.met.V.Held.owns_none c.requires.vacant
 
 pub returns-clause-sound : goal.returns-clause-sound
 returns-clause-sound g c =
-    lowered_sound g.V.Held.refs_of g.V.Held.value_of g.met.V.Held.reads_own c.args.self.now.bases c.swap_value-zero.new.self c.args.lifted.db (g.B.BlockStore.blocks c.args.self.now.store) c.swap_value-zero.ensures.changes c.args.lifted.item c.swap_value-zero.result c.args.lifted.value c.swap_value-zero.ensures.swaps
-    c.requires.intact c.requires.vacant
+    lowered_sound g.V.Held.refs_of g.V.Held.value_of g.met.V.Held.reads_own c.args.self.now.bases c.swap_value-zero.new.self c.args.lifted.db (g.B.BlockStore.blocks c.args.self.now.store) c.swap_value-zero.ensures.changes c.args.lifted.item c.swap_value-zero.result c.args.lifted.value c.swap_value-zero.ensures.swaps (c.swap_value-zero.ensures.keyed (g.B.BlockStore.blocks c.args.self.now.store) (c.requires.intact.arranged.keyed c.args.lifted.db))
+    c.requires.intact g.V.Held.vacant g.met.V.Held.owns_none c.requires.vacant

@@ -11,13 +11,13 @@ returns-in_default-clause-sound g c =
 
 pub release-requires : goal.release-requires
 release-requires g c =
-    over_owned g.V.Held.refs_of g.V.Held.value_of g.met.V.Held.reads_own c.args.self.now.bases c.swap_value-was.new.self c.args.db (g.B.BlockStore.blocks c.args.self.now.store) c.swap_value-was.ensures.changes c.in-Some.at c.swap_value-was.result c.args.value c.swap_value-was.ensures.swaps
+    over_owned g.V.Held.refs_of g.V.Held.value_of g.met.V.Held.reads_own c.args.self.now.bases c.swap_value-was.new.self c.args.db (g.B.BlockStore.blocks c.args.self.now.store) c.swap_value-was.ensures.changes c.in-Some.at c.swap_value-was.result c.args.value c.swap_value-was.ensures.swaps (c.swap_value-was.ensures.keyed (g.B.BlockStore.blocks c.args.self.now.store) (c.requires.intact.arranged.keyed c.args.db))
     (g.V.Held.refs_of c.args.value) c.requires.intact
 
 pub returns-clause-means : goal.returns-clause-means
 returns-clause-means g c =
     let m = g.B.BlockStore.blocks c.args.self.now.store in
-    over_means g.V.Held.refs_of g.V.Held.value_of g.met.V.Held.reads_own c.args.self.now.bases c.swap_value-was.new.self c.args.db m c.swap_value-was.ensures.changes c.in-Some.at c.swap_value-was.result c.args.value c.swap_value-was.ensures.swaps
+    over_means g.V.Held.refs_of g.V.Held.value_of g.met.V.Held.reads_own c.args.self.now.bases c.swap_value-was.new.self c.args.db m c.swap_value-was.ensures.changes c.in-Some.at c.swap_value-was.result c.args.value c.swap_value-was.ensures.swaps (c.swap_value-was.ensures.keyed (g.B.BlockStore.blocks c.args.self.now.store) (c.requires.intact.arranged.keyed c.args.db))
     c.requires.intact (g.B.BlockStore.blocks c.release.new.store) c.release.ensures.changes c.args.key.now c.in-Some.ensures.found
     ∙ ap (λ d. put (means g.V.Held.value_of c.args.db c.args.self.now.bases m) c.args.key.now (record { value = g.V.Held.value_of m c.args.value; deadline = d })) (sym c.requires.deadline)
 
@@ -26,10 +26,10 @@ returns-clause-sound g c =
     let m = g.B.BlockStore.blocks c.args.self.now.store in
     let after = g.B.BlockStore.blocks c.release.new.store in
     sound_joined g.V.Held.refs_of g.V.Held.value_of g.met.V.Held.reads_own c.args.self.now.bases c.swap_value-was.new.self m after (g.V.Held.refs_of c.args.value)
-    (over_changes g.V.Held.refs_of g.V.Held.value_of g.met.V.Held.reads_own c.args.self.now.bases c.swap_value-was.new.self c.args.db m c.swap_value-was.ensures.changes c.in-Some.at c.swap_value-was.result c.args.value c.swap_value-was.ensures.swaps c.requires.intact after c.release.ensures.changes)
-    (over_arranged g.V.Held.refs_of g.V.Held.value_of g.met.V.Held.reads_own c.args.self.now.bases c.swap_value-was.new.self c.args.db m c.swap_value-was.ensures.changes c.in-Some.at c.swap_value-was.result c.args.value c.swap_value-was.ensures.swaps c.requires.intact after c.release.ensures.changes)
+    (over_changes g.V.Held.refs_of g.V.Held.value_of g.met.V.Held.reads_own c.args.self.now.bases c.swap_value-was.new.self c.args.db m c.swap_value-was.ensures.changes c.in-Some.at c.swap_value-was.result c.args.value c.swap_value-was.ensures.swaps (c.swap_value-was.ensures.keyed (g.B.BlockStore.blocks c.args.self.now.store) (c.requires.intact.arranged.keyed c.args.db)) c.requires.intact after c.release.ensures.changes)
+    (over_arranged g.V.Held.refs_of g.V.Held.value_of g.met.V.Held.reads_own c.args.self.now.bases c.swap_value-was.new.self c.args.db m c.swap_value-was.ensures.changes c.in-Some.at c.swap_value-was.result c.args.value c.swap_value-was.ensures.swaps (c.swap_value-was.ensures.keyed (g.B.BlockStore.blocks c.args.self.now.store) (c.requires.intact.arranged.keyed c.args.db)) c.requires.intact after c.release.ensures.changes)
 
 pub returns-clause-changes : goal.returns-clause-changes
 returns-clause-changes g c =
     let m = g.B.BlockStore.blocks c.args.self.now.store in
-    over_changes g.V.Held.refs_of g.V.Held.value_of g.met.V.Held.reads_own c.args.self.now.bases c.swap_value-was.new.self c.args.db m c.swap_value-was.ensures.changes c.in-Some.at c.swap_value-was.result c.args.value c.swap_value-was.ensures.swaps c.requires.intact (g.B.BlockStore.blocks c.release.new.store) c.release.ensures.changes
+    over_changes g.V.Held.refs_of g.V.Held.value_of g.met.V.Held.reads_own c.args.self.now.bases c.swap_value-was.new.self c.args.db m c.swap_value-was.ensures.changes c.in-Some.at c.swap_value-was.result c.args.value c.swap_value-was.ensures.swaps (c.swap_value-was.ensures.keyed (g.B.BlockStore.blocks c.args.self.now.store) (c.requires.intact.arranged.keyed c.args.db)) c.requires.intact (g.B.BlockStore.blocks c.release.new.store) c.release.ensures.changes

@@ -38,17 +38,17 @@ insert-requires-clause-lacks g c =
 pub returns-in-Ok-insert-clause-means : goal.returns-in-Ok-insert-clause-means
 returns-in-Ok-insert-clause-means g c =
     new_means g.V.Held.refs_of g.V.Held.value_of g.met.V.Held.reads_own c.args.self.now.bases (g.B.BlockStore.blocks c.args.self.now.store) (g.B.BlockStore.blocks c.put_block.new.store) c.in-Ok.at c.args.key.now c.args.value c.requires.intact c.in-Ok.ensures.placed c.in-Ok.ensures.changes
-    c.insert.new.self c.args.db c.insert.ensures.changes c.in-Ok-insert.ensures.joins c.insert.ensures.keyed
+    c.insert.new.self c.args.db c.insert.ensures.changes _ _ c.in-Ok-insert.ensures.adds c.insert.ensures.keyed
 
 pub returns-in-Ok-insert-clause-arranged : goal.returns-in-Ok-insert-clause-arranged
 returns-in-Ok-insert-clause-arranged g c =
     new_arranged g.V.Held.refs_of g.V.Held.value_of g.met.V.Held.reads_own c.args.self.now.bases (g.B.BlockStore.blocks c.args.self.now.store) (g.B.BlockStore.blocks c.put_block.new.store) c.in-Ok.at c.args.key.now c.args.value c.requires.intact c.in-Ok.ensures.placed c.in-Ok.ensures.changes
-    c.insert.new.self c.args.db c.insert.ensures.changes c.in-Ok-insert.ensures.joins c.insert.ensures.keyed
+    c.insert.new.self c.args.db c.insert.ensures.changes _ _ c.in-Ok-insert.ensures.adds c.insert.ensures.keyed
 
 pub returns-in-Ok-insert-clause-changes : goal.returns-in-Ok-insert-clause-changes
 returns-in-Ok-insert-clause-changes g c =
     new_changes g.V.Held.refs_of g.V.Held.value_of g.met.V.Held.reads_own c.args.self.now.bases (g.B.BlockStore.blocks c.args.self.now.store) (g.B.BlockStore.blocks c.put_block.new.store) c.in-Ok.at c.args.key.now c.args.value c.requires.intact c.in-Ok.ensures.placed c.in-Ok.ensures.changes
-    c.insert.new.self c.args.db c.insert.ensures.changes c.in-Ok-insert.ensures.joins c.insert.ensures.keyed
+    c.insert.new.self c.args.db c.insert.ensures.changes _ _ c.in-Ok-insert.ensures.adds c.insert.ensures.keyed
 
 pub returns-in-Err-clause-kept : goal.returns-in-Err-clause-kept
 returns-in-Err-clause-kept g c =

@@ -1,0 +1,11 @@
+use Rattle.std.proofs.Common.{ap}
+use Rattle.blocks.specs.Blocks.{Blocks}
+use Rattle.held.specs.Databases.{Bases}
+use Rattle.held.specs.Table.{Keyed}
+use Rattle.held.proofs.Tables.{in_place}
+use Rattle.held.proofs.databases.Databases.swap_value.Goals as goal
+
+pub returns-clause-keyed : goal.returns-clause-keyed
+returns-clause-keyed g c =
+    in_place c.self.inside.tables.items c.args.self.now c.args.db c.index_mut.result.now c.swap_value.new.self (λ old new. (blocks : Blocks) → Keyed blocks old → Keyed blocks new)
+    (ap (λ (b : Bases _). b.tables) c.self.view_is) c.requires.db c.index_mut.ensures.value c.swap_value.ensures.keyed
