@@ -8,7 +8,7 @@ ghost use Rattle.plain_model.specs.declared.command.StringCommand.TheVariants as
 ghost use Rattle.keyspace.specs.Commands.{Ready, Held, Kept, sight};
 ghost use Rattle.cmd_values.specs.Found.{Gives, IsThere, Becomes};
 
-use crate::strings::look::{length_at, length_reply, own};
+use crate::strings::look::{length_at, length_reply};
 use crate::strings::writing::put_string;
 use blocks::BlockStore;
 use keyspace::{Keyspace, Lifted, Value};

@@ -8,10 +8,10 @@ ghost use Rattle.plain_model.specs.declared.command.StringCommand.TheVariants as
 ghost use Rattle.keyspace.specs.Commands.{Ready, Held, Kept, sight};
 ghost use Rattle.cmd_values.specs.Found.{Gives, NumberAt};
 
-use crate::strings::look::{own, text_at};
+use crate::strings::look::text_at;
 use blocks::BlockStore;
 use keyspace::{Keyspace, Value};
-use plain_model::{Ctx, Memory, Refusal, Reply, StringCommand};
+use plain_model::{Ctx, Memory, Refusal, Reply};
 use string_object::Text;
 
 // The number that the string at a key is, 0 where there is none.

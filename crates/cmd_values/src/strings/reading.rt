@@ -6,10 +6,10 @@ ghost use Rattle.plain_model.specs.declared.command.StringCommand.TheVariants as
 ghost use Rattle.keyspace.specs.Commands.{Ready, Held, Kept, sight};
 ghost use Rattle.cmd_values.specs.Found.{Gives, value_at, values_at};
 
-use crate::strings::look::{bytes_of, length_of, length_reply, old_value, own, text_at};
+use crate::strings::look::{bytes_of, length_of, length_reply, old_value, text_at};
 use blocks::BlockStore;
 use keyspace::Keyspace;
-use plain_model::{Bytes, Command, Ctx, Memory, Part, Parts, Reply, StringCommand};
+use plain_model::{Bytes, Ctx, Memory, Part, Parts, Reply};
 
 /// `GET key`: the value, or null.
 pub fn get<B: BlockStore>(keyspace: &Keyspace<B>, at: &Ctx, key: &[u8]) -> Result<Reply, Memory>

@@ -1,14 +1,14 @@
 //! Commands that write strings whole.
 
 ghost use Rattle.std.specs.Prelude.{◌≡◌, ◌<◌, ◌≤◌, List, ℕ, Bool, IfOk, OnOk, is_some};
-ghost use Rattle.plain_world.specs.Worlds.{look, remove};
+ghost use Rattle.plain_world.specs.Worlds.{look};
 ghost use Rattle.plain_model.specs.StringSteps.{replace, replace_all, any_there, allows};
 ghost use Rattle.plain_model.specs.declared.command.Condition.{Condition};
 ghost use Rattle.plain_model.specs.declared.command.StringCommand.TheVariants as strings;
 ghost use Rattle.keyspace.specs.Commands.{Ready, Held, Kept, sight};
 ghost use Rattle.cmd_values.specs.Found.{Gives, IsSetReply};
 
-use crate::strings::look::{old_value, own};
+use crate::strings::look::old_value;
 use blocks::BlockStore;
 use keyspace::{Keyspace, Value};
 use plain_model::{Bytes, Condition, Ctx, Line, Memory, Reply, SetOptions};
