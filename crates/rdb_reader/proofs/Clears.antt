@@ -1,10 +1,10 @@
 -- Databases are emptied one after the other.
-use Rattle.std.proofs.Common.{◌≡◌, inl, inr, ℕ, ◌+◌, ◌<◌, [], ap, ◌∙◌, arith}
+use Rattle.std.proofs.Common.{◌≡◌, inl, inr, ℕ, ◌+◌, ◌<◌, refl, ap, ◌∙◌, arith}
 use Rattle.std.proofs.lemmas.Bool.{cases_eq, cases_lt, eq-eqb, ne_eqb, cond-true, cond-false}
 use Rattle.std.proofs.lemmas.List.{get_or_past}
 use Rattle.blocks.specs.Blocks.{Blocks}
 use Rattle.plain_world.specs.Worlds.{World, new_world, no_keys}
-use Rattle.keyspace.specs.Table.{map_of}
+use Rattle.keyspace.specs.Table.{map_of, no_table}
 use Rattle.keyspace.specs.Databases.{Bases, entry_of, means}
 use Rattle.keyspace.specs.Sound.{IsArranged}
 use Rattle.keyspace.specs.Worlds.{emptied}
@@ -26,5 +26,5 @@ all_cleared bases m arranged cleared = λ i. record { bases = λ k. each k i; se
     each : (k : ℕ) → (means 0 bases m).bases k ≡ no_keys
     each k = elim (cases_lt k 16) [
       | inl below ↦ cleared k below
-      | inr past ↦ ap (map_of m (entry_of m)) (get_or_past bases.tables k [] (omega (arith, past, arranged.sixteen))) ∙ map_of-empty m (entry_of m)
+      | inr past ↦ ap (map_of m (entry_of m)) (get_or_past bases.tables k (no_table 0) (omega (arith, past, arranged.sixteen))) ∙ map_of-empty m (entry_of m) (no_table 0) refl
     ]

@@ -42,8 +42,8 @@ fn clear_all<B: BlockStore>(keyspace: &mut Keyspace<B>)
 /// Loads the host's file of this name, of at most so many bytes, into a keyspace without a key. A key whose deadline the
 /// moment is past is passed over; the moment is in milliseconds.
 ///
-/// `Refused` comes exactly where the format excludes the file, with its first fault; `Host` only where the host's count
-/// of faults rose; `Limit` exactly where the file has more bytes than the limit. After each fault the keyspace has no key.
+/// `Refused` comes exactly where the format excludes the file, with its first fault; `Host` exactly where the host's
+/// count of faults rose; `Limit` exactly where the file has more bytes than the limit. After each fault the keyspace has no key.
 #[tactic(auto, using(keyspace::proofs::Serving::nothing, keyspace::proofs::Serving::both))]
 pub fn load<H: Host, B: BlockStore>(
     alloc: Global,

@@ -61,6 +61,14 @@ impl Held {
         }
     }
 
+    // The encoding of the string at the key.
+    fn encoding(&self, key: &[u8]) -> &'static str {
+        match self.keyspace.look(0, key, 0) {
+            None => "none",
+            Some(value) => value.as_text().name(&self.keyspace.store).text(),
+        }
+    }
+
     fn set(&mut self, key: &[u8], bytes: &[u8]) -> Result<(), AllocError> {
         let text = Text::make(&mut self.keyspace.store, bytes)?;
         self.keyspace.put(0, key, Value::Text(text), None)
@@ -104,6 +112,21 @@ fn strings_of_each_form(rt: HostRuntime) -> Result<(), Fail> {
     assert!(rt; held.has(b"t", b"text"));
     assert!(rt; held.has(b"12345", b"123456789"));
     assert!(rt; held.has(b"", b"-128"));
+    Ok(())
+}
+
+// A loaded string has the encoding of one that is written whole.
+#[test]
+fn encodings_of_loaded_strings(rt: HostRuntime) -> Result<(), Fail> {
+    let bytes =
+        b"REDIS0011\xfe\x00\x00\x01n\x017\x00\x01i\xc0\x05\x00\x01t\x04text\x00\x01m\x2cxxxxxxxxxxxxxxxxxxxxxxxxxxxxxxxxxxxxxxxxxxxx\x00\x01l\x2dxxxxxxxxxxxxxxxxxxxxxxxxxxxxxxxxxxxxxxxxxxxxx\xff\0\0\0\0\0\0\0\0";
+    let (held, answer) = loaded(rt.alloc(), bytes, "f", &[], MANY)?;
+    assert_eq!(rt; answer, Ok(Loaded { keys: 5, passed: 0 }));
+    assert_eq!(rt; held.encoding(b"n"), "int");
+    assert_eq!(rt; held.encoding(b"i"), "int");
+    assert_eq!(rt; held.encoding(b"t"), "embstr");
+    assert_eq!(rt; held.encoding(b"m"), "embstr");
+    assert_eq!(rt; held.encoding(b"l"), "raw");
     Ok(())
 }
 

@@ -139,9 +139,6 @@ fault_within bytes rule from (in_word n words rest b h) =
 
 -- a fault stays, whatever comes behind it
 
-abbrev more_text : List ℕ → List ℕ → List ℕ → List ℕ
-more_text s t A = s ++ (t ++ A)
-
 line_stays : (mark strange : ℕ) (bytes : List ℕ) (rule : ℕ) (from back : List ℕ) → LineFault mark strange bytes rule from → LineFault mark strange (bytes ++ back) rule (from ++ back)
 line_stays mark strange bytes rule from back (other_mark b more r f e ne) = other_mark b (more ++ back) r (ap (λ l. l ++ back) f) (ap (λ l. l ++ back) e) ne
 line_stays mark strange bytes rule from back (too_long t more r f e p n) =

@@ -1,5 +1,5 @@
 -- What is said of a serving, for those who call it.
-use Rattle.std.proofs.Common.{◌≡◌, ◌<◌, ℕ, List, [], ◌∷◌, ◌++◌, length, Option, Some, None, Bool, refl, sym, ap, subst, ◌∙◌, inl, inr, arith, length-append}
+use Rattle.std.proofs.Common.{◌≡◌, ◌⊎◌, ◌<◌, ℕ, List, [], ◌∷◌, ◌++◌, length, Option, Some, None, Bool, refl, sym, ap, subst, ◌∙◌, inl, inr, arith, length-append}
 use Rattle.std.specs.Io.KnownBytes.{Consumes, IsAtEnd}
 use Rattle.std.proofs.lemmas.List.{append_assoc, append-nil, append_cancel_right}
 use Rattle.outside.specs.Streams.{SourceSeen, SinkSeen, Fits}
@@ -20,19 +20,19 @@ use Rattle.serving.specs.Exactly.{HasQuit, EndsExactly, ServesExactly, NoReadFau
 
 module _ {E F : Type 0} (P : List Words → List (List Part) → E → Type 0) (Q : List Words → List (List Part) → F → Type 0) (quits : Words → Bool) (spent : E → Bool) (known : F → Bool)
     (see : E → F) (turn : (asked : List Words) (replies : List (List Part)) (last : E) → P asked replies last → Q asked replies (see last)) where
-  -- a serving of an engine is one of what is seen of it, up to the last state that is known
-  pub served_as : (limit : ℕ) (i i1 : SourceSeen) (o o1 : SinkSeen) (last : E) (ended : Ended) → Served P quits spent limit i i1 o o1 last ended → (last' : F) × Served Q quits known limit i i1 o o1 last' ended
+  -- a serving of an engine is one of what is seen of it, up to the last state that is known: that of the engine where all is answered
+  pub served_as : (limit : ℕ) (i i1 : SourceSeen) (o o1 : SinkSeen) (last : E) (ended : Ended) → Served P quits spent limit i i1 o o1 last ended → (last' : F) × Served Q quits known limit i i1 o o1 last' ended × ((ended ≡ endings.WriteFault) ⊎ ((ended ≡ endings.Memory) ⊎ (last' ≡ see last)))
   served_as limit i i1 o o1 last ended s =
       let with_end : (last' : F) → Ends Q quits known limit s.taken s.asked s.end i1.told o o1 last' ended → Served Q quits known limit i i1 o o1 last' ended =
       λ last' e. record { taken = s.taken; took = s.took; few = s.few; asked = s.asked; end = s.end; frames = s.frames; ends = e; reads = s.reads; writes = s.writes } in
       elim s.ends [
-        | answered a by ↦ (see last, with_end (see last) (answered (record { replies = a.replies; may = turn s.asked a.replies last a.may; go_on = a.go_on; wrote = a.wrote }) by))
+        | answered a by ↦ (see last, with_end (see last) (answered (record { replies = a.replies; may = turn s.asked a.replies last a.may; go_on = a.go_on; wrote = a.wrote }) by), inr (inr refl))
         | quit a is ↦
-            (see last, with_end (see last) (quit (record { front = a.front; quit = a.quit; others = a.others; split = a.split; go_on = a.go_on; ends_run = a.ends_run; replies = a.replies; may = turn (a.front ++ a.quit ∷ []) a.replies last a.may; wrote = a.wrote }) is))
+            (see last, with_end (see last) (quit (record { front = a.front; quit = a.quit; others = a.others; split = a.split; go_on = a.go_on; ends_run = a.ends_run; replies = a.replies; may = turn (a.front ++ a.quit ∷ []) a.replies last a.may; wrote = a.wrote }) is), inr (inr refl))
         | write_fault a is ↦
-            (see a.then_is, with_end (see a.then_is) (write_fault (record { some = a.some; others = a.others; split = a.split; replies = a.replies; then_is = see a.then_is; may = turn a.some a.replies a.then_is a.may; known = inl refl; tail = a.tail; behind = a.behind; wrote = a.wrote }) is))
+            (see a.then_is, with_end (see a.then_is) (write_fault (record { some = a.some; others = a.others; split = a.split; replies = a.replies; then_is = see a.then_is; may = turn a.some a.replies a.then_is a.may; known = inl refl; tail = a.tail; behind = a.behind; wrote = a.wrote }) is), inl is)
         | no_memory a is ↦
-            (see a.last, with_end (see a.last) (no_memory (record { some = a.some; others = a.others; split = a.split; replies = a.replies; last = see a.last; may = turn a.some a.replies a.last a.may; wrote = a.wrote }) is))
+            (see a.last, with_end (see a.last) (no_memory (record { some = a.some; others = a.others; split = a.split; replies = a.replies; last = see a.last; may = turn a.some a.replies a.last a.may; wrote = a.wrote }) is), inr (inl is))
       ]
 
 -- ---- the bytes taken and left

@@ -5,4 +5,3 @@ pub mod Answering
 pub mod Taking
 pub mod Served
 pub mod Exactly
-pub mod Statuses

@@ -209,6 +209,9 @@ fn faults_and_limits(rt: HostRuntime) -> Result<(), Fail> {
             Some(run.written.as_slice()),
             replies.get(..4 * call as usize)
         );
+        // nothing more is executed or taken after a put that failed
+        assert_eq!(rt; run.executed, 3.min(call + 1));
+        assert_eq!(rt; run.left, if call < 2 { 11 } else { 0 });
     }
     // no room is left
     let run = served(alloc, THREE, &[], (&[], &[]), 6, MANY_BYTES)?;
