@@ -1,7 +1,7 @@
 -- Requests as steps of the model.
 use Rattle.std.proofs.Common.{◌≡◌, ℕ, List, [], ◌∷◌, Result, Ok, Err, IfOk, max, false, refl, sym, ap, subst, ◌∙◌}
 use Rattle.std.specs.Prelude.{MatchResult}
-use Rattle.blocks.specs.Blocks.{Blocks, no_step}
+use Rattle.blocks.specs.Blocks.{Blocks, Served, no_step}
 use Rattle.plain_world.specs.Words.{Words}
 use Rattle.plain_world.specs.Worlds.{World, live}
 use Rattle.plain_model.specs.Meant.{meant}
@@ -51,28 +51,36 @@ module _ {S E : Type 0} (blocks : S → Blocks) (step_of : S → S → Type 0) (
   not_read keyspace e ready = record { answers = tt; kept = unchanged blocks step_of keyspace (Err e) ready.sound }
 
 -- a step from what the keyspace means is one from the world that the engine holds: nothing is gone yet
-pub from_held : {S : Type 0} (blocks : S → Blocks) (engine inside : State S) → inside ≡ engine → (moment : ℕ) (words : Words) (reply : List Part) (new : World)
+from_held : {S : Type 0} (blocks : S → Blocks) (engine inside : State S) (last : ℕ) → inside ≡ record engine { last = last } → (moment : ℕ) (words : Words) (reply : List Part) (new : World)
     → step inside.bases.seed (means inside.selected inside.bases (blocks inside.store)) moment words reply new → step engine.bases.seed (world_of blocks engine) moment words reply new
-from_held blocks engine inside e moment words reply new s =
-    subst (λ x. step x.bases.seed (world_of blocks x) moment words reply new) e
-    (subst (λ w. step inside.bases.seed w moment words reply new) (sym (Live-means inside.selected inside.bases (blocks inside.store) inside.last)) s)
+from_held blocks engine inside last e moment words reply new s =
+    subst (λ x. step x.bases.seed (live (means x.selected x.bases (blocks x.store)) engine.last) moment words reply new) e
+    (subst (λ w. step inside.bases.seed w moment words reply new) (sym (Live-means inside.selected inside.bases (blocks inside.store) engine.last)) s)
 
--- an engine that is left as it was
-pub kept_as_was : {S : Type 0} (blocks : S → Blocks) (step_of : S → S → Type 0) (engine inside : State S) (last : ℕ) → inside ≡ engine → Sound inside.bases (blocks inside.store) → Keeps blocks step_of engine (record inside { last = last })
-kept_as_was blocks step_of engine inside last e sound =
-    subst (λ x. Keeps blocks step_of x (record inside { last = last })) e (record { sound = sound; served = no_step; settings = same_settings inside.bases })
+-- an engine that used a moment and did nothing more
+pub observed_keeps : {S : Type 0} (blocks : S → Blocks) (step_of : S → S → Type 0) (engine inside : State S) (last : ℕ) → inside ≡ record engine { last = last } → Sound inside.bases (blocks inside.store) → Keeps blocks step_of engine inside
+observed_keeps blocks step_of engine inside last e sound = record {
+  sound = sound;
+  served = subst (Served step_of engine.store) (sym (ap (λ x. x.store) e)) no_step;
+  settings = record { limits = ap (λ x. x.bases.limits) e; seed = ap (λ x. x.bases.seed) e };
+}
 
--- an engine answers as its keyspace does
-pub executes : {S E : Type 0} (blocks : S → Blocks) (step_of : S → S → Type 0) (engine inside : State S) (moment last : ℕ) (words : Words) (reply : List Part) (bases : Bases) (store : S)
-    → inside ≡ engine → inside.is_spent ≡ false → last ≡ max inside.last moment
-    → Answers {E = E} blocks step_of (record { bases = inside.bases; store = inside.store }) (record { bases = bases; store = store }) (record { db = inside.selected; moment = last }) words (Ok reply)
-    → Executes blocks step_of moment engine words reply (record { bases = bases; store = store; selected = inside.selected; last = last; is_spent = inside.is_spent })
-executes {S = S} blocks step_of engine inside moment last words reply bases store e alive later a =
-    let new : State S = record { bases = bases; store = store; selected = inside.selected; last = last; is_spent = inside.is_spent } in
+-- an engine answers as its keyspace does, at the moment that it used
+pub executes : {S E : Type 0} (blocks : S → Blocks) (step_of : S → S → Type 0) (engine inside : State S) (moment : ℕ) (words : Words) (reply : List Part) (bases : Bases) (store : S)
+    → inside ≡ record engine { last = max engine.last moment } → inside.is_spent ≡ false
+    → Answers {E = E} blocks step_of (record { bases = inside.bases; store = inside.store }) (record { bases = bases; store = store }) (record { db = inside.selected; moment = inside.last }) words (Ok reply)
+    → Executes blocks step_of moment engine words reply (record inside { bases = bases; store = store })
+executes {S = S} blocks step_of engine inside moment words reply bases store e alive a =
+    let new : State S = record inside { bases = bases; store = store } in
+    let served : Served step_of inside.store store = a.kept.served in
     record {
-      may = from_held blocks engine inside e last words reply (world_of blocks new) a.answers;
-      last = later ∙ ap (λ x. max x.last moment) e;
-      refused = λ r. let same = a.kept.refusals r in subst (λ x. Stays x new) e (record { bases = ap (λ k. k.bases) same; store = ap (λ k. k.store) same; selected = refl });
-      keeps = subst (λ x. Keeps blocks step_of x new) e (record { sound = a.kept.sound; served = a.kept.served; settings = a.kept.settings });
+      may = from_held blocks engine inside (max engine.last moment) e inside.last words reply (world_of blocks new) a.answers;
+      last = ap (λ x. x.last) e;
+      refused = λ r. let same = a.kept.refusals r in record { bases = ap (λ k. k.bases) same ∙ ap (λ x. x.bases) e; store = ap (λ k. k.store) same ∙ ap (λ x. x.store) e; selected = ap (λ x. x.selected) e };
+      keeps = record {
+        sound = a.kept.sound;
+        served = subst (λ s. Served step_of s store) (ap (λ x. x.store) e) served;
+        settings = record { limits = a.kept.settings.limits ∙ ap (λ x. x.bases.limits) e; seed = a.kept.settings.seed ∙ ap (λ x. x.bases.seed) e };
+      };
       alive = alive;
     }

@@ -67,9 +67,7 @@ impl<B: BlockStore> Engine<B> {
 
     /// This moment, in milliseconds, counts as the last one that was used where it is later.
     pub fn observe(&mut self, moment: u64)
-        ensures moment { self.new.last ≡ max self.old.last moment }
-        ensures stays { Stays self.old self.new }
-        ensures spent { self.new.is_spent ≡ self.old.is_spent }
+        ensures { self.new ≡ record self.old { last = max self.old.last moment } }
     {
         self.last = self.last.max(moment);
     }
@@ -84,8 +82,8 @@ impl<B: BlockStore> Engine<B> {
     /// Loads the host's file of this name, of at most so many bytes, into an engine that has no key or is spent. Database 0
     /// is selected afterwards. The moment, in milliseconds, counts as the last one that was used where that is later.
     ///
-    /// `Refused` comes exactly where the format excludes the file, with its first fault; `Host` only where the host's count
-    /// of faults rose; `Limit` exactly where the file has more bytes than the limit. After each of them the engine has no key.
+    /// `Refused` comes exactly where the format excludes the file, with its first fault; `Host` exactly where the host's
+    /// count of faults rose; `Limit` exactly where the file has more bytes than the limit. After each of them the engine has no key.
     pub fn load<H: Host>(
         &mut self,
         host: &mut H,
@@ -101,7 +99,7 @@ impl<B: BlockStore> Engine<B> {
         ensures spent_before { self.old.is_spent ≡ true → (result ≡ Err LoadFault.Memory) × Stays self.old self.new × (host.new ≡ host.old) }
         ensures keeps { Keeps B.blocks B.step self.old self.new }
     {
-        self.last = self.last.max(moment);
+        self.observe(moment);
         if self.is_spent {
             return Err(LoadFault::Memory);
         }
@@ -124,7 +122,7 @@ impl<B: BlockStore> Engine<B> {
         ensures spent_before { self.old.is_spent ≡ true → (is_err result ≡ true) × Stays self.old self.new }
         ensures keeps { Keeps B.blocks B.step self.old self.new }
     {
-        self.last = self.last.max(moment);
+        self.observe(moment);
         if self.is_spent {
             return Err(AllocError);
         }

@@ -1,15 +1,17 @@
-use Rattle.std.proofs.Common.{subst, sym}
+use Rattle.std.proofs.Common.{subst, sym, ◌∙◌}
 use Rattle.keyspace.proofs.Uses.{Live-means}
 use Rattle.rdb_reader.specs.Loads.{Loads}
-use Rattle.redis_core.proofs.Steps.{kept_as_was}
+use Rattle.redis_core.specs.Engines.{Keeps}
+use Rattle.redis_core.proofs.Steps.{observed_keeps}
 use Rattle.redis_core.proofs.engine.Engine.load.Goals as goal
 
 pub returns-then-self-clause-keeps : goal.returns-then-self-clause-keeps
-returns-then-self-clause-keeps g c = kept_as_was _ _ c.args.self.now _ c.max-self-inside.result c.self.view_is c.self.invariant.sound
+returns-then-self-clause-keeps g c =
+    subst (Keeps g.B.BlockStore.blocks g.B.BlockStore.step c.args.self.now) c.self.view_is (observed_keeps _ _ c.args.self.now _ _ (c.self.view_is ∙ c.observe.ensures) c.self.invariant.sound)
 
 -- nothing is gone, so what was loaded is live
 pub returns-clause-loads : goal.returns-clause-loads
 returns-clause-loads g c alive =
     let new = c.load-loaded.new.keyspace in
-    subst (λ w. Loads (g.H.Host.seen c.args.host.now).files c.args.name.now c.args.limit c.max-self-inside.result w c.load-loaded.result)
-    (sym (Live-means 0 new.bases (g.B.BlockStore.blocks new.store) c.max-self-inside.result)) c.load-loaded.ensures.loads
+    subst (λ w. Loads (g.H.Host.seen c.args.host.now).files c.args.name.now c.args.limit c.self.inside.last w c.load-loaded.result)
+    (sym (Live-means 0 new.bases (g.B.BlockStore.blocks new.store) c.self.inside.last)) c.load-loaded.ensures.loads
