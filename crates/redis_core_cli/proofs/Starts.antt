@@ -4,6 +4,7 @@ use Rattle.std.specs.Prelude.{Option, None, Result, Ok, Err, true}
 use Rattle.blocks.specs.Plain.{Plain, plain_blocks, IsPlainStep}
 use Rattle.blocks.specs.Blocks.{no_blocks, Served, no_step}
 use Rattle.plain_world.specs.Worlds.{World, new_world}
+use Rattle.object_codec.specs.declared.limits.Limits.{Limits}
 use Rattle.keyspace.specs.Sound.{Sound}
 use Rattle.keyspace.proofs.Serving.{both}
 use Rattle.keyspace.specs.Databases.{means}
@@ -22,8 +23,8 @@ use Rattle.redis_core_cli.specs.Starting.{IsLoaded, NotLoaded, BeginsWith, Start
 use Rattle.redis_core_cli.specs.declared.ending.Ending.{Ending}
 
 -- an engine without a key holds the world of a server that was just begun, at whatever moment
-pub begun_world : (old new : Engine) (seed : ℕ) → Begun seed old → Stays old new → world_of new ≡ new_world
-begun_world old new seed b same =
+pub begun_world : (old new : Engine) (seed : ℕ) (limits : Limits) → Begun seed limits old → Stays old new → world_of new ≡ new_world
+begun_world old new seed limits b same =
     Live-means new.selected new.bases (plain_blocks new.store) new.last
     ∙ ap (λ db. means db new.bases (plain_blocks new.store)) (same.selected ∙ b.new.selected)
     ∙ ap (λ bases. means 0 bases (plain_blocks new.store)) same.bases
@@ -31,23 +32,25 @@ begun_world old new seed b same =
     ∙ b.new.empty
 
 -- a new engine is a first one, and one that was served more stays it
-pub first_new : (engine : Engine) (store : Plain) (seed : ℕ) → plain_blocks store ≡ no_blocks → engine.store ≡ store → engine.bases.seed ≡ seed → Sound engine.bases (plain_blocks engine.store) → IsFirst seed engine
-first_new engine store seed empty same is sound = record { seed_is = is; sound = sound; store = store; empty = empty; served = subst (Served IsPlainStep store) (sym same) no_step }
+pub first_new : (engine : Engine) (store : Plain) (seed : ℕ) (limits : Limits) → plain_blocks store ≡ no_blocks → engine.store ≡ store → engine.bases.seed ≡ seed → engine.bases.limits ≡ limits → Sound engine.bases (plain_blocks engine.store) → IsFirst seed limits engine
+first_new engine store seed limits empty same is are sound = record { seed_is = is; limits_are = are; sound = sound; store = store; empty = empty; served = subst (Served IsPlainStep store) (sym same) no_step }
 
-pub first_then : (old new : Engine) (seed : ℕ) → IsFirst seed old → Keeps plain_blocks IsPlainStep old new → IsFirst seed new
-first_then old new seed f keeps = record {
+pub first_then : (old new : Engine) (seed : ℕ) (limits : Limits) → IsFirst seed limits old → Keeps plain_blocks IsPlainStep old new → IsFirst seed limits new
+first_then old new seed limits f keeps = record {
   seed_is = keeps.settings.seed ∙ f.seed_is;
+  limits_are = keeps.settings.limits ∙ f.limits_are;
   sound = keeps.sound;
   store = f.store;
   empty = f.empty;
   served = both IsPlainStep f.store old.store new.store f.served keeps.served;
 }
 
-pub first_stays : (old new : Engine) (seed : ℕ) → IsFirst seed old → Stays old new → IsFirst seed new
-first_stays old new seed f same =
+pub first_stays : (old new : Engine) (seed : ℕ) (limits : Limits) → IsFirst seed limits old → Stays old new → IsFirst seed limits new
+first_stays old new seed limits f same =
     let S : Plain → Type 0 = λ store. Served IsPlainStep f.store store in
     record {
       seed_is = ap (λ bases. bases.seed) same.bases ∙ f.seed_is;
+      limits_are = ap (λ bases. bases.limits) same.bases ∙ f.limits_are;
       sound = subst (λ bases. Sound bases (plain_blocks new.store)) (sym same.bases) (subst (λ store. Sound old.bases (plain_blocks store)) (sym same.store) f.sound);
       store = f.store;
       empty = f.empty;
@@ -85,7 +88,8 @@ module _ (before after : HostSeen) (name : List ℕ) where
   host_counts fault ending e c = subst (λ x. CountsHost before after name (is_host x)) (sym e) (host_by fault c)
 
 -- what begins without a file
-pub fresh_starts : (files : Files) (options : words.Options) (moment : ℕ) (old new : Engine) → options.file ≡ None → Begun options.seed old → Stays old new → new.last ≡ max old.last moment → Starts files (options_read options) moment (Ok new)
-fresh_starts files options moment old new none b same last =
+pub fresh_starts : (files : Files) (options : words.Options) (moment : ℕ) (old new : Engine) → options.file ≡ None → Begun options.seed options.limits old → new ≡ record old { last = max old.last moment } → Starts files (options_read options) moment (Ok new)
+fresh_starts files options moment old new none b is =
     let P : Option (List ℕ) → Type 0 = λ o. BeginsWith files options.max_input o moment (world_of new) in
-    (subst P (ap (λ file. (options_read (record options { file = file })).file) (sym none)) (begun_world old new options.seed b same), first_stays old new options.seed b.first same, last_is old.last new.last moment b.new.last last)
+    let same : Stays old new = record { bases = ap (λ (e : Engine). e.bases) is; store = ap (λ (e : Engine). e.store) is; selected = ap (λ (e : Engine). e.selected) is } in
+    (subst P (ap (λ file. (options_read (record options { file = file })).file) (sym none)) (begun_world old new options.seed options.limits b same), first_stays old new options.seed options.limits b.first same, last_is old.last new.last moment b.new.last (ap (λ (e : Engine). e.last) is))

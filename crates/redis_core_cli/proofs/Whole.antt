@@ -22,7 +22,7 @@ use Rattle.redis_core_cli.specs.Notes.{Notes, refused_line, line_of}
 use Rattle.redis_core_cli.specs.Running.{Fails, Runs, begun, not_begun, RunsOf}
 use Rattle.redis_core_cli.specs.Starting.{Standing, ReadsMoment, IsLoaded, BeginsWith, Begins, NotLoaded, NotBegun, UsesHost, is_host}
 use Rattle.redis_core_cli.specs.Statuses.{status_of, ending_of}
-use Rattle.redis_core_cli.specs.Headline.{MayAnswer, never, Concludes, NoHostFault, NoOutputFault, RoseAt, NamesNoFile, CountsFaults, NotesStatus, IsTold, IsAbsent, AtFirst, IsLoadable, CanBegin, Excused, IsRefused, Exactly, Completes}
+use Rattle.redis_core_cli.specs.Headline.{MayAnswer, never, standing_clock, Concludes, NoHostFault, NoOutputFault, RoseAt, NamesNoFile, CountsFaults, NotesStatus, IsTold, IsAbsent, AtFirst, IsLoadable, CanBegin, Excused, IsRefused, Exactly, Completes}
 use Rattle.redis_core_cli.specs.declared.ending.Ending.{Ending}
 use Rattle.redis_core_cli.specs.declared.ending.Ending.TheVariants as endings
 use Rattle.redis_core_cli.proofs.Counted.{stayed, reads_at, reads_surely, writes_at, not_served, not_begun_status, six_is_host, host_at, host_same, host_surely, host_alone}
@@ -114,10 +114,10 @@ module _ (files : Files) (limit : ℕ) (name : List ℕ) (moment : ℕ) where
 
 module _ (before after : Outside) (noted noted' : SinkSeen) (ending : Ending) (line : Notes noted noted' (line_of ending)) where
   abbrev Ran : Options → Type 0
-  Ran options = Runs Begins MayAnswer never options before after ending
+  Ran options = Runs Begins MayAnswer never standing_clock options before after ending
 
   abbrev RanOf : Given → Type 0
-  RanOf given = RunsOf Begins MayAnswer never given before after ending
+  RanOf given = RunsOf Begins MayAnswer never standing_clock given before after ending
 
   -- the options are these
   ran_as : (given : Given) (options : Options) → RanOf given → given ≡ Run options → Ran options
@@ -129,7 +129,7 @@ module _ (before after : Outside) (noted noted' : SinkSeen) (ending : Ending) (l
   fails_read options f n le e = omega (arith, le, e, not_begun_status before.host.files options.max_input options.file f.moment ending f.why)
 
   run_counts : (options : Options) → Ran options → CountsFaults (Run options) before after (status_of ending)
-  run_counts options (begun first last ended b host s is) =
+  run_counts options (begun first last ended b host s reads is) =
       let P : Ending → Type 0 = λ e. CountsFaults (Run options) before after (status_of e) in
       subst P (sym is) (record {
         read = reads_at before.input after.input ended s.reads;
@@ -171,7 +171,7 @@ module _ (before after : Outside) (noted noted' : SinkSeen) (ending : Ending) (l
 
   wrong_alone : (given : Given) → RanOf given → status_of ending ≡ 1 → given ≡ Wrong
   wrong_alone Wrong r e = refl
-  wrong_alone (Run options) (begun first last ended b host s is) e = absurd (not_served ended 1 refl (ap status_of (sym is) ∙ e))
+  wrong_alone (Run options) (begun first last ended b host s reads is) e = absurd (not_served ended 1 refl (ap status_of (sym is) ∙ e))
   wrong_alone (Run options) (not_begun f) e = absurd (fails_read options f 1 (omega arith) e)
 
   -- the file is this one
@@ -183,7 +183,7 @@ module _ (before after : Outside) (noted noted' : SinkSeen) (ending : Ending) (l
 
   refused : (options : Options) → Ran options → (name bytes : List ℕ) (what : LoadKind) (at : ℕ) → options.file ≡ Some name → IsTold before.host.files name bytes → length bytes ≤ options.max_input
       → AtFirst before.clock (λ moment. IsFault bytes moment what at) → Excused (status_of ending) ⊎ ((status_of ending ≡ 7) × Notes noted noted' (refused_line what at))
-  refused options (begun first last ended b host s is) name bytes what at file t few fault =
+  refused options (begun first last ended b host s reads is) name bytes what at file t few fault =
       let l = loaded_as options name first file b in
       absurd (not_both l.bytes bytes first.last first.world what at (told_file before.host.files name bytes l.bytes t l.is) l.file (fault first.last first.clock b.moment))
   refused options (not_begun f) name bytes what at file t few fault =
@@ -209,15 +209,15 @@ module _ (before after : Outside) (noted noted' : SinkSeen) (ending : Ending) (l
 
   refused_alone : (given : Given) → RanOf given → status_of ending ≡ 7 → IsRefused given before noted noted'
   refused_alone Wrong r e = absurd (omega (arith, ap status_of r.0, e))
-  refused_alone (Run options) (begun first last ended b host s is) e = absurd (not_served ended 7 refl (ap status_of (sym is) ∙ e))
+  refused_alone (Run options) (begun first last ended b host s reads is) e = absurd (not_served ended 7 refl (ap status_of (sym is) ∙ e))
   refused_alone (Run options) (not_begun f) e = refusal options f options.file refl f.why ending refl e
 
   long : (options : Options) → Ran options → (name bytes : List ℕ) → options.file ≡ Some name → IsTold before.host.files name bytes → options.max_input < length bytes → Excused (status_of ending) ⊎ (status_of ending ≡ 9)
-  long options (begun first last ended b host s is) name bytes file t h = let l = loaded_as options name first file b in absurd (omega (arith, ap length (told_file before.host.files name bytes l.bytes t l.is), l.few, h))
+  long options (begun first last ended b host s reads is) name bytes file t h = let l = loaded_as options name first file b in absurd (omega (arith, ap length (told_file before.host.files name bytes l.bytes t l.is), l.few, h))
   long options (not_begun f) name bytes file t h = long_ends before.host.files options.max_input name f.moment bytes t h ending (not_loaded_as options name file f)
 
   absent : (options : Options) → Ran options → (name : List ℕ) → options.file ≡ Some name → IsAbsent before.host.files name → Excused (status_of ending)
-  absent options (begun first last ended b host s is) name file none = let l = loaded_as options name first file b in absurd (no_file before.host.files name l.bytes none l.is)
+  absent options (begun first last ended b host s reads is) name file none = let l = loaded_as options name first file b in absurd (no_file before.host.files name l.bytes none l.is)
   absent options (not_begun f) name file none = absent_excused before.host.files options.max_input name f.moment none ending (not_loaded_as options name file f)
 
   -- a run that could begin
@@ -228,7 +228,7 @@ module _ (before after : Outside) (noted noted' : SinkSeen) (ending : Ending) (l
       loadable_excused before.host.files options.max_input name f.moment can.bytes file.0 can.is can.few file.1 ending n
 
   served : (options : Options) → Ran options → CanBegin before options options.file → Excused (status_of ending) ⊎ ((ended : Ended) × (status_of ending ≡ status_of (ending_of ended)) × exactly.ServesExactly quits options.max_input before.input after.input ended)
-  served options (begun first last ended b host s is) can = inr (ended, ap status_of is, ends_exactly (MayAnswer options first) quits never options.max_input before.input after.input before.output after.output last ended s)
+  served options (begun first last ended b host s reads is) can = inr (ended, ap status_of is, ends_exactly (MayAnswer options first) quits never options.max_input before.input after.input before.output after.output last ended s)
   served options (not_begun f) can = inl (could_begin options f options.file can f.why)
 
   exactly_of : (given : Given) → RanOf given → Exactly given before after noted noted' (status_of ending)
@@ -269,7 +269,7 @@ module _ (before after : Outside) (noted noted' : SinkSeen) (ending : Ending) (l
 
   run_completes : (options : Options) → Ran options → (bytes : List ℕ) (asked : List Words) → CanBegin before options options.file → before.input.told ≡ Some bytes → Frames bytes asked Whole → length bytes < options.max_input
       → NoHostFault before after → NoReadFault before.input after.input → NoOutputFault options before after asked → (status_of ending ≡ 0) ⊎ (status_of ending ≡ 8)
-  run_completes options (begun first last ended b host s is) bytes asked can told frames few no_host no_read no_write =
+  run_completes options (begun first last ended b host s reads is) bytes asked can told frames few no_host no_read no_write =
       let P : Ending → Type 0 = λ e. (status_of e ≡ 0) ⊎ (status_of e ≡ 8) in
       let whole = completes (MayAnswer options first) quits never options.max_input before.input after.input before.output after.output last ended s bytes asked told frames few no_read (no_put_fault options first b asked no_write) in
       subst P (sym is) (whole_status ended whole)

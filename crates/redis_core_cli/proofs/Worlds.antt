@@ -1,5 +1,5 @@
 -- The worlds on an engine's way are those of a run.
-use Rattle.std.proofs.Common.{◌≡◌, ℕ, List, [], ◌∷◌, Option, refl, sym, ap, ◌∙◌, subst}
+use Rattle.std.proofs.Common.{◌≡◌, ◌⊎◌, inl, inr, ℕ, List, [], ◌∷◌, Option, refl, sym, ap, ◌∙◌, subst}
 use Rattle.blocks.specs.Plain.{plain_blocks, IsPlainStep}
 use Rattle.outside.specs.Clocks.{Answers}
 use Rattle.outside.specs.Streams.{SinkSeen}
@@ -10,13 +10,15 @@ use Rattle.plain_model.specs.Steps.{step}
 use Rattle.redis_core.specs.Engines.{Executes, quits}
 use Rattle.serving.proofs.Said.{served_as}
 use Rattle.serving.specs.Timed.{Timed}
+use Rattle.serving.specs.declared.ending.Ended.{Ended}
+use Rattle.serving.specs.declared.ending.Ended.TheVariants as served
 use Rattle.redis_core_cli.specs.Engines.{Engine, world_of, IsFirst}
 use Rattle.redis_core_cli.specs.Given.{Options, Given, Wrong, Run, Outside, options_read, given_read}
-use Rattle.redis_core_cli.specs.Headline.{MayAnswer, never}
+use Rattle.redis_core_cli.specs.Headline.{MayAnswer, never, standing_clock}
 use Rattle.redis_core_cli.specs.Running as running
-use Rattle.redis_core_cli.specs.Running.{Runs, begun, not_begun, RunsOf}
-use Rattle.redis_core_cli.specs.Starting.{ReadsMoment, BeginsWith, Begins}
-use Rattle.redis_core_cli.specs.Stepped.{standing_of, goes, is_spent, BeginsEngine, Steps, Finishes}
+use Rattle.redis_core_cli.specs.Running.{Runs, begun, not_begun, RunsOf, ReadsNoMore}
+use Rattle.redis_core_cli.specs.Starting.{Standing, ReadsMoment, BeginsWith, Begins}
+use Rattle.redis_core_cli.specs.Stepped.{standing_of, goes, is_spent, engine_clock, BeginsEngine, Steps, Finishes}
 use Rattle.redis_core_cli.specs.declared.words.Given as words
 use Rattle.redis_core_cli.specs.declared.words.Given.TheVariants as read
 use Rattle.redis_core_cli.specs.declared.words.Options as words_options
@@ -41,20 +43,37 @@ path_answers options (words ∷ asked) (reply ∷ replies) first last seed p =
       ran = (refl, world_of mid.engine, subst (λ s. step s (world_of first.engine) mid.engine.last words reply (world_of mid.engine)) seed p.1.answers.may, next.ran);
     }
 
+-- where all is answered, what is seen of the last state has its clock
+reads_seen : (last : Timed Engine) (seen : Standing) (ended : Ended) (clock : Option Answers) → (ended ≡ served.WriteFault) ⊎ ((ended ≡ served.Memory) ⊎ (seen ≡ standing_of last)) → ReadsNoMore ended last.clock clock → ReadsNoMore ended seen.clock clock
+reads_seen last seen ended clock (inl is) reads = subst (λ e. ReadsNoMore e seen.clock clock) (sym is) tt
+reads_seen last seen ended clock (inr (inl is)) reads = subst (λ e. ReadsNoMore e seen.clock clock) (sym is) tt
+reads_seen last seen ended clock (inr (inr is)) reads = subst (λ (s : Standing). ReadsNoMore ended s.clock clock) (sym is) reads
+
+-- a clock that was read no more
+pub reads_none : (ended : Ended) (clock : Option Answers) → ReadsNoMore ended clock clock
+reads_none served.Whole clock = refl
+reads_none served.Quit clock = refl
+reads_none served.Cut clock = refl
+reads_none served.ReadFault clock = refl
+reads_none served.Limit clock = refl
+reads_none (served.Protocol rule at) clock = refl
+reads_none served.Memory clock = tt
+reads_none served.WriteFault clock = tt
+
 -- a run of the engine is one of its worlds
-pub run_seen : (options : Options) (before after : Outside) (ending : Ending) → Steps options before after ending → Runs Begins MayAnswer never options before after ending
-run_seen options before after ending (begun first last ended b host s is) =
+pub run_seen : (options : Options) (before after : Outside) (ending : Ending) → Steps options before after ending → Runs Begins MayAnswer never standing_clock options before after ending
+run_seen options before after ending (begun first last ended b host s reads is) =
     let w = served_as (goes options first) (MayAnswer options (standing_of first)) quits is_spent never standing_of (λ asked replies last p. path_answers options asked replies first last b.is.seed_is p) options.max_input before.input after.input before.output after.output last ended s in
-    running.begun (standing_of first) w.0 ended b.begins host w.1 is
+    running.begun (standing_of first) w.0 ended b.begins host w.1 (reads_seen last w.0 ended after.clock w.2 reads) is
 run_seen options before after ending (not_begun f) = running.not_begun f
 
-pub run_of_seen : (given : Given) (before after : Outside) (ending : Ending) → RunsOf BeginsEngine goes is_spent given before after ending → RunsOf Begins MayAnswer never given before after ending
+pub run_of_seen : (given : Given) (before after : Outside) (ending : Ending) → RunsOf BeginsEngine goes is_spent engine_clock given before after ending → RunsOf Begins MayAnswer never standing_clock given before after ending
 run_of_seen Wrong before after ending r = r
 run_of_seen (Run options) before after ending r = run_seen options before after ending r
 
 -- an engine begins the run, at the moment that was read
 pub begins_engine : (options : Options) (before : Outside) (engine : Engine) (clock : Option Answers) (moment : ℕ) → ReadsMoment before.clock clock moment → BeginsWith before.host.files options.max_input options.file moment (world_of engine)
-    → IsFirst options.seed engine → engine.last ≡ moment → BeginsEngine options before (record { engine = engine; clock = clock })
+    → IsFirst options.seed options.limits engine → engine.last ≡ moment → BeginsEngine options before (record { engine = engine; clock = clock })
 begins_engine options before engine clock moment read world first last =
     let W : ℕ → Type 0 = λ m. BeginsWith before.host.files options.max_input options.file m (world_of engine) in
     record { begins = record { moment = subst (ReadsMoment before.clock clock) (sym last) read; world = subst W (sym last) world }; is = first }
@@ -64,5 +83,5 @@ pub finishes_as : (given read : Given) (before after : Outside) (noted noted' : 
 finishes_as given read before after noted noted' ending e f = let P : Given → Type 0 = λ g. Finishes g before after noted noted' ending in subst P (sym e) f
 
 -- a run with the options that were read is one of what was given
-pub run_read : (given : words.Given) (options : words_options.Options) (before after : Outside) (ending : Ending) → given ≡ read.Run options → Steps (options_read options) before after ending → RunsOf BeginsEngine goes is_spent (given_read given) before after ending
-run_read given options before after ending e s = let P : words.Given → Type 0 = λ g. RunsOf BeginsEngine goes is_spent (given_read g) before after ending in subst P (sym e) s
+pub run_read : (given : words.Given) (options : words_options.Options) (before after : Outside) (ending : Ending) → given ≡ read.Run options → Steps (options_read options) before after ending → RunsOf BeginsEngine goes is_spent engine_clock (given_read given) before after ending
+run_read given options before after ending e s = let P : words.Given → Type 0 = λ g. RunsOf BeginsEngine goes is_spent engine_clock (given_read g) before after ending in subst P (sym e) s

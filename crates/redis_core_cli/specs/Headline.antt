@@ -42,11 +42,15 @@ pub record MayAnswer (options : Options) (first : Standing) (asked : List Words)
 abbrev pub never : Standing → Bool
 never standing = false
 
+-- the clock's answers that follow
+abbrev pub standing_clock : Standing → Option Answers
+standing_clock standing = standing.clock
+
 -- the headline: a run, with its line in the notes, where the status alone is answered
 pub record Concludes (given : Given) (before after : Outside) (noted noted' : SinkSeen) (status : ℕ) : Type 0 where
   pub ending : Ending
   pub is : status ≡ status_of ending
-  pub run : RunsOf Begins MayAnswer never given before after ending
+  pub run : RunsOf Begins MayAnswer never standing_clock given before after ending
   pub line : Notes noted noted' (line_of ending)
 
 -- a count rose where a status came, and stayed where another did

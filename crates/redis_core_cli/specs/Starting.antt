@@ -100,9 +100,9 @@ abbrev pub LoadsNamed : Files → ℕ → List ℕ → ℕ → World → Result 
 LoadsNamed files limit name moment world (Ok x) = IsLoaded files limit name moment world
 LoadsNamed files limit name moment world (Err ending) = NotLoaded files limit name moment ending
 
--- what `start` answers, at this moment: an engine that begins the run, with the options' seed
+-- what `start` answers, at this moment: an engine that begins the run, with the options' seed and limits
 abbrev pub Starts : Files → Options → ℕ → Result Engine Ending → Type 0
-Starts files options moment (Ok engine) = BeginsWith files options.max_input options.file moment (world_of engine) × IsFirst options.seed engine × (engine.last ≡ moment)
+Starts files options moment (Ok engine) = BeginsWith files options.max_input options.file moment (world_of engine) × IsFirst options.seed options.limits engine × (engine.last ≡ moment)
 Starts files options moment (Err ending) = NotBegun files options.max_input options.file moment ending
 
 -- whether a run is ended by a fault of the host before it begins

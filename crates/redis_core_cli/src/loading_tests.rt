@@ -2,9 +2,9 @@
 
 use crate::ending::Ending;
 use crate::notes::note;
-use crate::test_runs::{clock_of, run_up_to};
+use crate::test_runs::run_up_to;
 use crate::top_call::redis_core;
-use outside::{MemHost, MemSink, MemSource};
+use outside::{Clock, ListClock, MemHost, MemSink, MemSource};
 use rdb_grammar::LoadKind;
 use std::alloc::{AllocError, Global};
 use std::test::Fail;
@@ -392,6 +392,7 @@ fn the_top_call(rt: HostRuntime) -> Result<(), Fail> {
     );
     let mut output = MemSink::new(vec![in rt.alloc(); 0u8; 100]?, Vec::new(rt.alloc()));
     let mut notes = MemSink::new(vec![in rt.alloc(); 0u8; 100]?, Vec::new(rt.alloc()));
+    let mut clock: Box<dyn Clock> = Box::new(rt.alloc(), ListClock::new(Vec::new(rt.alloc())))?;
     let status = redis_core(
         rt.alloc(),
         words.as_slice(),
@@ -399,7 +400,7 @@ fn the_top_call(rt: HostRuntime) -> Result<(), Fail> {
         &mut input,
         &mut output,
         &mut notes,
-        &mut clock_of(rt.alloc(), &[])?,
+        &mut clock,
     );
     assert_eq!(rt; status, 0);
     assert_eq!(rt; output.written(), b"$1\r\n5\r\n".as_slice());

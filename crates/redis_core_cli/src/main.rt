@@ -19,13 +19,14 @@ mod words;
 use crate::ending::Ending;
 use crate::notes::note;
 use crate::top_call::redis_core;
-use outside::{Clock, FileHost, StdSink, StdSource, SystemClock};
+use crate::words::behind;
+use outside::{Clock, FileHost, Sink, StdSink, StdSource, SystemClock};
 use std::alloc::AllocError;
 use std::env;
 use std::io::ErrorKind;
 use std::process::ExitCode;
 
-// The words behind the program's name. Words that are no text are wrong ones.
+// The program's name and the words behind it. Words that are no text are wrong ones.
 fn words_given(rt: &HostRuntime) -> Result<Vec<String>, Ending> {
     let words = match env::args(rt) {
         Ok(words) => words,
@@ -36,40 +37,44 @@ fn words_given(rt: &HostRuntime) -> Result<Vec<String>, Ending> {
             });
         }
     };
-    match words.skip(1).collect(rt.alloc()) {
+    match words.collect(rt.alloc()) {
         Ok(words) => Ok(words),
         Err(_) => Err(Ending::Memory),
     }
 }
 
-// The real clock.
-fn real_clock(rt: &HostRuntime) -> Result<Box<dyn Clock>, AllocError> {
-    Ok(Box::new(rt.alloc(), SystemClock::new(rt.clone()?))?)
+// Runs with these words over the real files, streams and clock, and answers the status.
+fn run_here<N: Sink>(rt: &HostRuntime, words: &[String], notes: &mut N) -> Result<u8, AllocError> {
+    let mut host = FileHost::new(rt);
+    let mut input = StdSource::new(rt.stdin());
+    let mut output = StdSink::new(rt.stdout());
+    let mut clock: Box<dyn Clock> = Box::new(rt.alloc(), SystemClock::new(rt.clone()?))?;
+    let alloc = rt.alloc();
+    Ok(redis_core(
+        alloc,
+        words,
+        &mut host,
+        &mut input,
+        &mut output,
+        notes,
+        &mut clock,
+    ))
+}
+
+// What is noted of a run that can't be begun, and its status.
+fn not_begun<N: Sink>(notes: &mut N, ending: Ending) -> u8 {
+    note(notes, ending);
+    ending.status()
 }
 
 fn main(rt: HostRuntime) -> ExitCode {
     let mut notes = StdSink::new(rt.stderr());
-    let words = match words_given(&rt) {
-        Ok(words) => words,
-        Err(ending) => {
-            note(&mut notes, ending);
-            return ExitCode::from(ending.status());
-        }
+    let status = match words_given(&rt) {
+        Err(ending) => not_begun(&mut notes, ending),
+        Ok(words) => match run_here(&rt, behind(&words), &mut notes) {
+            Ok(status) => status,
+            Err(_) => not_begun(&mut notes, Ending::Memory),
+        },
     };
-    let mut host = FileHost::new(&rt);
-    let mut input = StdSource::new(rt.stdin());
-    let mut output = StdSink::new(rt.stdout());
-    let Ok(mut clock) = real_clock(&rt) else {
-        note(&mut notes, Ending::Memory);
-        return ExitCode::from(Ending::Memory.status());
-    };
-    ExitCode::from(redis_core(
-        rt.alloc(),
-        &words,
-        &mut host,
-        &mut input,
-        &mut output,
-        &mut notes,
-        &mut clock,
-    ))
+    ExitCode::from(status)
 }

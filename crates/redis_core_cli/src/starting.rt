@@ -30,7 +30,7 @@ fn not_loaded(fault: LoadFault) -> Ending
 // An engine without a key.
 fn begin(alloc: Global, limits: Limits, seed: u64) -> Result<Engine<PlainStore>, Ending>
     requires { AreInRange limits }
-    ensures begun { IfOk result (λ engine. Begun seed engine) }
+    ensures begun { IfOk result (λ engine. Begun seed limits engine) }
     ensures memory { IfErr result (λ ending. ending ≡ Ending.Memory) }
 {
     match Engine::new(alloc, PlainStore::new(alloc), limits, seed) {
@@ -47,9 +47,9 @@ fn load_file<H: Host>(
     limit: u64,
     moment: u64,
 ) -> Result<(), Ending>
-    requires { Begun engine.old.bases.seed engine.old }
+    requires { Begun engine.old.bases.seed engine.old.bases.limits engine.old }
     ensures loads { LoadsNamed (H.seen host.old).files limit name.now moment (world_of engine.new) result }
-    ensures first { IsFirst engine.old.bases.seed engine.new }
+    ensures first { IsFirst engine.old.bases.seed engine.old.bases.limits engine.new }
     ensures moment { engine.new.last ≡ moment }
     ensures host { CountsHost (H.seen host.old) (H.seen host.new) name.now (host_failed result) }
 {

@@ -1,9 +1,8 @@
 //! Commands on strings on the top call. The expected replies are those of the Redis command reference; the texts of
 //! refusals are the program's own.
 
-use crate::test_runs::clock_of;
 use crate::top_call::redis_core;
-use outside::{MemHost, MemSink, MemSource};
+use outside::{Clock, ListClock, MemHost, MemSink, MemSource};
 use std::alloc::{AllocError, Global};
 use std::test::Fail;
 
@@ -304,7 +303,7 @@ fn ran(alloc: Global, requests: &[u8], room: usize) -> Result<Came, AllocError> 
     let mut input = MemSource::new(requests, Vec::new(alloc), Vec::new(alloc));
     let mut output = MemSink::new(vec![in alloc; 0u8; room]?, Vec::new(alloc));
     let mut notes = MemSink::new(vec![in alloc; 0u8; 100]?, Vec::new(alloc));
-    let mut clock = clock_of(alloc, &[])?;
+    let mut clock: Box<dyn Clock> = Box::new(alloc, ListClock::new(Vec::new(alloc)))?;
     let status = redis_core(
         alloc,
         &[],

@@ -8,11 +8,6 @@ use crate::words::{Given, Options, read_words};
 use outside::{Clock, Host, ListClock, Sink, Source};
 use std::alloc::{AllocError, Global};
 
-/// A clock with these answers, in milliseconds.
-pub fn clock_of(alloc: Global, answers: &[u64]) -> Result<Box<dyn Clock>, AllocError> {
-    Ok(Box::new(alloc, ListClock::new(Vec::from_slice(alloc, answers)?))?)
-}
-
 /// The run of these words, with a limit of one's own, in bytes.
 pub fn run_up_to<H: Host, I: Source, O: Sink, N: Sink>(
     alloc: Global,
@@ -32,6 +27,6 @@ pub fn run_up_to<H: Host, I: Source, O: Sink, N: Sink>(
             ..options
         }),
     };
-    let mut clock = clock_of(alloc, &[])?;
+    let mut clock: Box<dyn Clock> = Box::new(alloc, ListClock::new(Vec::new(alloc)))?;
     Ok(run_given(alloc, given, host, input, output, notes, &mut clock))
 }

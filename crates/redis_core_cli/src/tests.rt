@@ -4,6 +4,7 @@ ghost use Rattle.std.specs.Prelude.{◌≤◌, ◌^◌, Some, None};
 
 use crate::ending::Ending;
 use crate::test_runs::run_up_to;
+use crate::words::behind;
 use outside::{MemHost, MemSink, MemSource, Sink, WriteFault};
 use std::alloc::{AllocError, Global};
 use std::test::Fail;
@@ -282,5 +283,44 @@ fn long_replies(rt: HostRuntime) -> Result<(), Fail> {
     )?;
     assert_eq!(rt; ended, 0);
     assert!(rt; written.as_slice() == replies.as_slice());
+    Ok(())
+}
+
+// A value of several megabytes, which comes in pieces of 64 KiB.
+#[test]
+fn a_value_of_megabytes(rt: HostRuntime) -> Result<(), Fail> {
+    let value = vec![in rt.alloc(); b'v'; 4_000_000]?;
+    let mut stream = Vec::from_slice(rt.alloc(), b"*3\r\n$3\r\nSET\r\n$1\r\na\r\n$4000000\r\n")?;
+    stream.extend_from_slice(value.as_slice())?;
+    stream.extend_from_slice(
+        b"\r\n*2\r\n$6\r\nSTRLEN\r\n$1\r\na\r\n*2\r\n$3\r\nGET\r\n$1\r\na\r\n",
+    )?;
+    let mut replies = Vec::from_slice(rt.alloc(), b"+OK\r\n:4000000\r\n$4000000\r\n")?;
+    replies.extend_from_slice(value.as_slice())?;
+    replies.extend_from_slice(b"\r\n")?;
+    let (ended, written) = served(
+        rt.alloc(),
+        stream.as_slice(),
+        &[],
+        (&[], &[]),
+        4_000_100,
+        MANY_BYTES,
+    )?;
+    assert_eq!(rt; ended, 0);
+    assert!(rt; written.as_slice() == replies.as_slice());
+    Ok(())
+}
+
+#[test]
+fn words_behind_the_name(rt: HostRuntime) -> Result<(), Fail> {
+    let mut all = Vec::new(rt.alloc());
+    assert_eq!(rt; behind(all.as_slice()).len(), 0);
+    for word in ["redis-core", "--load", "f"] {
+        all.push(String::from_str(rt.alloc(), word)?)?;
+    }
+    let words = behind(all.as_slice());
+    assert_eq!(rt; words.len(), 2);
+    assert_eq!(rt; words[0].as_str(), "--load");
+    assert_eq!(rt; words[1].as_str(), "f");
     Ok(())
 }

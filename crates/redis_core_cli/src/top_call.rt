@@ -5,7 +5,7 @@ ghost use Rattle.object_codec.specs.Limits.{AreInRange};
 ghost use Rattle.redis_core_cli.specs.Given.{AreTaken, given_by, given_read, options_read};
 ghost use Rattle.redis_core_cli.specs.Starting.{ReadsMoment};
 ghost use Rattle.redis_core_cli.specs.Running.{RunsOf};
-ghost use Rattle.redis_core_cli.specs.Stepped.{BeginsEngine, goes, is_spent, Steps, Finishes, StepsStatus};
+ghost use Rattle.redis_core_cli.specs.Stepped.{BeginsEngine, goes, is_spent, engine_clock, Steps, Finishes, StepsStatus};
 ghost use Rattle.redis_core_cli.specs.Headline.{Concludes, CountsFaults, Exactly, Completes, NotesStatus};
 
 use crate::ending::{Ending, served_to};
@@ -61,7 +61,7 @@ fn run_words<H: Host, I: Source, O: Sink>(
     clock: &mut Box<dyn Clock>,
 ) -> Ending
     requires { AreTaken given }
-    ensures { RunsOf BeginsEngine goes is_spent (given_read given.entry) (record { host = H.seen host.old; input = I.seen input.old; output = O.seen output.old; clock = answers clock.old })
+    ensures { RunsOf BeginsEngine goes is_spent engine_clock (given_read given.entry) (record { host = H.seen host.old; input = I.seen input.old; output = O.seen output.old; clock = answers clock.old })
         (record { host = H.seen host.new; input = I.seen input.new; output = O.seen output.new; clock = answers clock.new }) result }
 {
     match given {

@@ -1,6 +1,6 @@
 //! The words behind the program's name.
 
-ghost use Rattle.std.specs.Prelude.{◌≡◌, None, Some, map, string_bytes};
+ghost use Rattle.std.specs.Prelude.{◌≡◌, None, Some, drop, map, string_bytes};
 ghost use Rattle.redis_core_cli.specs.Given.{AreTaken, AreUsable, given_by, given_read, options_read, usual};
 
 use object_codec::Limits;
@@ -42,6 +42,16 @@ impl<'a> Options<'a> {
             limits: Limits::default(),
             max_input: MAX_INPUT,
         }
+    }
+}
+
+/// The words behind the program's name, which is the first of all.
+pub fn behind(all: &[String]) -> &[String]
+    ensures { map string_bytes result.now ≡ drop 1 (map string_bytes all.now) }
+{
+    match all {
+        [] => all,
+        [_, words @ ..] => words,
     }
 }
 
