@@ -1,3 +1,4 @@
 pub mod Numerals
+pub mod Lives
 pub mod Lines
 pub mod Apart

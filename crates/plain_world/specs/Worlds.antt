@@ -69,3 +69,24 @@ put world key entry = with_base world (insert (world.bases world.selected) key e
 -- the world in which nothing stands at a key of the selected database
 abbrev pub remove : World → List ℕ → World
 remove world key = with_base world (map.remove (world.bases world.selected) key)
+
+-- the world in which this stands at a key of the selected database, unless it is gone at the moment already
+abbrev pub stand : World → ℕ → List ℕ → Entry → World
+stand world moment key entry = if in_time moment entry.deadline then put world key entry else remove world key
+
+-- the deadline of what stands at a key
+abbrev pub deadline_of : Option Entry → Option ℕ
+deadline_of None = None
+deadline_of (Some entry) = entry.deadline
+
+-- the world with another database selected
+abbrev pub selecting : World → ℕ → World
+selecting world number = record { bases = world.bases; selected = number }
+
+-- what stands at a key of a database
+abbrev pub look_in : World → ℕ → List ℕ → Option Entry
+look_in world number key = look (selecting world number) key
+
+-- the world in which this stands at a key of a database
+abbrev pub put_in : World → ℕ → List ℕ → Entry → World
+put_in world number key entry = selecting (put (selecting world number) key entry) world.selected

@@ -33,6 +33,62 @@ impl Line {
         Line { text: b"OK" }
     }
 
+    /// `PONG`.
+    pub fn pong() -> Line
+        ensures { result ≡ codes "PONG" }
+    {
+        Line { text: b"PONG" }
+    }
+
+    /// `none`, where TYPE finds no key.
+    pub fn none() -> Line
+        ensures { result ≡ codes "none" }
+    {
+        Line { text: b"none" }
+    }
+
+    /// `string`, the type's name.
+    pub fn string() -> Line
+        ensures { result ≡ codes "string" }
+    {
+        Line { text: b"string" }
+    }
+
+    /// `list`, the type's name.
+    pub fn list() -> Line
+        ensures { result ≡ codes "list" }
+    {
+        Line { text: b"list" }
+    }
+
+    /// `set`, the type's name.
+    pub fn set() -> Line
+        ensures { result ≡ codes "set" }
+    {
+        Line { text: b"set" }
+    }
+
+    /// `hash`, the type's name.
+    pub fn hash() -> Line
+        ensures { result ≡ codes "hash" }
+    {
+        Line { text: b"hash" }
+    }
+
+    /// `zset`, the name of the type of sorted sets.
+    pub fn zset() -> Line
+        ensures { result ≡ codes "zset" }
+    {
+        Line { text: b"zset" }
+    }
+
+    /// `stream`, the type's name.
+    pub fn stream() -> Line
+        ensures { result ≡ codes "stream" }
+    {
+        Line { text: b"stream" }
+    }
+
     /// The text.
     pub fn as_slice(&self) -> &[u8]
         ensures { result.now ≡ self.now }
