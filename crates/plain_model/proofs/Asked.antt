@@ -1,22 +1,35 @@
 -- What the words of a request tell of a command.
-use Rattle.std.proofs.Common.{◌≡◌, ℕ, ◌+◌, ◌<◌, ◌≤◌, ◌==◌, ◌%◌, ◌-◌, List, [], ◌∷◌, length, drop, Bool, true, false, Result, Ok, Err, refl, sym, ap, subst, ◌∙◌, arith}
-use Rattle.std.specs.Prelude.{◌&&◌, bytes_eq, nat_le, nat_lt, if◌then◌else◌}
+use Rattle.std.proofs.Common.{◌≡◌, ℕ, ◌+◌, ◌<◌, ◌≤◌, ◌==◌, ◌%◌, ◌-◌, List, [], ◌∷◌, ◌++◌, map, length, drop, Bool, true, false, Result, Ok, Err, Option, Some, None, refl, subst, arith}
+use Rattle.std.specs.Prelude.{◌&&◌, ◌||◌, bytes_eq, nat_le, nat_lt, int_lt, codes, ℤ, pos, negsuc, zero, suc, if◌then◌else◌}
 use Rattle.std.specs.List.{AllByRecursion}
-use Rattle.std.proofs.lemmas.Bool.{ne_eqb}
 use Rattle.std.proofs.lemmas.Bool.Decides.{Decides-eqb}
-use Rattle.std.proofs.lemmas.Bool.{leb-true}
+use Rattle.std.proofs.lemmas.Bool.{leb-true, ltb-true}
 use Rattle.plain_world.specs.Words.{Words, longest, in_lower_case}
-use Rattle.plain_model.specs.Shapes.{Kind, Plain, Whole, Offset, AllTold, and_then, all_told, fixed, repeated, Choice, chosen, with_choices}
-use Rattle.plain_model.specs.StringWords.{Read, Row, SetChoices, set_choices, pairs_of, string_rows, set_of, set_range_of, decrease_of}
+use Rattle.plain_model.specs.Shapes.{Kind, Plain, Whole, Offset, Span, Database, Told, told, AllTold, and_then, whole, span, database, all_told, Row, fixed, repeated, Choice, choice_of, choose, chosen, with_choices}
+use Rattle.plain_model.specs.StringWords.{set_choices, no_set_choices, getex_choices, no_getex_choices, pairs_of, string_rows, set_of, getex_of, set_range_of, decrease_of}
+use Rattle.plain_model.specs.KeyWords.{expire_choices, no_expire_options, expire_of, clash, copy_choices, no_copy_options, object_of, key_rows}
+use Rattle.plain_model.specs.ConnectionWords.{ping_words, flush_choices, connection_rows}
 use Rattle.std.specs.Prelude.{neg_ℤ}
-use Rattle.int_text.specs.Decimal.{is_i64}
-use Rattle.plain_model.specs.Meant.{string_command, meant}
+use Rattle.int_text.specs.Decimal.{is_i64, number_of}
+use Rattle.plain_model.specs.Meant.{of_family, rows, read_by, meant}
 use Rattle.plain_model.specs.declared.command.Command.{Command}
-use Rattle.plain_model.specs.declared.command.Command.TheVariants.{Strings}
+use Rattle.plain_model.specs.declared.command.Command.TheVariants.{Strings, Keys, Connection}
+use Rattle.plain_model.specs.declared.command.SetChoices.{SetChoices}
+use Rattle.plain_model.specs.declared.command.GetExChoices.{GetExChoices}
 use Rattle.plain_model.specs.declared.command.StringCommand.{StringCommand}
 use Rattle.plain_model.specs.declared.command.StringCommand.TheVariants as strings
+use Rattle.plain_model.specs.declared.keys.KeyCommand.{KeyCommand}
+use Rattle.plain_model.specs.declared.keys.KeyCommand.TheVariants as keys
+use Rattle.plain_model.specs.declared.keys.ExpireOptions.{ExpireOptions}
+use Rattle.plain_model.specs.declared.keys.CopyOptions.{CopyOptions}
+use Rattle.plain_model.specs.declared.connection.ConnectionCommand.{ConnectionCommand}
+use Rattle.plain_model.specs.declared.connection.ConnectionCommand.TheVariants as connection
+use Rattle.plain_model.specs.declared.times.Lifetime.{Lifetime}
+use Rattle.plain_model.specs.declared.times.Lifetime.TheVariants as lifetimes
+use Rattle.plain_model.specs.declared.times.Renewal.{Renewal}
+use Rattle.plain_model.specs.declared.times.Renewal.TheVariants as renewals
 use Rattle.plain_world.specs.declared.refusal.Refusal.{Refusal}
-use Rattle.plain_world.specs.declared.refusal.Refusal.TheVariants.{UnknownCommand, Syntax, Overflow, ValueOutOfRange}
+use Rattle.plain_world.specs.declared.refusal.Refusal.TheVariants.{WrongNumberOfArguments, Syntax, Overflow, ValueOutOfRange, InvalidExpireTime, DatabaseOutOfRange}
 use Rattle.plain_model.specs.declared.command.Condition.TheVariants.{Always, IfMissing, IfThere}
 
 -- what is made after something was told holds, if it holds of whatever is told
@@ -25,13 +38,14 @@ module _ {A B : Type 0} (P : B → Type 0) where
   then_told (Ok a) make h b e = h a refl b e
   then_told (Err refusal) make h b e = cc
 
-  then_has : (first : Result A Refusal) (make : A → Result B Refusal) → ((a : A) (b : B) → make a ≡ Ok b → P b) → (b : B) → and_then first make ≡ Ok b → P b
-  then_has (Ok a) make h b e = h a b e
-  then_has (Err refusal) make h b e = cc
-
 if_has : {B : Type 0} (P : B → Type 0) (test : Bool) (r s : Result B Refusal) → ((b : B) → r ≡ Ok b → P b) → ((b : B) → s ≡ Ok b → P b) → (b : B) → (if test then r else s) ≡ Ok b → P b
 if_has P true r s h k b e = h b e
 if_has P false r s h k b e = k b e
+
+-- the same, where the test held
+if_true : {B : Type 0} (P : B → Type 0) (test : Bool) (r : Result B Refusal) (refusal : Refusal) → (test ≡ true → (b : B) → r ≡ Ok b → P b) → (b : B) → (if test then r else Err refusal) ≡ Ok b → P b
+if_true P true r refusal h b e = h refl b e
+if_true P false r refusal h b e = cc
 
 never : {B : Type 0} (P : B → Type 0) (refusal : Refusal) (b : B) → Err refusal ≡ Ok b → P b
 never P refusal b e = cc
@@ -39,109 +53,209 @@ never P refusal b e = cc
 abbrev ok : {B : Type 0} → B → Result B Refusal
 ok b = Ok b
 
--- the command made is this one
+-- what is made is this one
 made : {B : Type 0} (P : B → Type 0) (x b : B) → P x → ok x ≡ ok b → P b
 made P x b h e = let same : x ≡ b = cc in subst P same h
 
--- a piece that SETRANGE writes ends at the greatest length at most
+-- what a word of this kind keeps
+abbrev pub Keeps : (kind : Kind) → Told kind → Type 0
+Keeps Plain word = Unit {0}
+Keeps Whole n = Unit {0}
+Keeps Offset n = Unit {0}
+Keeps Span n = int_lt (pos 0) n ≡ true
+Keeps Database n = n < 16
+
+abbrev pub AllKeep : (kinds : List Kind) → AllTold kinds → Type 0
+AllKeep [] a = Unit {0}
+AllKeep (kind ∷ kinds) a = Keeps kind a.0 × AllKeep kinds a.1
+
+span_keeps : (n a : ℤ) → span n ≡ Ok a → Keeps Span a
+span_keeps n a e = if_true (Keeps Span) (int_lt (pos 0) n) (Ok n) InvalidExpireTime (λ above b f. made (Keeps Span) n b above f) a e
+
+database_keeps : (n : ℤ) (a : ℕ) → database n ≡ Ok a → Keeps Database a
+database_keeps (pos n) a e = if_true (Keeps Database) (nat_lt n 16) (Ok n) DatabaseOutOfRange (λ below b f. made (Keeps Database) n b (ltb-true n 16 below) f) a e
+database_keeps (negsuc n) a e = cc
+
+told_keeps : (kind : Kind) (word : List ℕ) (a : Told kind) → told kind word ≡ Ok a → Keeps kind a
+told_keeps Plain word a e = tt
+told_keeps Whole word a e = tt
+told_keeps Offset word a e = tt
+told_keeps Span word a e = then_told (Keeps Span) (whole (number_of word)) span (λ n is b f. span_keeps n b f) a e
+told_keeps Database word a e = then_told (Keeps Database) (whole (number_of word)) database (λ n is b f. database_keeps n b f) a e
+
+all_told_keep : (kinds : List Kind) (words : Words) (a : AllTold kinds) → all_told kinds words ≡ Ok a → AllKeep kinds a
+all_told_keep [] words a e = tt
+all_told_keep (kind ∷ kinds) [] a e = cc
+all_told_keep (kind ∷ kinds) (word ∷ words) a e =
+    then_told (AllKeep (kind ∷ kinds)) (told kind word) (λ x. and_then (all_told kinds words) (λ rest. Ok (x, rest))) (λ x is.
+    then_told (AllKeep (kind ∷ kinds)) (all_told kinds words) (λ rest. Ok (x, rest)) (λ rest are b f.
+    made (AllKeep (kind ∷ kinds)) (x, rest) b (told_keeps kind word x is, all_told_keep kinds words rest are) f)) a e
+
+-- the options keep what each of them keeps
+module _ {A : Type 0} (Q : A → Type 0) where
+  abbrev pub EachKeeps : List (Choice A) → Type 0
+  EachKeeps choices = AllByRecursion (λ (choice : Choice A). (own : AllTold choice.kinds) (a : A) → AllKeep choice.kinds own → Q a → Q (choice.sets own a)) choices
+
+  abbrev ChoiceKeeps : Option (Choice A) → Type 0
+  ChoiceKeeps None = Unit {0}
+  ChoiceKeeps (Some choice) = (own : AllTold choice.kinds) (a : A) → AllKeep choice.kinds own → Q a → Q (choice.sets own a)
+
+  choice_keeps : (choices : List (Choice A)) (name : List ℕ) → EachKeeps choices → ChoiceKeeps (choice_of choices name)
+  choice_keeps [] name h = tt
+  choice_keeps (choice ∷ choices) name h =
+      elim (bytes_eq name choice.name) as (λ b. ChoiceKeeps (if b then Some choice else choice_of choices name)) [
+        | true ↦ h.0
+        | false ↦ choice_keeps choices name h.1
+      ]
+
+  choose_keeps : (before : A) (choice : Option (Choice A)) (words : Words) → ChoiceKeeps choice → Q before → (a : A × ℕ) → choose before choice words ≡ Ok a → Q a.0
+  choose_keeps before None words h q a e = cc
+  choose_keeps before (Some choice) words h q a e =
+      if_has (λ r. Q r.0) (nat_le (length choice.kinds) (length words)) (and_then (all_told choice.kinds words) (λ own. Ok (choice.sets own before, length choice.kinds))) (Err Syntax)
+      (then_told (λ r. Q r.0) (all_told choice.kinds words) (λ own. Ok (choice.sets own before, length choice.kinds)) (λ own are b f.
+      made (λ r. Q r.0) (choice.sets own before, length choice.kinds) b (h own before (all_told_keep choice.kinds words own are) q) f)) (never (λ r. Q r.0) Syntax) a e
+
+  chosen_keeps : (choices : List (Choice A)) → EachKeeps choices → (before : A) → Q before → (skip : ℕ) (words : Words) (a : A) → chosen choices before skip words ≡ Ok a → Q a
+  chosen_keeps choices h before q skip [] a e = made Q before a q e
+  chosen_keeps choices h before q (suc skip) (word ∷ words) a e = chosen_keeps choices h before q skip words a e
+  chosen_keeps choices h before q zero (word ∷ words) a e =
+      then_told Q (choose before (choice_of choices (in_lower_case word)) words) (λ read. chosen choices read.0 read.1 words)
+      (λ read is b f. chosen_keeps choices h read.0 (choose_keeps before (choice_of choices (in_lower_case word)) words (choice_keeps choices (in_lower_case word) h) q read is) read.1 words b f) a e
+
+-- what a row makes of words keeps what it makes of what they tell
+module _ {B : Type 0} (P : B → Type 0) where
+  abbrev RowKeeps : (Words → Result B Refusal) → Type 0
+  RowKeeps read = (words : Words) (c : B) → read words ≡ Ok c → P c
+
+  fixed_fits : (kinds : List Kind) (make : AllTold kinds → Result B Refusal) → ((a : AllTold kinds) → AllKeep kinds a → (c : B) → make a ≡ Ok c → P c) → RowKeeps (fixed kinds make)
+  fixed_fits kinds make h words c e =
+      if_has P (length words == length kinds) (and_then (all_told kinds words) make) (Err WrongNumberOfArguments) (then_told P (all_told kinds words) make (λ a is. h a (all_told_keep kinds words a is))) (never P WrongNumberOfArguments) c e
+
+  repeated_fits : (kinds : List Kind) (size : ℕ) (make : AllTold kinds → Words → Result B Refusal) → ((a : AllTold kinds) (rest : Words) (c : B) → make a rest ≡ Ok c → P c) → RowKeeps (repeated kinds size make)
+  repeated_fits kinds size make h words c e =
+      if_has P (nat_lt (length kinds) (length words) && ((length words - length kinds) % size == 0)) (and_then (all_told kinds words) (λ first. make first (drop (length kinds) words))) (Err WrongNumberOfArguments)
+      (then_told P (all_told kinds words) (λ first. make first (drop (length kinds) words)) (λ a is b. h a (drop (length kinds) words) b)) (never P WrongNumberOfArguments) c e
+
+  chosen_fits : {A : Type 0} (kinds : List Kind) (choices : List (Choice A)) (start : A) (make : AllTold kinds → A → Result B Refusal) (Q : A → Type 0) → EachKeeps Q choices × Q start → ((a : AllTold kinds) → AllKeep kinds a → (o : A) → Q o → (c : B) → make a o ≡ Ok c → P c) → RowKeeps (with_choices kinds choices start make)
+  chosen_fits kinds choices start make Q keep h words c e =
+      if_has P (nat_le (length kinds) (length words)) (and_then (all_told kinds words) (λ first. and_then (chosen choices start 0 (drop (length kinds) words)) (make first))) (Err WrongNumberOfArguments)
+      (then_told P (all_told kinds words) (λ first. and_then (chosen choices start 0 (drop (length kinds) words)) (make first)) (λ a is.
+      then_told P (chosen choices start 0 (drop (length kinds) words)) (make a) (λ o are. h a (all_told_keep kinds words a is) o (chosen_keeps Q choices keep.0 start keep.1 0 (drop (length kinds) words) o are)))) (never P WrongNumberOfArguments) c e
+
+-- a time that words give is above 0
+abbrev pub LastsLong : Lifetime → Type 0
+LastsLong lifetimes.Forever = Unit {0}
+LastsLong lifetimes.Kept = Unit {0}
+LastsLong (lifetimes.Until time) = int_lt (pos 0) time.n ≡ true
+
+abbrev pub RenewsLong : Renewal → Type 0
+RenewsLong renewals.Unchanged = Unit {0}
+RenewsLong renewals.Persist = Unit {0}
+RenewsLong (renewals.Until time) = int_lt (pos 0) time.n ≡ true
+
+-- a piece that SETRANGE writes ends at the greatest length at most, and times are above 0
 abbrev pub Fits : StringCommand → Type 0
 Fits (strings.SetRange key at piece) = 0 < length piece → at + length piece ≤ 536870912
+Fits (strings.Set key value options) = LastsLong options.lifetime
+Fits (strings.SetEx key n value) = int_lt (pos 0) n ≡ true
+Fits (strings.PSetEx key n value) = int_lt (pos 0) n ≡ true
+Fits (strings.GetEx key renewal) = RenewsLong renewal
 Fits other = Unit {0}
 
-fixed_fits : (kinds : List Kind) (make : AllTold kinds → Read) → ((a : AllTold kinds) (c : StringCommand) → make a ≡ Ok c → Fits c) → (words : Words) (c : StringCommand) → fixed kinds make words ≡ Ok c → Fits c
-fixed_fits kinds make h words c e = if_has Fits (length words == length kinds) _ _ (then_has Fits (all_told kinds words) make h) (never Fits _) c e
+-- a database is one of 16
+abbrev pub IsOneOf16 : Option ℕ → Type 0
+IsOneOf16 None = Unit {0}
+IsOneOf16 (Some number) = number < 16
 
-repeated_fits : (kinds : List Kind) (size : ℕ) (make : AllTold kinds → Words → Read) → ((a : AllTold kinds) (rest : Words) (c : StringCommand) → make a rest ≡ Ok c → Fits c) → (words : Words) (c : StringCommand) → repeated kinds size make words ≡ Ok c → Fits c
-repeated_fits kinds size make h words c e =
-    if_has Fits (nat_lt (length kinds) (length words) && ((length words - length kinds) % size == 0)) _ _
-    (then_has Fits (all_told kinds words) (λ first. make first (drop (length kinds) words)) (λ a b. h a (drop (length kinds) words) b)) (never Fits _) c e
+abbrev pub FitsKeys : KeyCommand → Type 0
+FitsKeys (keys.Copy from to options) = IsOneOf16 options.db
+FitsKeys (keys.MoveKey key number) = number < 16
+FitsKeys other = Unit {0}
 
-chosen_fits : {A : Type 0} (kinds : List Kind) (choices : List (Choice A)) (start : A) (make : AllTold kinds → A → Read) → ((a : AllTold kinds) (o : A) (c : StringCommand) → make a o ≡ Ok c → Fits c) → (words : Words) (c : StringCommand) → with_choices kinds choices start make words ≡ Ok c → Fits c
-chosen_fits kinds choices start make h words c e =
-    if_has Fits (nat_le (length kinds) (length words)) _ _
-    (then_has Fits (all_told kinds words) (λ first. and_then (chosen choices start 0 (drop (length kinds) words)) (make first)) (λ a. then_has Fits (chosen choices start 0 (drop (length kinds) words)) (make a) (h a))) (never Fits _) c e
+abbrev pub FitsConnection : ConnectionCommand → Type 0
+FitsConnection (connection.Select number) = number < 16
+FitsConnection other = Unit {0}
+
+abbrev pub FitsCommand : Command → Type 0
+FitsCommand (Strings c) = Fits c
+FitsCommand (Keys c) = FitsKeys c
+FitsCommand (Connection c) = FitsConnection c
 
 range_fits : (key : List ℕ) (at : ℕ) (piece : List ℕ) (c : StringCommand) → set_range_of key at piece ≡ Ok c → Fits c
 range_fits key at piece c e =
     elim (length piece == 0) as (λ b. (length piece == 0) ≡ b → (if b then Ok (strings.SetRange key at piece) else (if nat_le (at + length piece) longest then Ok (strings.SetRange key at piece) else Err ValueOutOfRange)) ≡ Ok c → Fits c) [
       | true ↦ λ none. made Fits (strings.SetRange key at piece) c (λ some. absurd (no_length piece none some))
-      | false ↦ λ some. if_fits some
+      | false ↦ λ some f. if_true Fits (nat_le (at + length piece) longest) (Ok (strings.SetRange key at piece)) ValueOutOfRange (λ t b. made Fits (strings.SetRange key at piece) b (λ h. leb-true (at + length piece) longest t)) c f
     ] refl e
   where
     no_length : (piece : List ℕ) → (length piece == 0) ≡ true → 0 < length piece → ⊥
     no_length piece e h = omega (arith, (Decides-eqb (length piece) 0).0 e)
 
-    if_fits : (length piece == 0) ≡ false → (if nat_le (at + length piece) longest then Ok (strings.SetRange key at piece) else Err ValueOutOfRange) ≡ Ok c → Fits c
-    if_fits some f =
-        elim (nat_le (at + length piece) longest) as (λ b. nat_le (at + length piece) longest ≡ b → (if b then Ok (strings.SetRange key at piece) else Err ValueOutOfRange) ≡ Ok c → Fits c) [
-          | true ↦ λ t. made Fits (strings.SetRange key at piece) c (λ h. leb-true (at + length piece) longest t)
-          | false ↦ λ t. never Fits _ c
-        ] refl f
+set_choices_keep : EachKeeps (λ (o : SetChoices). LastsLong o.lifetime) set_choices
+set_choices_keep = (λ own o keeps q. q, (λ own o keeps q. q, (λ own o keeps q. q, (λ own o keeps q. tt, (λ own o keeps q. keeps.0, (λ own o keeps q. keeps.0, (λ own o keeps q. keeps.0, (λ own o keeps q. keeps.0, tt))))))))
 
-set_fits : (key value : List ℕ) (o : SetChoices) (c : StringCommand) → set_of key value o ≡ Ok c → Fits c
-set_fits key value o c =
-    let own : StringCommand = strings.Set key value (record { condition = if o.nx then IfMissing else (if o.xx then IfThere else Always); get = o.get }) in
-    if_has Fits (o.nx && o.xx) (Err Syntax) (Ok own) (never Fits Syntax) (λ b. made Fits own b tt) c
+set_fits : (key value : List ℕ) (o : SetChoices) → LastsLong o.lifetime → (c : StringCommand) → set_of key value o ≡ Ok c → Fits c
+set_fits key value o long c =
+    let own : StringCommand = strings.Set key value (record { condition = if o.nx then IfMissing else (if o.xx then IfThere else Always); get = o.get; lifetime = o.lifetime }) in
+    if_has Fits (o.nx && o.xx || o.twice) (Err Syntax) (Ok own) (never Fits Syntax) (λ b. made Fits own b long) c
 
-rows_fit : AllByRecursion (λ (row : Row). (words : Words) (c : StringCommand) → row.read words ≡ Ok c → Fits c) string_rows
-rows_fit = (
-  fixed_fits (Plain ∷ []) (λ a. Ok (strings.Get a.0)) (λ a c. made Fits (strings.Get a.0) c tt),
-  (
-    chosen_fits (Plain ∷ Plain ∷ []) set_choices (record { nx = false; xx = false; get = false }) (λ a o. set_of a.0 a.1.0 o) (λ a o c. set_fits a.0 a.1.0 o c),
-    (
-      fixed_fits (Plain ∷ Plain ∷ []) (λ a. Ok (strings.SetNx a.0 a.1.0)) (λ a c. made Fits (strings.SetNx a.0 a.1.0) c tt),
-      (
-        fixed_fits (Plain ∷ Plain ∷ []) (λ a. Ok (strings.GetSet a.0 a.1.0)) (λ a c. made Fits (strings.GetSet a.0 a.1.0) c tt),
-        (
-          fixed_fits (Plain ∷ []) (λ a. Ok (strings.GetDel a.0)) (λ a c. made Fits (strings.GetDel a.0) c tt),
-          (
-            repeated_fits [] 1 (λ a keys. Ok (strings.MGet keys)) (λ a keys c. made Fits (strings.MGet keys) c tt),
-            (
-              repeated_fits [] 2 (λ a words. Ok (strings.MSet (pairs_of words))) (λ a words c. made Fits (strings.MSet (pairs_of words)) c tt),
-              (
-                repeated_fits [] 2 (λ a words. Ok (strings.MSetNx (pairs_of words))) (λ a words c. made Fits (strings.MSetNx (pairs_of words)) c tt),
-                (
-                  fixed_fits (Plain ∷ Plain ∷ []) (λ a. Ok (strings.Append a.0 a.1.0)) (λ a c. made Fits (strings.Append a.0 a.1.0) c tt),
-                  (
-                    fixed_fits (Plain ∷ []) (λ a. Ok (strings.StrLen a.0)) (λ a c. made Fits (strings.StrLen a.0) c tt),
-                    (
-                      fixed_fits (Plain ∷ Whole ∷ Whole ∷ []) (λ a. Ok (strings.GetRange a.0 a.1.0 a.1.1.0)) (λ a c. made Fits (strings.GetRange a.0 a.1.0 a.1.1.0) c tt),
-                      (
-                        fixed_fits (Plain ∷ Offset ∷ Plain ∷ []) (λ a. set_range_of a.0 a.1.0 a.1.1.0) (λ a c. range_fits a.0 a.1.0 a.1.1.0 c),
-                        (
-                          fixed_fits (Plain ∷ []) (λ a. Ok (strings.Incr a.0)) (λ a c. made Fits (strings.Incr a.0) c tt),
-                          (
-                            fixed_fits (Plain ∷ []) (λ a. Ok (strings.Decr a.0)) (λ a c. made Fits (strings.Decr a.0) c tt),
-                            (
-                              fixed_fits (Plain ∷ Whole ∷ []) (λ a. Ok (strings.IncrBy a.0 a.1.0)) (λ a c. made Fits (strings.IncrBy a.0 a.1.0) c tt),
-                              (
-                                fixed_fits (Plain ∷ Whole ∷ []) (λ a. decrease_of a.0 a.1.0) (λ a c. if_has Fits (is_i64 (neg_ℤ a.1.0)) (Ok (strings.DecrBy a.0 a.1.0)) (Err Overflow) (λ b. made Fits (strings.DecrBy a.0 a.1.0) b tt) (never Fits Overflow) c),
-                                tt,
-                              ),
-                            ),
-                          ),
-                        ),
-                      ),
-                    ),
-                  ),
-                ),
-              ),
-            ),
-          ),
-        ),
-      ),
-    ),
-  ),
-)
+getex_choices_keep : EachKeeps (λ (o : GetExChoices). RenewsLong o.renewal) getex_choices
+getex_choices_keep = (λ own o keeps q. tt, (λ own o keeps q. keeps.0, (λ own o keeps q. keeps.0, (λ own o keeps q. keeps.0, (λ own o keeps q. keeps.0, tt)))))
 
-abbrev FitsCommand : Command → Type 0
-FitsCommand (Strings c) = Fits c
+getex_fits : (key : List ℕ) (o : GetExChoices) → RenewsLong o.renewal → (c : StringCommand) → getex_of key o ≡ Ok c → Fits c
+getex_fits key o long c = if_has Fits o.twice (Err Syntax) (Ok (strings.GetEx key o.renewal)) (never Fits Syntax) (λ b. made Fits (strings.GetEx key o.renewal) b long) c
 
-found_fits : (rows : List Row) → AllByRecursion (λ (row : Row). (words : Words) (c : StringCommand) → row.read words ≡ Ok c → Fits c) rows → (name : List ℕ) (words : Words) (c : Command) → string_command rows name words (Err UnknownCommand) ≡ Ok c → FitsCommand c
+expire_choices_keep : EachKeeps (λ (o : ExpireOptions). Unit {0}) expire_choices
+expire_choices_keep = (λ own o keeps q. tt, (λ own o keeps q. tt, (λ own o keeps q. tt, (λ own o keeps q. tt, tt))))
+
+copy_choices_keep : EachKeeps (λ (o : CopyOptions). IsOneOf16 o.db) copy_choices
+copy_choices_keep = (λ own o keeps q. keeps.0, (λ own o keeps q. q, tt))
+
+flush_choices_keep : EachKeeps (λ (o : Unit {0}). Unit {0}) flush_choices
+flush_choices_keep = (λ own o keeps q. tt, (λ own o keeps q. tt, tt))
+
+ping_fits : (words : Words) (c : ConnectionCommand) → ping_words words ≡ Ok c → FitsConnection c
+ping_fits [] c e = made FitsConnection (connection.Ping None) c tt e
+ping_fits (text ∷ []) c e = made FitsConnection (connection.Ping (Some text)) c tt e
+ping_fits (text ∷ more ∷ words) c e = cc
+
+abbrev RowFits : {A : Type 0} → (A → Type 0) → Row A → Type 0
+RowFits {A} P row = (words : Words) (c : A) → row.read words ≡ Ok c → P c
+
+string_rows_fit : AllByRecursion (RowFits Fits) string_rows
+string_rows_fit = (fixed_fits Fits (Plain ∷ []) (λ a. Ok (strings.Get a.0)) (λ a keeps c. made Fits (strings.Get a.0) c tt), (chosen_fits Fits (Plain ∷ Plain ∷ []) set_choices no_set_choices (λ a o. set_of a.0 a.1.0 o) (λ o. LastsLong o.lifetime) (set_choices_keep, tt) (λ a keeps o long c. set_fits a.0 a.1.0 o long c), (fixed_fits Fits (Plain ∷ Plain ∷ []) (λ a. Ok (strings.SetNx a.0 a.1.0)) (λ a keeps c. made Fits (strings.SetNx a.0 a.1.0) c tt), (fixed_fits Fits (Plain ∷ Span ∷ Plain ∷ []) (λ a. Ok (strings.SetEx a.0 a.1.0 a.1.1.0)) (λ a keeps c. made Fits (strings.SetEx a.0 a.1.0 a.1.1.0) c keeps.1.0), (fixed_fits Fits (Plain ∷ Span ∷ Plain ∷ []) (λ a. Ok (strings.PSetEx a.0 a.1.0 a.1.1.0)) (λ a keeps c. made Fits (strings.PSetEx a.0 a.1.0 a.1.1.0) c keeps.1.0), (fixed_fits Fits (Plain ∷ Plain ∷ []) (λ a. Ok (strings.GetSet a.0 a.1.0)) (λ a keeps c. made Fits (strings.GetSet a.0 a.1.0) c tt), (fixed_fits Fits (Plain ∷ []) (λ a. Ok (strings.GetDel a.0)) (λ a keeps c. made Fits (strings.GetDel a.0) c tt), (chosen_fits Fits (Plain ∷ []) getex_choices no_getex_choices (λ a o. getex_of a.0 o) (λ o. RenewsLong o.renewal) (getex_choices_keep, tt) (λ a keeps o long c. getex_fits a.0 o long c), (repeated_fits Fits [] 1 (λ a words. Ok (strings.MGet words)) (λ a words c. made Fits (strings.MGet words) c tt), (repeated_fits Fits [] 2 (λ a words. Ok (strings.MSet (pairs_of words))) (λ a words c. made Fits (strings.MSet (pairs_of words)) c tt), (repeated_fits Fits [] 2 (λ a words. Ok (strings.MSetNx (pairs_of words))) (λ a words c. made Fits (strings.MSetNx (pairs_of words)) c tt), (fixed_fits Fits (Plain ∷ Plain ∷ []) (λ a. Ok (strings.Append a.0 a.1.0)) (λ a keeps c. made Fits (strings.Append a.0 a.1.0) c tt), (fixed_fits Fits (Plain ∷ []) (λ a. Ok (strings.StrLen a.0)) (λ a keeps c. made Fits (strings.StrLen a.0) c tt), (fixed_fits Fits (Plain ∷ Whole ∷ Whole ∷ []) (λ a. Ok (strings.GetRange a.0 a.1.0 a.1.1.0)) (λ a keeps c. made Fits (strings.GetRange a.0 a.1.0 a.1.1.0) c tt), (fixed_fits Fits (Plain ∷ Offset ∷ Plain ∷ []) (λ a. set_range_of a.0 a.1.0 a.1.1.0) (λ a keeps c. range_fits a.0 a.1.0 a.1.1.0 c), (fixed_fits Fits (Plain ∷ []) (λ a. Ok (strings.Incr a.0)) (λ a keeps c. made Fits (strings.Incr a.0) c tt), (fixed_fits Fits (Plain ∷ []) (λ a. Ok (strings.Decr a.0)) (λ a keeps c. made Fits (strings.Decr a.0) c tt), (fixed_fits Fits (Plain ∷ Whole ∷ []) (λ a. Ok (strings.IncrBy a.0 a.1.0)) (λ a keeps c. made Fits (strings.IncrBy a.0 a.1.0) c tt), (fixed_fits Fits (Plain ∷ Whole ∷ []) (λ a. decrease_of a.0 a.1.0) (λ a keeps c. if_has Fits (is_i64 (neg_ℤ a.1.0)) (Ok (strings.DecrBy a.0 a.1.0)) (Err Overflow) (λ b. made Fits (strings.DecrBy a.0 a.1.0) b tt) (never Fits Overflow) c), tt)))))))))))))))))))
+
+key_rows_fit : AllByRecursion (RowFits FitsKeys) key_rows
+key_rows_fit = (repeated_fits FitsKeys [] 1 (λ a words. Ok (keys.Del words)) (λ a words c. made FitsKeys (keys.Del words) c tt), (repeated_fits FitsKeys [] 1 (λ a words. Ok (keys.Unlink words)) (λ a words c. made FitsKeys (keys.Unlink words) c tt), (repeated_fits FitsKeys [] 1 (λ a words. Ok (keys.Exists words)) (λ a words c. made FitsKeys (keys.Exists words) c tt), (repeated_fits FitsKeys [] 1 (λ a words. Ok (keys.Touch words)) (λ a words c. made FitsKeys (keys.Touch words) c tt), (fixed_fits FitsKeys (Plain ∷ []) (λ a. Ok (keys.TypeOf a.0)) (λ a keeps c. made FitsKeys (keys.TypeOf a.0) c tt), (chosen_fits FitsKeys (Plain ∷ Whole ∷ []) expire_choices no_expire_options (λ a o. expire_of keys.Expire a.0 a.1.0 o) (λ o. Unit {0}) (expire_choices_keep, tt) (λ a keeps o long c. if_has FitsKeys (clash o) (Err Syntax) (Ok (keys.Expire a.0 a.1.0 o)) (never FitsKeys Syntax) (λ b. made FitsKeys (keys.Expire a.0 a.1.0 o) b tt) c), (chosen_fits FitsKeys (Plain ∷ Whole ∷ []) expire_choices no_expire_options (λ a o. expire_of keys.PExpire a.0 a.1.0 o) (λ o. Unit {0}) (expire_choices_keep, tt) (λ a keeps o long c. if_has FitsKeys (clash o) (Err Syntax) (Ok (keys.PExpire a.0 a.1.0 o)) (never FitsKeys Syntax) (λ b. made FitsKeys (keys.PExpire a.0 a.1.0 o) b tt) c), (chosen_fits FitsKeys (Plain ∷ Whole ∷ []) expire_choices no_expire_options (λ a o. expire_of keys.ExpireAt a.0 a.1.0 o) (λ o. Unit {0}) (expire_choices_keep, tt) (λ a keeps o long c. if_has FitsKeys (clash o) (Err Syntax) (Ok (keys.ExpireAt a.0 a.1.0 o)) (never FitsKeys Syntax) (λ b. made FitsKeys (keys.ExpireAt a.0 a.1.0 o) b tt) c), (chosen_fits FitsKeys (Plain ∷ Whole ∷ []) expire_choices no_expire_options (λ a o. expire_of keys.PExpireAt a.0 a.1.0 o) (λ o. Unit {0}) (expire_choices_keep, tt) (λ a keeps o long c. if_has FitsKeys (clash o) (Err Syntax) (Ok (keys.PExpireAt a.0 a.1.0 o)) (never FitsKeys Syntax) (λ b. made FitsKeys (keys.PExpireAt a.0 a.1.0 o) b tt) c), (fixed_fits FitsKeys (Plain ∷ []) (λ a. Ok (keys.Ttl a.0)) (λ a keeps c. made FitsKeys (keys.Ttl a.0) c tt), (fixed_fits FitsKeys (Plain ∷ []) (λ a. Ok (keys.PTtl a.0)) (λ a keeps c. made FitsKeys (keys.PTtl a.0) c tt), (fixed_fits FitsKeys (Plain ∷ []) (λ a. Ok (keys.ExpireTime a.0)) (λ a keeps c. made FitsKeys (keys.ExpireTime a.0) c tt), (fixed_fits FitsKeys (Plain ∷ []) (λ a. Ok (keys.PExpireTime a.0)) (λ a keeps c. made FitsKeys (keys.PExpireTime a.0) c tt), (fixed_fits FitsKeys (Plain ∷ []) (λ a. Ok (keys.Persist a.0)) (λ a keeps c. made FitsKeys (keys.Persist a.0) c tt), (fixed_fits FitsKeys (Plain ∷ Plain ∷ []) (λ a. Ok (keys.Rename a.0 a.1.0)) (λ a keeps c. made FitsKeys (keys.Rename a.0 a.1.0) c tt), (fixed_fits FitsKeys (Plain ∷ Plain ∷ []) (λ a. Ok (keys.RenameNx a.0 a.1.0)) (λ a keeps c. made FitsKeys (keys.RenameNx a.0 a.1.0) c tt), (chosen_fits FitsKeys (Plain ∷ Plain ∷ []) copy_choices no_copy_options (λ a o. Ok (keys.Copy a.0 a.1.0 o)) (λ o. IsOneOf16 o.db) (copy_choices_keep, tt) (λ a keeps o within c. made FitsKeys (keys.Copy a.0 a.1.0 o) c within), (fixed_fits FitsKeys (Plain ∷ Database ∷ []) (λ a. Ok (keys.MoveKey a.0 a.1.0)) (λ a keeps c. made FitsKeys (keys.MoveKey a.0 a.1.0) c keeps.1.0), (fixed_fits FitsKeys [] (λ a. Ok keys.RandomKey) (λ a keeps c. made FitsKeys keys.RandomKey c tt), (fixed_fits FitsKeys (Plain ∷ Plain ∷ []) (λ a. object_of a.0 a.1.0) (λ a keeps c. if_has FitsKeys (bytes_eq (in_lower_case a.0) (codes "encoding")) (Ok (keys.ObjectEncoding a.1.0)) (Err Syntax) (λ b. made FitsKeys (keys.ObjectEncoding a.1.0) b tt) (never FitsKeys Syntax) c), tt))))))))))))))))))))
+
+connection_rows_fit : AllByRecursion (RowFits FitsConnection) connection_rows
+connection_rows_fit = (ping_fits, (fixed_fits FitsConnection (Plain ∷ []) (λ a. Ok (connection.Echo a.0)) (λ a keeps c. made FitsConnection (connection.Echo a.0) c tt), ((λ words c. made FitsConnection connection.Quit c tt), (fixed_fits FitsConnection (Database ∷ []) (λ a. Ok (connection.Select a.0)) (λ a keeps c. made FitsConnection (connection.Select a.0) c keeps.0), (fixed_fits FitsConnection [] (λ a. Ok connection.DbSize) (λ a keeps c. made FitsConnection connection.DbSize c tt), (chosen_fits FitsConnection [] flush_choices tt (λ a o. Ok connection.FlushDb) (λ o. Unit {0}) (flush_choices_keep, tt) (λ a keeps o long c. made FitsConnection connection.FlushDb c tt), (chosen_fits FitsConnection [] flush_choices tt (λ a o. Ok connection.FlushAll) (λ o. Unit {0}) (flush_choices_keep, tt) (λ a keeps o long c. made FitsConnection connection.FlushAll c tt), tt)))))))
+
+family_fits : {A : Type 0} (family : A → Command) (P : A → Type 0) → ((a : A) → P a → FitsCommand (family a)) → (own : List (Row A)) → AllByRecursion (RowFits P) own → (others : List (Row Command)) → AllByRecursion (RowFits FitsCommand) others → AllByRecursion (RowFits FitsCommand) (map (of_family family) own ++ others)
+family_fits family P fits [] h others k = k
+family_fits family P fits (row ∷ own) h others k =
+    (λ words c e. then_told FitsCommand (row.read words) (λ command. Ok (family command)) (λ a is b f. made FitsCommand (family a) b (fits a (h.0 words a is)) f) c e, family_fits family P fits own h.1 others k)
+
+family_alone : {A : Type 0} (family : A → Command) (P : A → Type 0) → ((a : A) → P a → FitsCommand (family a)) → (own : List (Row A)) → AllByRecursion (RowFits P) own → AllByRecursion (RowFits FitsCommand) (map (of_family family) own)
+family_alone family P fits [] h = tt
+family_alone family P fits (row ∷ own) h =
+    (λ words c e. then_told FitsCommand (row.read words) (λ command. Ok (family command)) (λ a is b f. made FitsCommand (family a) b (fits a (h.0 words a is)) f) c e, family_alone family P fits own h.1)
+
+rows_fit : AllByRecursion (RowFits FitsCommand) rows
+rows_fit =
+    let last = map (of_family Connection) connection_rows in
+    family_fits Strings Fits (λ a h. h) string_rows string_rows_fit (map (of_family Keys) key_rows ++ last)
+    (family_fits Keys FitsKeys (λ a h. h) key_rows key_rows_fit last
+    (family_alone Connection FitsConnection (λ a h. h) connection_rows connection_rows_fit))
+
+found_fits : (all : List (Row Command)) → AllByRecursion (RowFits FitsCommand) all → (name : List ℕ) (words : Words) (c : Command) → read_by all name words ≡ Ok c → FitsCommand c
 found_fits [] h name words c e = cc
-found_fits (row ∷ rows) h name words c e =
-    if_has FitsCommand (bytes_eq name row.name) _ _ (then_told FitsCommand (row.read words) (λ own. Ok (Strings own)) (λ own is b f. made FitsCommand (Strings own) b (h.0 words own is) f)) (found_fits rows h.1 name words) c e
+found_fits (row ∷ all) h name words c e = if_has FitsCommand (bytes_eq name row.name) (row.read words) (read_by all name words) (λ b f. h.0 words b f) (λ b f. found_fits all h.1 name words b f) c e
+
+-- what each command keeps that words mean
+pub command_fits : (words : Words) (c : Command) → meant words ≡ Ok c → FitsCommand c
+command_fits [] c e = cc
+command_fits (name ∷ words) c e = found_fits rows rows_fit (in_lower_case name) words c e
 
 pub meant_fits : (words : Words) (c : StringCommand) → meant words ≡ Ok (Strings c) → Fits c
-meant_fits [] c e = cc
-meant_fits (name ∷ words) c e = found_fits string_rows rows_fit (in_lower_case name) words (Strings c) e
+meant_fits words c e = command_fits words (Strings c) e

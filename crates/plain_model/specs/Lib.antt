@@ -1,7 +1,12 @@
 pub mod Shapes
 pub mod StringWords
+pub mod KeyWords
+pub mod ConnectionWords
 pub mod Outcomes
+pub mod Deadlines
 pub mod StringSteps
+pub mod KeySteps
+pub mod ConnectionSteps
 pub mod Meant
 pub mod Steps
 pub mod Runs

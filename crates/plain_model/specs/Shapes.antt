@@ -2,11 +2,11 @@
 --
 -- First their number is looked at, then they are read from left to right, and each is refused where it stands. What words
 -- break together comes last. A command is a row: the kinds of its first words, and what may follow them.
-use Rattle.std.specs.Prelude.{ℕ, zero, suc, ◌-◌, ◌%◌, ◌==◌, List, [], ◌∷◌, length, drop, ℤ, pos, negsuc, Option, Some, None, Bool, ◌&&◌, nat_le, nat_lt, bytes_eq, Result, Ok, Err, if◌then◌else◌}
+use Rattle.std.specs.Prelude.{ℕ, zero, suc, ◌-◌, ◌%◌, ◌==◌, List, [], ◌∷◌, length, drop, ℤ, pos, negsuc, Option, Some, None, ◌&&◌, nat_le, nat_lt, int_lt, bytes_eq, Result, Ok, Err, if◌then◌else◌}
 use Rattle.plain_world.specs.Words.{Words, in_lower_case}
 use Rattle.int_text.specs.Decimal.{number_of}
 use Rattle.plain_world.specs.declared.refusal.Refusal.{Refusal}
-use Rattle.plain_world.specs.declared.refusal.Refusal.TheVariants.{WrongNumberOfArguments, Syntax, NotAnInteger, IndexOutOfRange}
+use Rattle.plain_world.specs.declared.refusal.Refusal.TheVariants.{WrongNumberOfArguments, Syntax, NotAnInteger, IndexOutOfRange, InvalidExpireTime, DatabaseOutOfRange}
 
 -- the first one's refusal, or what the rest makes of what it told
 abbrev pub and_then : {A B : Type 0} → Result A Refusal → (A → Result B Refusal) → Result B Refusal
@@ -21,12 +21,18 @@ pub data Kind : Type 0 where
   Whole : Kind
   -- such a number from 0 on
   Offset : Kind
+  -- such a number above 0, as a time
+  Span : Kind
+  -- such a number from 0 to 15, as a database
+  Database : Kind
 
 -- what a word of this kind tells
 abbrev pub Told : Kind → Type 0
 Told Plain = List ℕ
 Told Whole = ℤ
 Told Offset = ℕ
+Told Span = ℤ
+Told Database = ℕ
 
 abbrev pub whole : Option ℤ → Result ℤ Refusal
 whole None = Err NotAnInteger
@@ -36,11 +42,20 @@ abbrev pub offset : ℤ → Result ℕ Refusal
 offset (pos n) = Ok n
 offset (negsuc n) = Err IndexOutOfRange
 
+abbrev pub span : ℤ → Result ℤ Refusal
+span n = if int_lt (pos 0) n then Ok n else Err InvalidExpireTime
+
+abbrev pub database : ℤ → Result ℕ Refusal
+database (pos n) = if nat_lt n 16 then Ok n else Err DatabaseOutOfRange
+database (negsuc n) = Err DatabaseOutOfRange
+
 -- a word of this kind
 abbrev pub told : (kind : Kind) → List ℕ → Result (Told kind) Refusal
 told Plain word = Ok word
 told Whole word = whole (number_of word)
 told Offset word = and_then (whole (number_of word)) offset
+told Span word = and_then (whole (number_of word)) span
+told Database word = and_then (whole (number_of word)) database
 
 -- what words of these kinds tell
 abbrev pub AllTold : List Kind → Type 0
@@ -52,6 +67,11 @@ abbrev pub all_told : (kinds : List Kind) → Words → Result (AllTold kinds) R
 all_told [] words = Ok tt
 all_told (kind ∷ kinds) [] = Err WrongNumberOfArguments
 all_told (kind ∷ kinds) (word ∷ words) = and_then (told kind word) (λ a. and_then (all_told kinds words) (λ rest. Ok (a, rest)))
+
+-- a command's name in lower case, and how the words behind it are read
+pub record Row (A : Type 0) : Type 0 where
+  pub name : List ℕ
+  pub read : Words → Result A Refusal
 
 -- a row of just these words
 abbrev pub fixed : {A : Type 0} (kinds : List Kind) → (AllTold kinds → Result A Refusal) → Words → Result A Refusal

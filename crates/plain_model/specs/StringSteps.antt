@@ -1,12 +1,20 @@
 -- What string commands answer, and what they leave (Redis command reference, "Commands operating on strings").
-use Rattle.std.specs.Prelude.{◌≡◌, ℕ, suc, ◌+◌, ◌-◌, ◌==◌, List, [], ◌∷◌, ◌++◌, length, take, drop, replicate, map, ℤ, pos, negsuc, ◌+ℤ◌, ◌-ℤ◌, int_lt, Option, None, Some, is_some, Bool, true, false, not, ◌&&◌, nat_le, codes, if◌then◌else◌}
+use Rattle.std.specs.Prelude.{ℕ, suc, ◌+◌, ◌-◌, ◌==◌, List, [], ◌∷◌, ◌++◌, length, take, drop, replicate, map, ℤ, pos, negsuc, ◌+ℤ◌, ◌-ℤ◌, int_lt, Option, None, Some, is_some, Bool, true, false, not, ◌&&◌, nat_le, codes, if◌then◌else◌}
 use Rattle.int_text.specs.Decimal.{canonical}
-use Rattle.plain_world.specs.Worlds.{World, Value, Str, Entry, look, put, remove}
+use Rattle.plain_world.specs.Worlds.{World, Value, Str, Entry, look, put, remove, stand, deadline_of}
 use Rattle.int_text.specs.Decimal.{is_i64, number_of}
 use Rattle.plain_model.specs.Outcomes.{Outcome, tells, refused, leaves, IsOutcome}
+use Rattle.plain_model.specs.Deadlines.{with_due, from_zero, lasts_until, expire, persist}
 use Rattle.plain_world.specs.Words.{longest}
 use Rattle.plain_model.specs.declared.command.Condition.{Condition}
 use Rattle.plain_model.specs.declared.command.Condition.TheVariants.{Always, IfMissing, IfThere}
+use Rattle.plain_model.specs.declared.times.TimeUnit.{TimeUnit}
+use Rattle.plain_model.specs.declared.times.TimeUnit.TheVariants.{Seconds, Milliseconds}
+use Rattle.plain_model.specs.declared.times.TimeOrigin.TheVariants.{Now}
+use Rattle.plain_model.specs.declared.times.Lifetime.{Lifetime}
+use Rattle.plain_model.specs.declared.times.Lifetime.TheVariants as lifetimes
+use Rattle.plain_model.specs.declared.times.Renewal.{Renewal}
+use Rattle.plain_model.specs.declared.times.Renewal.TheVariants as renewals
 use Rattle.plain_model.specs.declared.command.StringCommand.{StringCommand}
 use Rattle.plain_model.specs.declared.command.StringCommand.TheVariants as strings
 use Rattle.plain_world.specs.declared.refusal.Refusal.TheVariants.{WrongType, NotAnInteger, Overflow, ValueOutOfRange}
@@ -49,11 +57,6 @@ abbrev pub string_or_null : Option Entry → Part
 string_or_null None = Null
 string_or_null (Some entry) = string_part entry.value
 
--- the deadline of what stands at a key
-abbrev pub deadline_of : Option Entry → Option ℕ
-deadline_of None = None
-deadline_of (Some entry) = entry.deadline
-
 -- The string at a key is changed, which keeps its deadline.
 abbrev pub change : World → List ℕ → List ℕ → World
 change old key bytes = put old key (record { value = Str bytes; deadline = deadline_of (look old key) })
@@ -94,8 +97,15 @@ range bytes a b =
 abbrev pub written_over : List ℕ → ℕ → List ℕ → List ℕ
 written_over bytes at piece = take at (bytes ++ replicate at 0) ++ piece ++ drop (at + length piece) bytes
 
-abbrev pub set : World → List ℕ → List ℕ → Condition → World
-set old key value condition = if allows condition (is_some (look old key)) then replace old key value else old
+-- the deadline that SET gives
+abbrev pub with_lifetime : World → ℕ → List ℕ → Lifetime → (Option ℕ → Outcome) → Outcome
+with_lifetime old moment key lifetimes.Forever answer = answer None
+with_lifetime old moment key lifetimes.Kept answer = answer (deadline_of (look old key))
+with_lifetime old moment key (lifetimes.Until time) answer = with_due old moment time (λ deadline. answer (Some (from_zero deadline)))
+
+-- SET writes where its condition allows it. What it writes stands unless its deadline is past already.
+abbrev pub set : World → ℕ → List ℕ → Entry → Condition → World
+set old moment key entry condition = if allows condition (is_some (look old key)) then stand old moment key entry else old
 
 -- a string is appended to, unless it would pass the greatest length
 abbrev pub append : World → List ℕ → List ℕ → Option (List ℕ) → Outcome
@@ -128,18 +138,34 @@ abbrev pub count : World → List ℕ → (ℤ → ℤ) → Outcome
 count old key next = on_string old (look old key) (λ before. count_on old key next (number_at before))
 
 -- the reply of SET: the old value where it is asked for, else OK, or null where nothing is written
-abbrev pub set_outcome : World → List ℕ → List ℕ → Condition → Bool → Outcome
-set_outcome old key value condition true = on_string old (look old key) (λ before. leaves (or_null before ∷ []) (set old key value condition))
-set_outcome old key value condition false =
-    leaves ((if allows condition (is_some (look old key)) then ok else Null) ∷ []) (set old key value condition)
+abbrev pub set_outcome : World → ℕ → List ℕ → Entry → Condition → Bool → Outcome
+set_outcome old moment key entry condition true = on_string old (look old key) (λ before. leaves (or_null before ∷ []) (set old moment key entry condition))
+set_outcome old moment key entry condition false =
+    leaves ((if allows condition (is_some (look old key)) then ok else Null) ∷ []) (set old moment key entry condition)
+
+-- a value is written that lasts for so many units
+abbrev pub set_for : World → ℕ → List ℕ → TimeUnit → ℤ → List ℕ → Outcome
+set_for old moment key unit n value =
+    with_due old moment (record { unit = unit; from = Now; n = n }) (λ deadline. leaves (ok ∷ []) (stand old moment key (lasts_until (Str value) (from_zero deadline))))
+
+-- the value is answered, and its deadline is set, goes, or stays
+abbrev pub getex_outcome : World → ℕ → List ℕ → Renewal → Outcome
+getex_outcome old moment key renewals.Unchanged = on_string old (look old key) (λ before. tells (or_null before ∷ []) old)
+getex_outcome old moment key renewals.Persist = on_string old (look old key) (λ before. leaves (or_null before ∷ []) (persist old key (look old key)))
+getex_outcome old moment key (renewals.Until time) =
+    with_due old moment time (λ deadline. on_string old (look old key) (λ before. leaves (or_null before ∷ []) (expire old moment key deadline (look old key))))
 
 -- what a command answers and leaves, in the world that is live at the moment
 abbrev pub string_outcome : ℕ → World → StringCommand → Outcome
 string_outcome moment old (strings.Get key) = on_string old (look old key) (λ before. tells (or_null before ∷ []) old)
-string_outcome moment old (strings.Set key value options) = set_outcome old key value options.condition options.get
+string_outcome moment old (strings.Set key value options) =
+    with_lifetime old moment key options.lifetime (λ deadline. set_outcome old moment key (record { value = Str value; deadline = deadline }) options.condition options.get)
 string_outcome moment old (strings.SetNx key value) = if is_some (look old key) then tells (Number (pos 0) ∷ []) old else leaves (Number (pos 1) ∷ []) (replace old key value)
+string_outcome moment old (strings.SetEx key n value) = set_for old moment key Seconds n value
+string_outcome moment old (strings.PSetEx key n value) = set_for old moment key Milliseconds n value
 string_outcome moment old (strings.GetSet key value) = on_string old (look old key) (λ before. leaves (or_null before ∷ []) (replace old key value))
 string_outcome moment old (strings.GetDel key) = on_string old (look old key) (λ before. leaves (or_null before ∷ []) (remove old key))
+string_outcome moment old (strings.GetEx key renewal) = getex_outcome old moment key renewal
 string_outcome moment old (strings.MGet keys) = tells (Array (length keys) ∷ map (λ key. string_or_null (look old key)) keys) old
 string_outcome moment old (strings.MSet pairs) = leaves (ok ∷ []) (replace_all old pairs)
 string_outcome moment old (strings.MSetNx pairs) = if any_there old pairs then tells (Number (pos 0) ∷ []) old else leaves (Number (pos 1) ∷ []) (replace_all old pairs)

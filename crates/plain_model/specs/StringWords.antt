@@ -1,15 +1,24 @@
 -- What the words of string commands mean (Redis command reference, "Commands operating on strings").
-use Rattle.std.specs.Prelude.{ℕ, ◌+◌, ◌^◌, ◌==◌, List, [], ◌∷◌, length, ℤ, pos, negsuc, neg_ℤ, Bool, true, false, ◌&&◌, nat_le, Result, Ok, Err, codes, bytes_eq, if◌then◌else◌}
+use Rattle.std.specs.Prelude.{ℕ, ◌+◌, ◌==◌, List, [], ◌∷◌, length, ℤ, neg_ℤ, Bool, true, false, ◌&&◌, ◌||◌, nat_le, Result, Ok, Err, codes, if◌then◌else◌}
 use Rattle.plain_world.specs.Words.{Words, longest}
 use Rattle.int_text.specs.Decimal.{is_i64}
-use Rattle.plain_model.specs.Shapes.{Plain, Whole, Offset, fixed, repeated, Choice, with_choices}
-use Rattle.plain_model.specs.declared.command.Command.{Command}
-use Rattle.plain_model.specs.declared.command.Command.TheVariants.{Strings}
+use Rattle.plain_model.specs.Shapes.{Plain, Whole, Offset, Span, Row, fixed, repeated, Choice, with_choices}
+use Rattle.plain_model.specs.declared.command.SetChoices.{SetChoices}
+use Rattle.plain_model.specs.declared.command.GetExChoices.{GetExChoices}
 use Rattle.plain_model.specs.declared.command.StringCommand.{StringCommand}
 use Rattle.plain_model.specs.declared.command.StringCommand.TheVariants as strings
 use Rattle.plain_model.specs.declared.command.Condition.TheVariants.{Always, IfMissing, IfThere}
+use Rattle.plain_model.specs.declared.times.Time.{Time}
+use Rattle.plain_model.specs.declared.times.TimeUnit.{TimeUnit}
+use Rattle.plain_model.specs.declared.times.TimeOrigin.{TimeOrigin}
+use Rattle.plain_model.specs.declared.times.TimeUnit.TheVariants.{Seconds, Milliseconds}
+use Rattle.plain_model.specs.declared.times.TimeOrigin.TheVariants.{Now, Epoch}
+use Rattle.plain_model.specs.declared.times.Lifetime.{Lifetime}
+use Rattle.plain_model.specs.declared.times.Lifetime.TheVariants as lifetimes
+use Rattle.plain_model.specs.declared.times.Renewal.{Renewal}
+use Rattle.plain_model.specs.declared.times.Renewal.TheVariants as renewals
 use Rattle.plain_world.specs.declared.refusal.Refusal.{Refusal}
-use Rattle.plain_world.specs.declared.refusal.Refusal.TheVariants.{WrongNumberOfArguments, Syntax, Overflow, ValueOutOfRange}
+use Rattle.plain_world.specs.declared.refusal.Refusal.TheVariants.{Syntax, Overflow, ValueOutOfRange}
 
 abbrev pub Read : Type 0
 Read = Result StringCommand Refusal
@@ -20,23 +29,62 @@ pairs_of [] = []
 pairs_of (key ∷ []) = []
 pairs_of (key ∷ value ∷ words) = (key, value) ∷ pairs_of words
 
--- which options of SET stand
-pub record SetChoices : Type 0 where
-  pub nx : Bool
-  pub xx : Bool
-  pub get : Bool
+-- an option that gives a time, which is above 0
+abbrev pub time_choice : {A : Type 0} → List ℕ → TimeUnit → TimeOrigin → (Time → A → A) → Choice A
+time_choice name unit from until = record { name = name; kinds = Span ∷ []; sets = λ own c. until (record { unit = unit; from = from; n = own.0 }) c }
+
+abbrev pub time_choices : {A : Type 0} → (Time → A → A) → List (Choice A)
+time_choices until =
+    time_choice (codes "ex") Seconds Now until
+    ∷ time_choice (codes "px") Milliseconds Now until
+    ∷ time_choice (codes "exat") Seconds Epoch until
+    ∷ time_choice (codes "pxat") Milliseconds Epoch until
+    ∷ []
+
+abbrev pub is_given : Lifetime → Bool
+is_given lifetimes.Forever = false
+is_given lifetimes.Kept = true
+is_given (lifetimes.Until time) = true
+
+-- one more option gives a lifetime
+abbrev pub lasting : Lifetime → SetChoices → SetChoices
+lasting lifetime c = record { nx = c.nx; xx = c.xx; get = c.get; lifetime = lifetime; twice = c.twice || is_given c.lifetime }
 
 abbrev pub set_choices : List (Choice SetChoices)
 set_choices =
-    record { name = codes "nx"; kinds = []; sets = λ own c. record { nx = true; xx = c.xx; get = c.get } }
-    ∷ record { name = codes "xx"; kinds = []; sets = λ own c. record { nx = c.nx; xx = true; get = c.get } }
-    ∷ record { name = codes "get"; kinds = []; sets = λ own c. record { nx = c.nx; xx = c.xx; get = true } }
-    ∷ []
+    record { name = codes "nx"; kinds = []; sets = λ own c. record { nx = true; xx = c.xx; get = c.get; lifetime = c.lifetime; twice = c.twice } }
+    ∷ record { name = codes "xx"; kinds = []; sets = λ own c. record { nx = c.nx; xx = true; get = c.get; lifetime = c.lifetime; twice = c.twice } }
+    ∷ record { name = codes "get"; kinds = []; sets = λ own c. record { nx = c.nx; xx = c.xx; get = true; lifetime = c.lifetime; twice = c.twice } }
+    ∷ record { name = codes "keepttl"; kinds = []; sets = λ own c. lasting lifetimes.Kept c }
+    ∷ time_choices (λ time. lasting (lifetimes.Until time))
+
+-- none of the options of SET
+abbrev pub no_set_choices : SetChoices
+no_set_choices = record { nx = false; xx = false; get = false; lifetime = lifetimes.Forever; twice = false }
 
 abbrev pub set_of : List ℕ → List ℕ → SetChoices → Read
 set_of key value c =
-    if c.nx && c.xx then Err Syntax
-    else Ok (strings.Set key value (record { condition = if c.nx then IfMissing else (if c.xx then IfThere else Always); get = c.get }))
+    if c.nx && c.xx || c.twice then Err Syntax
+    else Ok (strings.Set key value (record { condition = if c.nx then IfMissing else (if c.xx then IfThere else Always); get = c.get; lifetime = c.lifetime }))
+
+abbrev pub is_renewed : Renewal → Bool
+is_renewed renewals.Unchanged = false
+is_renewed renewals.Persist = true
+is_renewed (renewals.Until time) = true
+
+-- one more option stands
+abbrev pub renewed : Renewal → GetExChoices → GetExChoices
+renewed renewal c = record { renewal = renewal; twice = c.twice || is_renewed c.renewal }
+
+abbrev pub getex_choices : List (Choice GetExChoices)
+getex_choices = record { name = codes "persist"; kinds = []; sets = λ own c. renewed renewals.Persist c } ∷ time_choices (λ time. renewed (renewals.Until time))
+
+-- none of the options of GETEX
+abbrev pub no_getex_choices : GetExChoices
+no_getex_choices = record { renewal = renewals.Unchanged; twice = false }
+
+abbrev pub getex_of : List ℕ → GetExChoices → Read
+getex_of key c = if c.twice then Err Syntax else Ok (strings.GetEx key c.renewal)
 
 -- a piece that would end past the greatest length is refused by the words
 abbrev pub set_range_of : List ℕ → ℕ → List ℕ → Read
@@ -48,18 +96,16 @@ set_range_of key at piece =
 abbrev pub decrease_of : List ℕ → ℤ → Read
 decrease_of key n = if is_i64 (neg_ℤ n) then Ok (strings.DecrBy key n) else Err Overflow
 
--- a command's name in lower case, and how the words behind it are read
-pub record Row : Type 0 where
-  pub name : List ℕ
-  pub read : Words → Read
-
-abbrev pub string_rows : List Row
+abbrev pub string_rows : List (Row StringCommand)
 string_rows =
     record { name = codes "get"; read = fixed (Plain ∷ []) (λ a. Ok (strings.Get a.0)) }
-    ∷ record { name = codes "set"; read = with_choices (Plain ∷ Plain ∷ []) set_choices (record { nx = false; xx = false; get = false }) (λ a c. set_of a.0 a.1.0 c) }
+    ∷ record { name = codes "set"; read = with_choices (Plain ∷ Plain ∷ []) set_choices no_set_choices (λ a c. set_of a.0 a.1.0 c) }
     ∷ record { name = codes "setnx"; read = fixed (Plain ∷ Plain ∷ []) (λ a. Ok (strings.SetNx a.0 a.1.0)) }
+    ∷ record { name = codes "setex"; read = fixed (Plain ∷ Span ∷ Plain ∷ []) (λ a. Ok (strings.SetEx a.0 a.1.0 a.1.1.0)) }
+    ∷ record { name = codes "psetex"; read = fixed (Plain ∷ Span ∷ Plain ∷ []) (λ a. Ok (strings.PSetEx a.0 a.1.0 a.1.1.0)) }
     ∷ record { name = codes "getset"; read = fixed (Plain ∷ Plain ∷ []) (λ a. Ok (strings.GetSet a.0 a.1.0)) }
     ∷ record { name = codes "getdel"; read = fixed (Plain ∷ []) (λ a. Ok (strings.GetDel a.0)) }
+    ∷ record { name = codes "getex"; read = with_choices (Plain ∷ []) getex_choices no_getex_choices (λ a c. getex_of a.0 c) }
     ∷ record { name = codes "mget"; read = repeated [] 1 (λ a keys. Ok (strings.MGet keys)) }
     ∷ record { name = codes "mset"; read = repeated [] 2 (λ a words. Ok (strings.MSet (pairs_of words))) }
     ∷ record { name = codes "msetnx"; read = repeated [] 2 (λ a words. Ok (strings.MSetNx (pairs_of words))) }

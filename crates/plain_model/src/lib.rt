@@ -2,12 +2,18 @@
 #![tactic(auto)]
 
 mod command;
+mod connection;
 mod ctx;
+mod keys;
 mod laws;
 mod lists;
+mod times;
 
-pub use command::{Command, Condition, SetOptions, StringCommand};
+pub use command::{Command, Condition, GetExChoices, SetChoices, SetOptions, StringCommand};
+pub use connection::ConnectionCommand;
 pub use ctx::Ctx;
+pub use keys::{CopyOptions, ExpireOptions, KeyCommand};
 pub use laws::replies_fix_the_run;
 pub use lists::{PairList, WordList};
 pub use plain_world::{Bytes, LONGEST, Line, Memory, Part, Parts, Refusal, Reply};
+pub use times::{Lifetime, Renewal, Time, TimeOrigin, TimeUnit};

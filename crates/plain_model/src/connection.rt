@@ -1,0 +1,22 @@
+//! Commands on the connection and on the server as a whole.
+
+use crate::Bytes;
+
+/// A command on the connection or the server.
+#[derive(Drop)]
+pub enum ConnectionCommand {
+    /// `PING [text]`
+    Ping(Option<Bytes>),
+    /// `ECHO text`
+    Echo(Bytes),
+    /// `QUIT` and any words.
+    Quit,
+    /// `SELECT db`, with the database by its number below 16.
+    Select(usize),
+    /// `DBSIZE`
+    DbSize,
+    /// `FLUSHDB [ASYNC or SYNC]`
+    FlushDb,
+    /// `FLUSHALL [ASYNC or SYNC]`
+    FlushAll,
+}
