@@ -1,8 +1,8 @@
--- What becomes of databases where the store changes outside them, and where one of their tables changes.
-use Rattle.std.proofs.Common.{◌≡◌, inl, inr, ℕ, zero, suc, ◌+◌, ◌≤◌, ◌<◌, List, [], ◌∷◌, ◌++◌, get_or, flat_map, Some, None, is_some, refl, sym, ap, ◌∙◌, subst, arith}
+-- What becomes of databases where the store changes outside them, and where one of them changes.
+use Rattle.std.proofs.Common.{◌≡◌, inl, inr, ℕ, zero, suc, ◌+◌, ◌≤◌, ◌<◌, List, [], ◌∷◌, ◌++◌, get_or, flat_map, Option, Some, None, is_some, refl, sym, ap, ◌∙◌, subst, arith}
 use Rattle.std.proofs.lemmas.Bool.{cases_eq, eq-eqb, ne_eqb, cond-true, cond-false}
 use Rattle.blocks.specs.declared.BlockRef.{BlockRef}
-use Rattle.std.specs.FinMap.{insert}
+use Rattle.std.specs.FinMap.{get, insert, remove}
 use Rattle.blocks.specs.Blocks.{Blocks, ref_eq, times, Changes}
 use Rattle.blocks.proofs.Refs.{ref_eq-refl}
 use Rattle.blocks.proofs.Times.{times-append, times_changed}
@@ -12,34 +12,89 @@ use Rattle.plain_world.specs.Worlds.{Value, Database, with_base, put}
 use Rattle.rehash_dict.specs.Keyed.{key_of}
 use Rattle.rehash_dict.proofs.Keys.{Keyed-frame}
 use Rattle.rehash_dict.proofs.MapOf.{map_of-frame, map_of-adds, map_of-swaps, refs_changed}
-use Rattle.held.specs.Table.{Table, Element, item, Keyed, Adds, Swaps, Removes, no_keys, own_of, refs, map_of}
-use Rattle.held.specs.Databases.{ReadsOwn, Bases, table_at, owned, entry_of, means, ChangesTable}
-use Rattle.held.specs.Sound.{IsArranged, IsIntact, SoundBeside}
+use Rattle.expiry.specs.Timed.{Timed, moments}
+use Rattle.held.specs.declared.databases.Base.{Base}
+use Rattle.held.specs.Table.{Table, Element, item, Lacks, Keyed, Adds, Swaps, Removes, own_of, refs, map_of}
+use Rattle.held.specs.Databases.{ReadsOwn, Bases, no_base, base_at, table_at, deadlines_at, owned, base_means, with_deadlines, with_deadline, means, ChangesBase, ChangesTable, ChangesDeadlines}
+use Rattle.held.specs.Sound.{IsTimed, HasSeed, IsArranged, IsIntact, SoundBeside}
 use Rattle.held.specs.Calls.{AreParts}
 use Rattle.held.proofs.Tables.{some_bytes, named_in}
+use Rattle.held.proofs.Maps.{with_put, with_removed, same_deadline, same_value}
+use Rattle.held.proofs.Timing.{timed_adds, timed_swaps, timed_removes, timed_frame}
+
+-- the database that changed is in order
+pub record InOrder {V : Type 0} (m : Blocks) (old new : Bases V) (db : ℕ) : Type 0 where
+  pub keyed : Keyed m (table_at new db)
+  pub timed : IsTimed m (table_at new db) (deadlines_at new db)
+  pub seeds : HasSeed (base_at old db) old.seed → HasSeed (base_at new db) old.seed
+
+module _ {V : Type 0} (m : Blocks) (old new : Bases V) (db : ℕ) (a : IsArranged old m) where
+  module _ (c : ChangesTable old new db) (keyed : Keyed m (table_at new db)) where
+    -- the deadlines are those that were there
+    stay_timed : IsTimed m (table_at new db) (deadlines_at old db) → (table_at new db).seed ≡ (table_at old db).seed → InOrder m old new db
+    stay_timed t seed = record {
+      keyed = keyed;
+      timed = subst (IsTimed m (table_at new db)) (sym c.deadlines) t;
+      seeds = λ h. record { keys = seed ∙ h.keys; deadlines = ap (λ (d : Timed). d.table.seed) c.deadlines ∙ h.deadlines };
+    }
+
+    pub order_swaps : (at : ℕ) (was value : V) → Swaps (table_at old db) (table_at new db) at was value → InOrder m old new db
+    order_swaps at was value s = stay_timed (timed_swaps m (table_at old db) (table_at new db) (deadlines_at old db) at was value s (a.timed db)) s.seed
+
+    pub order_adds : (at : ℕ) (e : Element V) → Adds (table_at old db) (table_at new db) at e → InOrder m old new db
+    order_adds at e s = stay_timed (timed_adds m (table_at old db) (table_at new db) (deadlines_at old db) at e s (a.timed db)) s.seed
+
+    pub order_removes : (key : List ℕ) (ref : BlockRef) (value : V) → Removes m (table_at old db) (table_at new db) key ref value → Lacks m (deadlines_at old db).table key → InOrder m old new db
+    order_removes key ref value l lacks = stay_timed (timed_removes m (table_at old db) (table_at new db) (deadlines_at old db) key ref value l lacks (a.timed db)) l.seed
+
+  -- the keys are those that were there
+  pub order_times : ChangesDeadlines old new db → IsTimed m (table_at old db) (deadlines_at new db) → (deadlines_at new db).table.seed ≡ (deadlines_at old db).table.seed → InOrder m old new db
+  order_times c t seed = record {
+    keyed = subst (Keyed m) (sym c.keys) (a.keyed db);
+    timed = subst (λ (k : Table V). IsTimed m k (deadlines_at new db)) (sym c.keys) t;
+    seeds = λ h. record { keys = ap (λ (k : Table V). k.seed) c.keys ∙ h.keys; deadlines = seed ∙ h.deadlines };
+  }
+
+module _ {V : Type 0} (a b c : Bases V) (db : ℕ) where
+  -- a database changes twice
+  pub base_then : ChangesBase a b db → ChangesBase b c db → ChangesBase a c db
+  base_then p q = record {
+    others = λ number other. q.others number other ∙ p.others number other;
+    count = q.count ∙ p.count;
+    settings = record { limits = q.settings.limits ∙ p.settings.limits; seed = q.settings.seed ∙ p.settings.seed };
+  }
+
+  pub order_then : (m : Blocks) → ChangesBase a b db → InOrder m a b db → InOrder m b c db → InOrder m a c db
+  order_then m p x y = record {
+    keyed = y.keyed;
+    timed = y.timed;
+    seeds = λ h. subst (HasSeed (base_at c db)) p.settings.seed (y.seeds (subst (HasSeed (base_at b db)) (sym p.settings.seed) (x.seeds h)));
+  }
 
 module _ {V : Type 0} (refs_of : V → List BlockRef) (value_of : Blocks → V → Value) (own : ReadsOwn refs_of value_of) where
-  -- ---- values
-
-  pub entry_own : (m after : Blocks) (value : V) → ((r : BlockRef) → 0 < times r (refs_of value) → after r ≡ m r) → entry_of value_of after value ≡ entry_of value_of m value
-  entry_own m after value same = ap (λ v. record { value = v; deadline = None }) (own m after value same)
-
   -- ---- what the databases own
+
+  abbrev base_refs : Base V → List BlockRef
+  base_refs base = refs refs_of base.keys
 
   -- a table's references are among those of the databases
   pub table_owned : (bases : Bases V) (db : ℕ) (r : BlockRef) → times r (refs refs_of (table_at bases db)) ≤ times r (owned refs_of bases)
-  table_owned bases db r = in_list bases.tables db
+  table_owned bases db r = in_list bases.bases db
     where
-      in_list : (tables : List (Table V)) (db : ℕ) → times r (refs refs_of (get_or tables db (no_keys 0))) ≤ times r (flat_map (refs refs_of) tables)
+      in_list : (list : List (Base V)) (db : ℕ) → times r (base_refs (get_or list db (no_base 0))) ≤ times r (flat_map base_refs list)
       in_list [] db = omega arith
-      in_list (t ∷ tables) zero = omega (arith, times-append r (refs refs_of t) (flat_map (refs refs_of) tables))
-      in_list (t ∷ tables) (suc db) = omega (arith, times-append r (refs refs_of t) (flat_map (refs refs_of) tables), in_list tables db)
+      in_list (b ∷ list) zero = omega (arith, times-append r (base_refs b) (flat_map base_refs list))
+      in_list (b ∷ list) (suc db) = omega (arith, times-append r (base_refs b) (flat_map base_refs list), in_list list db)
 
-  -- one table changes
-  pub owned_changed : (old new : Bases V) (db : ℕ) → ChangesTable old new db → (r : BlockRef) → times r (owned refs_of new) + times r (refs refs_of (table_at old db)) ≡ times r (owned refs_of old) + times r (refs refs_of (table_at new db))
-  owned_changed old new db c r = times_changed (refs refs_of) (no_keys 0) refl r old.tables new.tables db c.others
+  -- one database changes
+  pub owned_changed : (old new : Bases V) (db : ℕ) → ChangesBase old new db → (r : BlockRef) → times r (owned refs_of new) + times r (refs refs_of (table_at old db)) ≡ times r (owned refs_of old) + times r (refs refs_of (table_at new db))
+  owned_changed old new db c r = times_changed base_refs (no_base 0) refl r old.bases new.bases db c.others
 
-  module _ (old new : Bases V) (db : ℕ) (c : ChangesTable old new db) (r : BlockRef) where
+  -- the deadlines own nothing
+  pub owned_times : (old new : Bases V) (db : ℕ) → ChangesDeadlines old new db → (r : BlockRef) → times r (owned refs_of new) ≡ times r (owned refs_of old)
+  owned_times old new db c r = let same = ap (λ (k : Table V). times r (refs refs_of k)) c.keys in omega (arith, same, owned_changed old new db c.base r)
+
+  module _ (old new : Bases V) (db : ℕ) (c : ChangesBase old new db) (r : BlockRef) where
     pub owned_joins : (at : ℕ) (e : Element V) → Adds (table_at old db) (table_at new db) at e → times r (owned refs_of new) ≡ times r (owned refs_of old) + times r (e.key ∷ refs_of e.value)
     owned_joins at e a =
         let none : times r (own_of refs_of (item (table_at old db) at)) ≡ 0 = ap (λ o. times r (own_of refs_of o)) a.vacant in
@@ -68,19 +123,25 @@ module _ {V : Type 0} (refs_of : V → List BlockRef) (value_of : Blocks → V �
       pub kept_inside : (r : BlockRef) → 0 < times r (owned refs_of bases) → after r ≡ m r
       kept_inside r named = kept_named r (omega (arith, named)) (omega (arith, named, intact.owned r, live-once m r, part r))
 
-      kept_table : (db at : ℕ) (e : Element V) → item (table_at bases db) at ≡ Some e → (after e.key ≡ m e.key) × (entry_of value_of after e.value ≡ entry_of value_of m e.value)
+      kept_table : (db at : ℕ) (e : Element V) → item (table_at bases db) at ≡ Some e → (after e.key ≡ m e.key) × (value_of after e.value ≡ value_of m e.value)
       kept_table db at e found =
           let named : (r : BlockRef) → 0 < times r (e.key ∷ refs_of e.value) → after r ≡ m r = (λ r one. kept_inside r (omega (arith, one, named_in refs_of (table_at bases db) at e r found, table_owned bases db r))) in
-          (named e.key (let itself : one_if (ref_eq e.key e.key) ≡ 1 = cond-true _ _ _ (ref_eq-refl e.key) in omega (arith, itself)), entry_own m after e.value (λ r one. named r (omega (arith, one))))
+          (named e.key (let itself : one_if (ref_eq e.key e.key) ≡ 1 = cond-true _ _ _ (ref_eq-refl e.key) in omega (arith, itself)), own m after e.value (λ r one. named r (omega (arith, one))))
 
       kept_keyed : (db : ℕ) → Keyed after (table_at bases db)
       kept_keyed db = (Keyed-frame m after (table_at bases db) (intact.arranged.keyed db) (λ at e found. (kept_table db at e found).0)).0
 
-      pub arranged_out : IsArranged bases after
-      arranged_out = record { keyed = kept_keyed; sixteen = intact.arranged.sixteen; limits = intact.arranged.limits }
+      pub kept_timed : (db : ℕ) → IsTimed after (table_at bases db) (deadlines_at bases db) × (moments after (deadlines_at bases db) ≡ moments m (deadlines_at bases db))
+      kept_timed db = timed_frame m after (table_at bases db) (deadlines_at bases db) (intact.arranged.timed db) (λ at e found. (kept_table db at e found).0)
 
-      pub base_out : (db : ℕ) → map_of after (entry_of value_of after) (table_at bases db) ≡ map_of m (entry_of value_of m) (table_at bases db)
-      base_out db = map_of-frame m after (entry_of value_of m) (entry_of value_of after) (table_at bases db) (intact.arranged.keyed db) (kept_keyed db) (kept_table db)
+      pub arranged_out : IsArranged bases after
+      arranged_out = record { keyed = kept_keyed; timed = λ db. (kept_timed db).0; sixteen = intact.arranged.sixteen; limits = intact.arranged.limits; seeds = intact.arranged.seeds }
+
+      values_out : (db : ℕ) → map_of after (value_of after) (table_at bases db) ≡ map_of m (value_of m) (table_at bases db)
+      values_out db = map_of-frame m after (value_of m) (value_of after) (table_at bases db) (intact.arranged.keyed db) (kept_keyed db) (kept_table db)
+
+      pub base_out : (db : ℕ) → base_means value_of after (base_at bases db) ≡ base_means value_of m (base_at bases db)
+      base_out db = λ i. with_deadlines (values_out db i) ((kept_timed db).1 i)
 
       pub means_out : (db : ℕ) → means value_of db bases after ≡ means value_of db bases m
       means_out db = λ i. record { bases = λ number. base_out number i; selected = db }
@@ -92,54 +153,96 @@ module _ {V : Type 0} (refs_of : V → List BlockRef) (value_of : Blocks → V �
         arranged = arranged_out;
       }
 
-  -- ---- one table changes over the same store
+  -- ---- one database changes over the same store
 
-  module _ (old new : Bases V) (db : ℕ) (m : Blocks) (c : ChangesTable old new db) where
-    pub arranged_changed : IsArranged old m → Keyed m (table_at new db) → IsArranged new m
-    arranged_changed a keyed = record {
+  module _ (old new : Bases V) (db : ℕ) (m : Blocks) (c : ChangesBase old new db) where
+    pub arranged_changed : IsArranged old m → InOrder m old new db → IsArranged new m
+    arranged_changed a order = record {
       keyed = λ number. elim (cases_eq number db) [
-        | inl here ↦ subst (λ n. Keyed m (table_at new n)) (sym here) keyed
-        | inr other ↦ subst (Keyed m) (sym (c.others number other)) (a.keyed number)
+        | inl here ↦ subst (λ n. Keyed m (table_at new n)) (sym here) order.keyed
+        | inr other ↦ subst (λ (b : Base V). Keyed m b.keys) (sym (c.others number other)) (a.keyed number)
+      ];
+      timed = λ number. elim (cases_eq number db) [
+        | inl here ↦ subst (λ n. IsTimed m (table_at new n) (deadlines_at new n)) (sym here) order.timed
+        | inr other ↦ subst (λ (b : Base V). IsTimed m b.keys b.deadlines) (sym (c.others number other)) (a.timed number)
       ];
       sixteen = c.count ∙ a.sixteen;
       limits = subst AreInRange (sym c.settings.limits) a.limits;
+      seeds = λ number within. subst (HasSeed (base_at new number)) (sym c.settings.seed) (elim (cases_eq number db) [
+        | inl here ↦ subst (λ n. HasSeed (base_at new n) old.seed) (sym here) (order.seeds (subst (λ n. HasSeed (base_at old n) old.seed) here (a.seeds number within)))
+        | inr other ↦ subst (λ (b : Base V). HasSeed b old.seed) (sym (c.others number other)) (a.seeds number within)
+      ]);
     }
 
-    pub means_changed : (base : Database) → map_of m (entry_of value_of m) (table_at new db) ≡ base → means value_of db new m ≡ with_base (means value_of db old m) base
+    pub means_changed : (base : Database) → base_means value_of m (base_at new db) ≡ base → means value_of db new m ≡ with_base (means value_of db old m) base
     means_changed base is = λ i. record { bases = λ number. each number i; selected = db }
       where
-        each : (number : ℕ) → map_of m (entry_of value_of m) (table_at new number) ≡ (with_base (means value_of db old m) base).bases number
+        each : (number : ℕ) → base_means value_of m (base_at new number) ≡ (with_base (means value_of db old m) base).bases number
         each number = elim (cases_eq number db) [
-          | inl here ↦ ap (λ n. map_of m (entry_of value_of m) (table_at new n)) here ∙ is ∙ sym (cond-true _ _ _ (eq-eqb number db here))
-          | inr other ↦ ap (map_of m (entry_of value_of m)) (c.others number other) ∙ sym (cond-false _ _ _ (ne_eqb number db other))
+          | inl here ↦ ap (λ n. base_means value_of m (base_at new n)) here ∙ is ∙ sym (cond-true _ _ _ (eq-eqb number db here))
+          | inr other ↦ ap (base_means value_of m) (c.others number other) ∙ sym (cond-false _ _ _ (ne_eqb number db other))
         ]
 
-    module _ (out : List BlockRef) (intact : IsIntact refs_of old m out) where
+    module _ (out : List BlockRef) (intact : IsIntact refs_of old m out) (order : InOrder m old new db) where
       -- a value takes the place of another
-      module _ (at : ℕ) (was value : V) (s : Swaps (table_at old db) (table_at new db) at was value) (keyed : Keyed m (table_at new db)) where
-        pub swapped_intact : (later : List BlockRef) → ((r : BlockRef) → times r later + times r (refs_of value) ≡ times r out + times r (refs_of was)) → IsIntact refs_of new m later
-        swapped_intact later same = record {
-          owned = λ r. omega (arith, intact.owned r, same r, owned_swaps old new db c r at was value s);
-          arranged = arranged_changed intact.arranged keyed;
-        }
-
-        pub swapped_means : (key : List ℕ) → m s.key ≡ Some key → means value_of db new m ≡ put (means value_of db old m) key (entry_of value_of m value)
-        swapped_means key bytes =
-            means_changed _ (map_of-swaps m (entry_of value_of m) (table_at old db) (table_at new db) (intact.arranged.keyed db) at was value keyed s
-            ∙ ap (λ k. insert (map_of m (entry_of value_of m) (table_at old db)) k (entry_of value_of m value)) (ap (key_of m) s.found ∙ some_bytes m s.key key bytes))
+      pub swapped_intact : (at : ℕ) (was value : V) → Swaps (table_at old db) (table_at new db) at was value → (later : List BlockRef) → ((r : BlockRef) → times r later + times r (refs_of value) ≡ times r out + times r (refs_of was)) → IsIntact refs_of new m later
+      swapped_intact at was value s later same = record {
+        owned = λ r. omega (arith, intact.owned r, same r, owned_swaps old new db c r at was value s);
+        arranged = arranged_changed intact.arranged order;
+      }
 
       -- an element joins
-      module _ (at : ℕ) (e : Element V) (a : Adds (table_at old db) (table_at new db) at e) (keyed : Keyed m (table_at new db)) where
-        pub joined_intact : (later : List BlockRef) → ((r : BlockRef) → times r later + times r (e.key ∷ refs_of e.value) ≡ times r out) → IsIntact refs_of new m later
-        joined_intact later same = record {
-          owned = λ r. omega (arith, intact.owned r, same r, owned_joins old new db c r at e a);
-          arranged = arranged_changed intact.arranged keyed;
-        }
+      pub joined_intact : (at : ℕ) (e : Element V) → Adds (table_at old db) (table_at new db) at e → (later : List BlockRef) → ((r : BlockRef) → times r later + times r (e.key ∷ refs_of e.value) ≡ times r out) → IsIntact refs_of new m later
+      joined_intact at e a later same = record {
+        owned = λ r. omega (arith, intact.owned r, same r, owned_joins old new db c r at e a);
+        arranged = arranged_changed intact.arranged order;
+      }
 
-        pub joined_means : (key : List ℕ) → m e.key ≡ Some key → means value_of db new m ≡ put (means value_of db old m) key (entry_of value_of m e.value)
-        joined_means key bytes =
-            means_changed _ (map_of-adds m (entry_of value_of m) (table_at old db) (table_at new db) (intact.arranged.keyed db) at e keyed (ap is_some bytes) a
-            ∙ ap (λ k. insert (map_of m (entry_of value_of m) (table_at old db)) k (entry_of value_of m e.value)) (some_bytes m e.key key bytes))
+  module _ (old new : Bases V) (db : ℕ) (m : Blocks) where
+    -- a key gets a value and a deadline
+    pub put_means : ChangesBase old new db → (key : List ℕ) (value : Value) (deadline : Option ℕ) → map_of m (value_of m) (table_at new db) ≡ insert (map_of m (value_of m) (table_at old db)) key value
+        → moments m (deadlines_at new db) ≡ with_deadline (moments m (deadlines_at old db)) key deadline → means value_of db new m ≡ put (means value_of db old m) key (record { value = value; deadline = deadline })
+    put_means c key value deadline values times =
+        means_changed old new db m c _ ((λ i. with_deadlines (values i) (times i)) ∙ with_put (map_of m (value_of m) (table_at old db)) (moments m (deadlines_at old db)) key value deadline)
+
+    -- a key leaves with its deadline
+    pub remove_base : (key : List ℕ) → map_of m (value_of m) (table_at new db) ≡ remove (map_of m (value_of m) (table_at old db)) key
+        → moments m (deadlines_at new db) ≡ remove (moments m (deadlines_at old db)) key → base_means value_of m (base_at new db) ≡ remove (base_means value_of m (base_at old db)) key
+    remove_base key values times = (λ i. with_deadlines (values i) (times i)) ∙ with_removed (map_of m (value_of m) (table_at old db)) (moments m (deadlines_at old db)) key
+
+    module _ (a : IsArranged old m) (at : ℕ) where
+      -- a value takes the place of another: the key keeps its deadline
+      pub swapped_means : ChangesTable old new db → Keyed m (table_at new db) → (was value : V) (s : Swaps (table_at old db) (table_at new db) at was value) (key : List ℕ) → m s.key ≡ Some key → (deadline : Option ℕ) → get (moments m (deadlines_at old db)) key ≡ deadline
+          → means value_of db new m ≡ put (means value_of db old m) key (record { value = value_of m value; deadline = deadline })
+      swapped_means c keyed was value s key bytes deadline lasts =
+          put_means c.base key (value_of m value) deadline
+          (map_of-swaps m (value_of m) (table_at old db) (table_at new db) (a.keyed db) at was value keyed s
+          ∙ ap (λ k. insert (map_of m (value_of m) (table_at old db)) k (value_of m value)) (ap (key_of m) s.found ∙ some_bytes m s.key key bytes))
+          (ap (moments m) c.deadlines ∙ sym (same_deadline (moments m (deadlines_at old db)) key deadline lasts))
+
+      -- an element joins
+      pub joined_means : ChangesBase old new db → Keyed m (table_at new db) → (e : Element V) → Adds (table_at old db) (table_at new db) at e → (key : List ℕ) → m e.key ≡ Some key → (deadline : Option ℕ) → moments m (deadlines_at new db) ≡ with_deadline (moments m (deadlines_at old db)) key deadline
+          → means value_of db new m ≡ put (means value_of db old m) key (record { value = value_of m e.value; deadline = deadline })
+      joined_means c keyed e adds key bytes deadline times =
+          put_means c key (value_of m e.value) deadline
+          (map_of-adds m (value_of m) (table_at old db) (table_at new db) (a.keyed db) at e keyed (ap is_some bytes) adds
+          ∙ ap (λ k. insert (map_of m (value_of m) (table_at old db)) k (value_of m e.value)) (some_bytes m e.key key bytes)) times
+
+    -- a key's deadline is set, or goes
+    pub retimed_means : (c : ChangesDeadlines old new db) (key : List ℕ) (value : Value) → get (map_of m (value_of m) (table_at old db)) key ≡ Some value → (deadline : Option ℕ) → moments m (deadlines_at new db) ≡ with_deadline (moments m (deadlines_at old db)) key deadline
+        → means value_of db new m ≡ put (means value_of db old m) key (record { value = value; deadline = deadline })
+    retimed_means c key value there deadline times =
+        put_means c.base key value deadline (ap (map_of m (value_of m)) c.keys ∙ sym (same_value (map_of m (value_of m) (table_at old db)) key value there)) times
+
+    -- the deadlines mean what they meant
+    pub same_times : (c : ChangesDeadlines old new db) → moments m (deadlines_at new db) ≡ moments m (deadlines_at old db) → means value_of db new m ≡ means value_of db old m
+    same_times c times = λ i. record { bases = λ number. each number i; selected = db }
+      where
+        each : (number : ℕ) → base_means value_of m (base_at new number) ≡ base_means value_of m (base_at old number)
+        each number = elim (cases_eq number db) [
+          | inl here ↦ ap (λ n. base_means value_of m (base_at new n)) here ∙ (λ i. with_deadlines (map_of m (value_of m) (c.keys i)) (times i)) ∙ sym (ap (λ n. base_means value_of m (base_at old n)) here)
+          | inr other ↦ ap (base_means value_of m) (c.base.others number other)
+        ]
 
   -- ---- soundness after a call
 

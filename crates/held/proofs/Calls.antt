@@ -1,34 +1,72 @@
 -- The calls of a keyspace, step by step.
-use Rattle.std.proofs.Common.{◌≡◌, inl, inr, ℕ, zero, suc, ◌+◌, ◌≤◌, Bool, cond, List, [], ◌∷◌, ◌++◌, length, flat_map, replicate, get_or, IfNone, Option, Some, None, refl, sym, ap, ◌∙◌, subst, arith}
-use Rattle.std.specs.FinMap.{get, insert, remove, get-retain_keys, nat_cmp-IsAntisymmetric, slice_cmp-IsAntisymmetric}
-use Rattle.std.proofs.lemmas.Bool.{cases_eq, eq-eqb, ne_eqb, cond-true, cond-false}
+use Rattle.std.proofs.Common.{◌≡◌, ◌⊎◌, inl, inr, ℕ, zero, suc, ◌+◌, ◌≤◌, ◌<◌, Bool, false, true, cond, List, [], ◌∷◌, ◌++◌, length, flat_map, replicate, get_or, IfNone, Option, Some, None, is_some, Result, Ok, Err, OnOk, OnErr, IfSome, refl, sym, ap, ◌∙◌, subst, arith}
+use Rattle.std.specs.FinMap.{get, insert, remove}
+use Rattle.std.specs.FinMap as map
+use Rattle.std.proofs.lemmas.Bool.{cases_eq, cases_Bool, eq-eqb, ne_eqb, cond-true, cond-false}
 use Rattle.blocks.specs.declared.BlockRef.{BlockRef}
 use Rattle.blocks.specs.Blocks.{Blocks, ref_eq, times, live, bytes_at, with_block, no_blocks, Changes, Owned}
 use Rattle.blocks.proofs.Times.{times-append}
 use Rattle.blocks.proofs.Refs.{ref_eq-refl, with_block-same}
-use Rattle.blocks.proofs.Change.{one_if, Changes-then, Changes-beside}
+use Rattle.blocks.proofs.Change.{one_if, with_block-undone, Counts-ended, Changes-counted, Changes-same, Changes-then, Changes-beside}
 use Rattle.object_codec.specs.Limits.{AreInRange}
-use Rattle.plain_world.specs.Worlds.{Value, Entry, World, with_base, look, put, Database}
+use Rattle.plain_world.specs.Worlds.{Value, Entry, World, with_base, look, put, Database, in_time, deadline_of}
 use Rattle.plain_world.specs.Worlds as model
+use Rattle.plain_world.proofs.Lives.{look_in_time, look_gone, look_absent}
+use Rattle.expiry.specs.Timed.{Timed, moments}
+use Rattle.expiry.specs.Changes.{HasDeadline, Sets, Clears}
+use Rattle.held.specs.declared.databases.Base.{Base}
 use Rattle.held.specs.declared.keyspace.Lifted.{Lifted}
-use Rattle.held.specs.Table.{Table, Element, item, value_at, no_keys, Stands, Lacks, Keyed, Adds, Swaps, Removes, refs, map_of}
-use Rattle.held.specs.Databases.{ReadsOwn, Bases, table_at, owned, entry_of, means, SameSettings, ChangesTable}
-use Rattle.held.specs.Sound.{IsArranged, IsIntact, SoundBeside}
+use Rattle.held.specs.Table.{Table, Element, item, value_at, key_at, no_keys, Stands, Lacks, Keyed, Adds, Swaps, Removes, refs, map_of}
+use Rattle.held.specs.Databases.{ReadsOwn, Bases, no_base, base_at, table_at, deadlines_at, owned, base_means, with_deadlines, with_deadline, means, SameSettings, ChangesBase, ChangesTable, ChangesDeadlines}
+use Rattle.held.specs.Sound.{IsTimed, HasSeed, IsArranged, IsIntact, SoundBeside}
 use Rattle.held.specs.Worlds.{without}
-use Rattle.held.specs.Calls.{Found, IsPlace, IsVacant, Lifts, AreParts}
-use Rattle.rehash_dict.proofs.MapOf.{map_of-stands, map_of-lacks, map_of-empty, map_of-removes, map_of-had, map_of-kept}
-use Rattle.held.proofs.Tables.{get_inserted, maps_alike, insert_over, some_bytes, named_in, Keyed-none, map_of-each}
-use Rattle.held.proofs.Bases.{entry_own, table_owned, owned_changed, owned_joins, owned_swaps, kept_named, kept_inside, arranged_out, arranged_changed, means_out, intact_out, means_changed, swapped_intact, swapped_means, joined_intact, joined_means}
+use Rattle.held.specs.Calls.{Found, StandsAt, IsPlace, IsVacant, Lifts, AreParts, IsDeadline, Joins, KeepsTimes}
+use Rattle.rehash_dict.proofs.MapOf.{cases_key, map_of-stands, map_of-lacks, map_of-empty, map_of-removes, map_of-had, map_of-kept}
+use Rattle.held.proofs.Maps.{entry_with, get_with, with_none, got_deadline}
+use Rattle.held.proofs.Tables.{get_inserted, maps_alike, insert_over, some_bytes, named_in, Keyed-none}
+use Rattle.held.proofs.Timing.{timed_sets, timed_clears, timed_none, untimed, moments_lack}
+use Rattle.held.proofs.Joining.{sets_seed}
+use Rattle.held.proofs.Bases.{InOrder, order_swaps, order_adds, order_removes, order_times, base_then, order_then, table_owned, owned_changed, owned_times, owned_joins, owned_swaps, owned_leaves, kept_named, kept_inside, arranged_out, arranged_changed, means_out, intact_out, means_changed, put_means, remove_base, swapped_intact, swapped_means, joined_intact, joined_means, retimed_means, same_times}
+
+-- a database without a key means none
+pub no_base_means : {V : Type 0} (value_of : Blocks → V → Value) (m : Blocks) (number : ℕ) → base_means value_of m (no_base {V = V} number) ≡ model.no_keys
+no_base_means {V} value_of m number = ap (λ values. with_deadlines values (moments m (no_base {V = V} number).deadlines)) (map_of-empty m (value_of m) (no_keys number) refl) ∙ with_none (moments m (no_base {V = V} number).deadlines)
 
 module _ {V : Type 0} (refs_of : V → List BlockRef) (value_of : Blocks → V → Value) (own : ReadsOwn refs_of value_of) where
+  -- what stands at a key of a database, or doesn't
+  module _ (bases : Bases V) (db : ℕ) (m : Blocks) (a : IsArranged bases m) (key : List ℕ) where
+    pub look_is : look (means value_of db bases m) key ≡ entry_with (get (map_of m (value_of m) (table_at bases db)) key) (get (moments m (deadlines_at bases db)) key)
+    look_is = get_with (moments m (deadlines_at bases db)) (map_of m (value_of m) (table_at bases db)) key
+
+    pub look_lacks : Lacks m (table_at bases db) key → look (means value_of db bases m) key ≡ None
+    look_lacks lacks = look_is ∙ ap (λ o. entry_with o (get (moments m (deadlines_at bases db)) key)) (map_of-lacks m (value_of m) (table_at bases db) key (a.keyed db) lacks)
+
+    pub look_stands : (at : ℕ) (e : Element V) → item (table_at bases db) at ≡ Some e → m e.key ≡ Some key → (deadline : Option ℕ) → get (moments m (deadlines_at bases db)) key ≡ deadline → look (means value_of db bases m) key ≡ Some (record { value = value_of m e.value; deadline = deadline })
+    look_stands at e found bytes deadline lasts = look_is ∙ (λ i. entry_with (map_of-stands m (value_of m) (table_at bases db) at e key (a.keyed db) found bytes i) (lasts i))
+
+    -- a key that isn't there has no deadline
+    pub lacks_deadline : Lacks m (table_at bases db) key → get (moments m (deadlines_at bases db)) key ≡ None
+    lacks_deadline lacks = moments_lack m (deadlines_at bases db) key (a.timed db).keyed (untimed m (table_at bases db) (deadlines_at bases db) key (a.timed db) lacks)
+
+    -- the deadline that the world has
+    pub deadline_seen : get (moments m (deadlines_at bases db)) key ≡ deadline_of (look (means value_of db bases m) key)
+    deadline_seen = elim (cases_key m (table_at bases db) key (a.keyed db)) [
+      | inl s ↦ sym (ap deadline_of (look_stands s.at s.element s.found s.bytes _ refl))
+      | inr lacks ↦ lacks_deadline lacks ∙ sym (ap deadline_of (look_lacks lacks))
+    ]
+
+    pub deadline_latest : (o : Option ℕ) → IfSome o (λ d. HasDeadline m (deadlines_at bases db).table key d) → IsDeadline o
+    deadline_latest None found = tt
+    deadline_latest (Some d) found = (a.timed db).latest found.at _ found.found
+
   -- ---- keys leave a table with their values, and all their blocks are given back
 
-  module _ (old new : Bases V) (db : ℕ) (m after : Blocks) (c : ChangesTable old new db) (intact : IsIntact refs_of old m []) (xs : List BlockRef) (gone : (r : BlockRef) → times r (owned refs_of old) ≡ times r (owned refs_of new) + times r xs) (keyed : Keyed m (table_at new db)) where
+  module _ (old new : Bases V) (db : ℕ) (m after : Blocks) (c : ChangesBase old new db) (intact : IsIntact refs_of old m []) (xs : List BlockRef) (gone : (r : BlockRef) → times r (owned refs_of old) ≡ times r (owned refs_of new) + times r xs) (order : InOrder m old new db) where
     pub left_owned : Owned xs m
     left_owned r = omega (arith, intact.owned r, gone r)
 
     left_out : IsIntact refs_of new m xs
-    left_out = record { owned = λ r. omega (arith, intact.owned r, gone r); arranged = arranged_changed refs_of value_of own old new db m c intact.arranged keyed }
+    left_out = record { owned = λ r. omega (arith, intact.owned r, gone r); arranged = arranged_changed refs_of value_of own old new db m c intact.arranged order }
 
     module _ (p : Changes m after xs []) where
       pub left_arranged : IsArranged new after
@@ -37,147 +75,115 @@ module _ {V : Type 0} (refs_of : V → List BlockRef) (value_of : Blocks → V �
       pub left_changes : Changes m after (owned refs_of old) (owned refs_of new)
       left_changes = Changes-beside m after xs [] (owned refs_of old) (owned refs_of new) p (λ r. omega (arith, intact.owned r)) (λ r. times r (owned refs_of new)) (λ r. omega (arith, gone r)) (λ r. omega arith)
 
-      -- the table's map is what the database means afterwards
-      pub left_means : (base : Database) → map_of m (entry_of value_of m) (table_at new db) ≡ base → means value_of db new after ≡ with_base (means value_of db old m) base
+      -- what the database means over the store before is what it means afterwards
+      pub left_means : (base : Database) → base_means value_of m (base_at new db) ≡ base → means value_of db new after ≡ with_base (means value_of db old m) base
       left_means base is =
           means_out refs_of value_of own new m after xs xs [] left_out p (λ r. omega arith) db
           ∙ means_changed refs_of value_of own old new db m c base is
 
-  -- a key leaves
-  pub one_means : (old new : Bases V) (db : ℕ) (m : Blocks) (a : IsArranged old m) (keyed : Keyed m (table_at new db)) (key : List ℕ) (ref : BlockRef) (value : V) → Removes m (table_at old db) (table_at new db) key ref value → map_of m (entry_of value_of m) (table_at new db) ≡ remove (map_of m (entry_of value_of m) (table_at old db)) key
-  one_means old new db m a keyed key ref value l = map_of-removes m (entry_of value_of m) (table_at old db) (table_at new db) (a.keyed db) key ref value keyed l
+  -- a key's deadline goes, and then the key
+  module _ (old mid : Bases V) (db : ℕ) (m : Blocks) (a : IsArranged old m) (key : List ℕ) (c : ChangesDeadlines old mid db) (times_are : moments m (deadlines_at mid db) ≡ remove (moments m (deadlines_at old db)) key) (cleared : Clears m (deadlines_at old db).table (deadlines_at mid db).table key ⊎ ((mid ≡ old) × Lacks m (deadlines_at old db).table key))
+      (times_keyed : Keyed m (deadlines_at mid db).table) where
+    clear_seed : (deadlines_at mid db).table.seed ≡ (deadlines_at old db).table.seed
+    clear_seed = elim cleared [ inl x ↦ x.removes.seed | inr same ↦ ap (λ (b : Bases V). (deadlines_at b db).table.seed) same.0 ]
+
+    clear_timed : IsTimed m (table_at old db) (deadlines_at mid db) × Lacks m (deadlines_at mid db).table key
+    clear_timed = timed_clears m (table_at old db) (deadlines_at old db) (deadlines_at mid db) key (elim cleared [ inl x ↦ inl x | inr same ↦ inr (ap (λ (b : Bases V). deadlines_at b db) same.0, same.1) ]) times_keyed (a.timed db)
+
+    pub clear_order : InOrder m old mid db
+    clear_order = order_times m old mid db a c clear_timed.0 clear_seed
+
+    pub clear_arranged : IsArranged mid m
+    clear_arranged = arranged_changed refs_of value_of own old mid db m c.base a clear_order
+
+    pub cleared_sound : (new : Bases V) → new ≡ mid → (out : List BlockRef) → SoundBeside refs_of old m out → SoundBeside refs_of new m out
+    cleared_sound new same out sound = subst (λ (b : Bases V). SoundBeside refs_of b m out) (sym same) (record { owns = λ r. omega (arith, sound.owns r, owned_times refs_of value_of own old mid db c r); arranged = clear_arranged })
+
+    -- nothing stood there
+    module _ (lacks : Lacks m (table_at mid db) key) where
+      pub absent_lacks : Lacks m (table_at old db) key
+      absent_lacks = subst (λ (k : Table V). Lacks m k key) c.keys lacks
+
+      pub absent_means : means value_of db mid m ≡ without (means value_of db old m) key
+      absent_means =
+          means_changed refs_of value_of own old mid db m c.base _
+          (remove_base refs_of value_of own old mid db m key (ap (map_of m (value_of m)) c.keys ∙ map_of-kept m (value_of m) (table_at old db) (table_at old db) (a.keyed db) key refl absent_lacks) times_are)
+
+    module _ (new : Bases V) (d : ChangesTable mid new db) (ref : BlockRef) (value : V) (removes : Removes m (table_at mid db) (table_at new db) key ref value) (keyed : Keyed m (table_at new db)) where
+      pub drop_changes : ChangesBase old new db
+      drop_changes = base_then old mid new db c.base d.base
+
+      pub drop_order : InOrder m old new db
+      drop_order = order_then old mid new db m c.base clear_order (order_removes m mid new db clear_arranged d keyed key ref value removes clear_timed.1)
+
+      pub drop_gone : (r : BlockRef) → times r (owned refs_of old) ≡ times r (owned refs_of new) + times r (ref ∷ refs_of value)
+      drop_gone r = omega (arith, owned_times refs_of value_of own old mid db c r, owned_leaves refs_of value_of own mid new db d.base r m key ref value removes)
+
+      pub drop_base : base_means value_of m (base_at new db) ≡ remove (base_means value_of m (base_at old db)) key
+      drop_base = remove_base refs_of value_of own old new db m key
+          (map_of-removes m (value_of m) (table_at mid db) (table_at new db) (clear_arranged.keyed db) key ref value keyed removes ∙ ap (λ (k : Table V). remove (map_of m (value_of m) k) key) c.keys)
+          (ap (moments m) d.deadlines ∙ times_are)
+
+      -- the key was there
+      pub drop_had : get (map_of m (value_of m) (table_at old db)) key ≡ Some (value_of m value)
+      drop_had = ap (λ (k : Table V). get (map_of m (value_of m) k) key) (sym c.keys) ∙ map_of-had m (value_of m) (table_at mid db) (table_at new db) (clear_arranged.keyed db) key ref value removes
+
+  pub cleared_changes : (old mid new : Bases V) (db : ℕ) (m : Blocks) → IsIntact refs_of old m [] → ChangesDeadlines old mid db → new ≡ mid → Changes m m (owned refs_of old) (owned refs_of new)
+  cleared_changes old mid new db m intact c same = subst (λ (b : Bases V). Changes m m (owned refs_of old) (owned refs_of b)) (sym same)
+      (Changes-beside m m [] [] (owned refs_of old) (owned refs_of mid) (Changes-same m [] (λ q. omega arith)) (λ r. omega (arith, intact.owned r)) (λ r. times r (owned refs_of old)) (λ r. omega arith) (λ r. omega (arith, owned_times refs_of value_of own old mid db c r)))
+
+  -- a key's deadline goes, then the key, and its blocks are given back
+  module _ (old mid : Bases V) (db : ℕ) (m : Blocks) (intact : IsIntact refs_of old m []) (key : List ℕ) (c : ChangesDeadlines old mid db) (times_are : moments m (deadlines_at mid db) ≡ remove (moments m (deadlines_at old db)) key) (cleared : Clears m (deadlines_at old db).table (deadlines_at mid db).table key ⊎ ((mid ≡ old) × Lacks m (deadlines_at old db).table key))
+      (times_keyed : Keyed m (deadlines_at mid db).table) (new : Bases V) (d : ChangesTable mid new db) (ref : BlockRef) (value : V) (removes : Removes m (table_at mid db) (table_at new db) key ref value) (keyed : Keyed m (table_at new db)) where
+    gone : (r : BlockRef) → times r (owned refs_of old) ≡ times r (owned refs_of new) + times r (ref ∷ refs_of value)
+    gone = drop_gone old mid db m intact.arranged key c times_are cleared times_keyed new d ref value removes keyed
+
+    base : ChangesBase old new db
+    base = drop_changes old mid db m intact.arranged key c times_are cleared times_keyed new d ref value removes keyed
+
+    order : InOrder m old new db
+    order = drop_order old mid db m intact.arranged key c times_are cleared times_keyed new d ref value removes keyed
+
+    pub dropped_owned : Owned (ref ∷ refs_of value) m
+    dropped_owned = left_owned old new db m m base intact (ref ∷ refs_of value) gone order
+
+    pub dropped_look : look (means value_of db old m) key ≡ Some (record { value = value_of m value; deadline = get (moments m (deadlines_at old db)) key })
+    dropped_look = look_is old db m intact.arranged key ∙ ap (λ o. entry_with o (get (moments m (deadlines_at old db)) key)) (drop_had old mid db m intact.arranged key c times_are cleared times_keyed new d ref value removes keyed)
+
+    module _ (after : Blocks) (p : Changes m after (ref ∷ refs_of value) []) where
+      pub dropped_arranged : IsArranged new after
+      dropped_arranged = left_arranged old new db m after base intact (ref ∷ refs_of value) gone order p
+
+      pub dropped_changes : Changes m after (owned refs_of old) (owned refs_of new)
+      dropped_changes = left_changes old new db m after base intact (ref ∷ refs_of value) gone order p
+
+      pub dropped_means : means value_of db new after ≡ without (means value_of db old m) key
+      dropped_means = left_means old new db m after base intact (ref ∷ refs_of value) gone order p _ (drop_base old mid db m intact.arranged key c times_are cleared times_keyed new d ref value removes keyed)
 
   -- all keys leave
-  pub all_gone : (old new : Bases V) (db : ℕ) (c : ChangesTable old new db) (seed : ℕ) → table_at new db ≡ no_keys seed → (r : BlockRef) → times r (owned refs_of old) ≡ times r (owned refs_of new) + times r (refs refs_of (table_at old db))
-  all_gone old new db c seed none r =
-      let nothing : times r (refs refs_of (table_at new db)) ≡ 0 = ap (λ (t : Table V). times r (refs refs_of t)) none in
-      omega (arith, owned_changed refs_of value_of own old new db c r, nothing)
+  module _ (old new : Bases V) (db seed : ℕ) (c : ChangesBase old new db) (none : base_at new db ≡ no_base seed) where
+    pub all_gone : (r : BlockRef) → times r (owned refs_of old) ≡ times r (owned refs_of new) + times r (refs refs_of (table_at old db))
+    all_gone r =
+        let nothing : times r (refs refs_of (table_at new db)) ≡ 0 = ap (λ (b : Base V). times r (refs refs_of b.keys)) none in
+        omega (arith, owned_changed refs_of value_of own old new db c r, nothing)
 
-  pub all_means : (new : Bases V) (db : ℕ) (m : Blocks) (seed : ℕ) → table_at new db ≡ no_keys seed → map_of m (entry_of value_of m) (table_at new db) ≡ model.no_keys
-  all_means new db m seed none = map_of-empty m (entry_of value_of m) (table_at new db) (ap (λ (t : Table V). t.items) none)
+    pub all_order : (m : Blocks) → seed ≡ old.seed → InOrder m old new db
+    all_order m same = record {
+      keyed = subst (λ (b : Base V). Keyed m b.keys) (sym none) (Keyed-none m seed);
+      timed = subst (λ (b : Base V). IsTimed m b.keys b.deadlines) (sym none) (timed_none m seed seed);
+      seeds = λ h. subst (λ (b : Base V). HasSeed b old.seed) (sym none) (record { keys = same; deadlines = same });
+    }
 
-  -- what stands at a key of a database, or doesn't
-  module _ (bases : Bases V) (db : ℕ) (m : Blocks) (a : IsArranged bases m) (key : List ℕ) where
-    pub look_lacks : Lacks m (table_at bases db) key → look (means value_of db bases m) key ≡ None
-    look_lacks lacks = map_of-lacks m (entry_of value_of m) (table_at bases db) key (a.keyed db) lacks
-
-    pub look_stands : (at : ℕ) (e : Element V) → item (table_at bases db) at ≡ Some e → m e.key ≡ Some key → look (means value_of db bases m) key ≡ Some (entry_of value_of m e.value)
-    look_stands at e found bytes = map_of-stands m (entry_of value_of m) (table_at bases db) at e key (a.keyed db) found bytes
-
-    -- a key that isn't there can't be removed
-    pub without_absent : Lacks m (table_at bases db) key → means value_of db bases m ≡ without (means value_of db bases m) key
-    without_absent lacks = means_changed refs_of value_of own bases bases db m (record { others = λ number other. refl; count = refl; settings = record { limits = refl; seed = refl } }) _ (map_of-kept m (entry_of value_of m) (table_at bases db) (table_at bases db) (a.keyed db) key refl lacks)
-
-  -- the key of an element that leaves was there
-  pub look_left : (old new : Bases V) (db : ℕ) (m : Blocks) (a : IsArranged old m) (key : List ℕ) (ref : BlockRef) (value : V) → Removes m (table_at old db) (table_at new db) key ref value → look (means value_of db old m) key ≡ Some (entry_of value_of m value)
-  look_left old new db m a key ref value l = map_of-had m (entry_of value_of m) (table_at old db) (table_at new db) (a.keyed db) key ref value l
+    pub all_means : (m : Blocks) → base_means value_of m (base_at new db) ≡ model.no_keys
+    all_means m = ap (base_means value_of m) none ∙ no_base_means value_of m seed
 
   -- an element's references are among those that the databases own
   pub item_owned : (bases : Bases V) (db at : ℕ) (e : Element V) (r : BlockRef) → item (table_at bases db) at ≡ Some e → times r (e.key ∷ refs_of e.value) ≤ times r (owned refs_of bases)
   item_owned bases db at e r found =
       omega (arith, named_in refs_of (table_at bases db) at e r found, table_owned refs_of value_of own bases db r)
 
-  -- ---- a value takes the place of another
-
-  module _ (old new : Bases V) (db : ℕ) (m : Blocks) (c : ChangesTable old new db) (at : ℕ) (was value : V) (s : Swaps (table_at old db) (table_at new db) at was value) (keyed : Keyed m (table_at new db)) where
-    -- the element that was found there is the one that changes
-    pub swapped_key : (key : List ℕ) → Stands m (table_at old db) at key → m s.key ≡ Some key
-    swapped_key key stands =
-        let same : stands.element ≡ record { key = s.key; hash = s.hash; value = was } = (let both : Some stands.element ≡ Some (record { key = s.key; hash = s.hash; value = was }) = sym stands.found ∙ s.found in cc) in
-        ap (λ (e : Element V). m e.key) (sym same) ∙ stands.bytes
-
-    module _ (intact : IsIntact refs_of old m (refs_of value)) (after : Blocks) (p : Changes m after (refs_of was) []) where
-      over_out : IsIntact refs_of new m (refs_of was)
-      over_out = swapped_intact refs_of value_of own old new db m c (refs_of value) intact at was value s keyed (refs_of was) (λ r. omega arith)
-
-      pub over_arranged : IsArranged new after
-      over_arranged = arranged_out refs_of value_of own new m after (refs_of was) (refs_of was) [] over_out p (λ r. omega arith)
-
-      pub over_means : (key : List ℕ) → Stands m (table_at old db) at key → means value_of db new after ≡ put (means value_of db old m) key (entry_of value_of m value)
-      over_means key stands =
-          means_out refs_of value_of own new m after (refs_of was) (refs_of was) [] over_out p (λ r. omega arith) db
-          ∙ swapped_means refs_of value_of own old new db m c (refs_of value) intact at was value s keyed key (swapped_key key stands)
-
-      pub over_changes : Changes m after (owned refs_of old ++ refs_of value) (owned refs_of new)
-      over_changes = Changes-beside m after (refs_of was) [] (owned refs_of old ++ refs_of value) (owned refs_of new) p (λ r. omega (arith, intact.owned r, times-append r (owned refs_of old) (refs_of value))) (λ r. times r (owned refs_of new))
-          (λ r. omega (arith, times-append r (owned refs_of old) (refs_of value), owned_swaps refs_of value_of own old new db c r at was value s)) (λ r. omega arith)
-
-    -- the value that was there owns live blocks
-    pub over_owned : (out : List BlockRef) → IsIntact refs_of old m out → Owned (refs_of was) m
-    over_owned out intact r = omega (arith, intact.owned r, item_owned old db at (record { key = s.key; hash = s.hash; value = was }) r s.found)
-
-  -- ---- a key joins with its value
-
-  -- a key's block is placed
-  module _ (old : Bases V) (m mid : Blocks) (r : BlockRef) (key : List ℕ) (value : V) (intact : IsIntact refs_of old m (refs_of value)) (placed : mid ≡ with_block m r (Some key)) (p : Changes m mid [] (r ∷ [])) where
-    pub placed_bytes : mid r ≡ Some key
-    placed_bytes = ap (λ b. b r) placed ∙ with_block-same m r (Some key)
-
-    pub placed_intact : IsIntact refs_of old mid (r ∷ refs_of value)
-    placed_intact = intact_out refs_of value_of own old m mid (refs_of value) [] (r ∷ []) intact p (λ q. omega arith) (r ∷ refs_of value) (λ q. omega arith)
-
-    pub placed_lacks : (db : ℕ) → Lacks m (table_at old db) key → Lacks mid (table_at old db) (bytes_at mid r)
-    placed_lacks db lacks =
-        subst (Lacks mid (table_at old db)) (sym (some_bytes mid r key placed_bytes)) (record {
-          each = λ at e found same. lacks.each at e found (sym (kept_inside refs_of value_of own old m mid (refs_of value) [] (r ∷ []) intact p (λ q. omega arith) e.key
-              (let itself : one_if (ref_eq e.key e.key) ≡ 1 = cond-true _ _ _ (ref_eq-refl e.key) in omega (arith, itself, item_owned old db at e e.key found))) ∙ same);
-        })
-
-    placed_entry : entry_of value_of mid value ≡ entry_of value_of m value
-    placed_entry = entry_own refs_of value_of own m mid value (λ q named. kept_named refs_of value_of own old m mid (refs_of value) [] (r ∷ []) intact p q (omega (arith, named)) refl)
-
-    -- both stand in the table
-    module _ (new : Bases V) (db : ℕ) (c : ChangesTable old new db) (at hash : ℕ) (a : Adds (table_at old db) (table_at new db) at (record { key = r; hash = hash; value = value })) (keyed : Keyed mid (table_at new db)) where
-      pub new_means : means value_of db new mid ≡ put (means value_of db old m) key (entry_of value_of m value)
-      new_means =
-          joined_means refs_of value_of own old new db mid c (r ∷ refs_of value) placed_intact at (record { key = r; hash = hash; value = value }) a keyed key placed_bytes
-          ∙ (λ i. put (means_out refs_of value_of own old m mid (refs_of value) [] (r ∷ []) intact p (λ q. omega arith) db i) key (placed_entry i))
-
-      pub new_arranged : IsArranged new mid
-      new_arranged = (joined_intact refs_of value_of own old new db mid c (r ∷ refs_of value) placed_intact at (record { key = r; hash = hash; value = value }) a keyed [] (λ q. omega arith)).arranged
-
-      pub new_changes : Changes m mid (owned refs_of old ++ refs_of value) (owned refs_of new)
-      new_changes = Changes-beside m mid [] (r ∷ []) (owned refs_of old ++ refs_of value) (owned refs_of new) p (λ q. omega (arith, intact.owned q, times-append q (owned refs_of old) (refs_of value))) (λ q. times q (owned refs_of old) + times q (refs_of value))
-          (λ q. omega (arith, times-append q (owned refs_of old) (refs_of value))) (λ q. omega (arith, owned_joins refs_of value_of own old new db c q at (record { key = r; hash = hash; value = value }) a))
-
-    -- both are given back
-    module _ (after : Blocks) (back : Changes mid after (r ∷ refs_of value) []) where
-      pub back_owned : Owned (r ∷ refs_of value) mid
-      back_owned q = omega (arith, placed_intact.owned q)
-
-      pub back_means : (db : ℕ) → means value_of db old after ≡ means value_of db old m
-      back_means db = means_out refs_of value_of own old mid after (r ∷ refs_of value) (r ∷ refs_of value) [] placed_intact back (λ q. omega arith) db ∙ means_out refs_of value_of own old m mid (refs_of value) [] (r ∷ []) intact p (λ q. omega arith) db
-
-      pub back_arranged : IsArranged old after
-      back_arranged = arranged_out refs_of value_of own old mid after (r ∷ refs_of value) (r ∷ refs_of value) [] placed_intact back (λ q. omega arith)
-
-      pub back_changes : Changes m after (owned refs_of old ++ refs_of value) (owned refs_of old)
-      back_changes =
-          Changes-then m mid after (owned refs_of old ++ refs_of value) (owned refs_of old ++ r ∷ refs_of value) (owned refs_of old)
-          (Changes-beside m mid [] (r ∷ []) (owned refs_of old ++ refs_of value) (owned refs_of old ++ r ∷ refs_of value) p (λ q. omega (arith, intact.owned q, times-append q (owned refs_of old) (refs_of value))) (λ q. times q (owned refs_of old) + times q (refs_of value))
-          (λ q. omega (arith, times-append q (owned refs_of old) (refs_of value))) (λ q. omega (arith, times-append q (owned refs_of old) (r ∷ refs_of value))))
-          (Changes-beside mid after (r ∷ refs_of value) [] (owned refs_of old ++ r ∷ refs_of value) (owned refs_of old) back (λ q. omega (arith, placed_intact.owned q, times-append q (owned refs_of old) (r ∷ refs_of value))) (λ q. times q (owned refs_of old))
-          (λ q. omega (arith, times-append q (owned refs_of old) (r ∷ refs_of value))) (λ q. omega arith))
-
-      -- over both calls, the value alone
-      pub back_alone : Changes m after (refs_of value) []
-      back_alone =
-          Changes-then m mid after (refs_of value) (r ∷ refs_of value) []
-          (Changes-beside m mid [] (r ∷ []) (refs_of value) (r ∷ refs_of value) p (λ q. omega (arith, intact.owned q)) (λ q. times q (refs_of value)) (λ q. omega arith) (λ q. omega arith)) back
-
-  -- the value alone is given back
-  module _ (old : Bases V) (m after : Blocks) (value : V) (intact : IsIntact refs_of old m (refs_of value)) (p : Changes m after (refs_of value) []) where
-    pub refused_means : (db : ℕ) → means value_of db old after ≡ means value_of db old m
-    refused_means db = means_out refs_of value_of own old m after (refs_of value) (refs_of value) [] intact p (λ q. omega arith) db
-
-    pub refused_arranged : IsArranged old after
-    refused_arranged = arranged_out refs_of value_of own old m after (refs_of value) (refs_of value) [] intact p (λ q. omega arith)
-
-    pub refused_changes : Changes m after (owned refs_of old ++ refs_of value) (owned refs_of old)
-    refused_changes = Changes-beside m after (refs_of value) [] (owned refs_of old ++ refs_of value) (owned refs_of old) p (λ q. omega (arith, intact.owned q, times-append q (owned refs_of old) (refs_of value))) (λ q. times q (owned refs_of old))
-        (λ q. omega (arith, times-append q (owned refs_of old) (refs_of value))) (λ q. omega arith)
-
-  -- ---- lifting and lowering
+  pub key_itself : (r : BlockRef) → one_if (ref_eq r r) ≡ 1
+  key_itself r = cond-true _ _ _ (ref_eq-refl r)
 
   pub put_twice : (w : World) (key : List ℕ) (a b : Entry) → put (put w key a) key b ≡ put w key b
   put_twice w key a b = λ i. record { bases = λ number. each number i; selected = w.selected }
@@ -196,48 +202,243 @@ module _ {V : Type 0} (refs_of : V → List BlockRef) (value_of : Blocks → V �
   pub look_put : (w : World) (key : List ℕ) (a : Entry) → look (put w key a) key ≡ Some a
   look_put w key a = ap (λ (base : Database). get base key) (cond-true _ _ _ (eq-eqb w.selected w.selected refl)) ∙ get_inserted (w.bases w.selected) key a
 
-  -- no key has a deadline, so none is gone
-  pub live_means : (db : ℕ) (bases : Bases V) (m : Blocks) (moment : ℕ) → model.live (means value_of db bases m) moment ≡ means value_of db bases m
-  live_means db bases m moment = λ i. record { bases = λ number. each (table_at bases number) i; selected = db }
-    where
-      there : (o : Option Entry) → ((e : Entry) → o ≡ Some e → e.deadline ≡ None) → cond (model.is_there moment o) o None ≡ o
-      there None h = refl
-      there (Some e) h = ap (λ d. cond (model.in_time moment d) (Some e) None) (h e refl)
+  -- ---- a value takes the place of another
 
-      each : (t : Table V) → model.live_keys (map_of m (entry_of value_of m) t) moment ≡ map_of m (entry_of value_of m) t
-      each t =
-          let base = map_of m (entry_of value_of m) t in
-          let test : List ℕ → Bool = λ q. model.is_there moment (get base q) in
-          maps_alike (model.live_keys base moment) base (λ q.
-          get-retain_keys base test q (λ x same. ap test (sym (slice_cmp-IsAntisymmetric nat_cmp-IsAntisymmetric q x same)))
-          ∙ there (get base q) (map_of-each m (entry_of value_of m) (λ entry. entry.deadline ≡ None) (λ value. refl) t q))
+  module _ (old new : Bases V) (db : ℕ) (m : Blocks) (c : ChangesTable old new db) (at : ℕ) (was value : V) (s : Swaps (table_at old db) (table_at new db) at was value) (keyed : Keyed m (table_at new db)) (a : IsArranged old m) where
+    -- the element that was found there is the one that changes
+    pub swapped_key : (key : List ℕ) → Stands m (table_at old db) at key → m s.key ≡ Some key
+    swapped_key key stands =
+        let same : stands.element ≡ record { key = s.key; hash = s.hash; value = was } = (let both : Some stands.element ≡ Some (record { key = s.key; hash = s.hash; value = was }) = sym stands.found ∙ s.found in cc) in
+        ap (λ (e : Element V). m e.key) (sym same) ∙ stands.bytes
 
-  pub no_deadline : (db : ℕ) (bases : Bases V) (m : Blocks) (moment : ℕ) (key : List ℕ) (e : Entry) → look (model.live (means value_of db bases m) moment) key ≡ Some e → e.deadline ≡ None
-  no_deadline db bases m moment key e is =
-      map_of-each m (entry_of value_of m) (λ entry. entry.deadline ≡ None) (λ value. refl) (table_at bases db) key e (sym (ap (λ w. look w key) (live_means db bases m moment)) ∙ is)
+    over_order : InOrder m old new db
+    over_order = order_swaps m old new db a c keyed at was value s
 
-  pub look_now : (bases : Bases V) (db moment : ℕ) (m : Blocks) (key : List ℕ) (o : Option Entry) → look (means value_of db bases m) key ≡ o → look (model.live (means value_of db bases m) moment) key ≡ o
-  look_now bases db moment m key o is = ap (λ w. look w key) (live_means db bases m moment) ∙ is
+    pub over_intact : (out later : List BlockRef) → IsIntact refs_of old m out → ((r : BlockRef) → times r later + times r (refs_of value) ≡ times r out + times r (refs_of was)) → IsIntact refs_of new m later
+    over_intact out later intact same = swapped_intact refs_of value_of own old new db m c.base out intact over_order at was value s later same
+
+    module _ (intact : IsIntact refs_of old m (refs_of value)) (after : Blocks) (p : Changes m after (refs_of was) []) where
+      over_out : IsIntact refs_of new m (refs_of was)
+      over_out = over_intact (refs_of value) (refs_of was) intact (λ r. omega arith)
+
+      pub over_arranged : IsArranged new after
+      over_arranged = arranged_out refs_of value_of own new m after (refs_of was) (refs_of was) [] over_out p (λ r. omega arith)
+
+      pub over_means : (key : List ℕ) → Stands m (table_at old db) at key → (deadline : Option ℕ) → get (moments m (deadlines_at old db)) key ≡ deadline → means value_of db new after ≡ put (means value_of db old m) key (record { value = value_of m value; deadline = deadline })
+      over_means key stands deadline lasts =
+          means_out refs_of value_of own new m after (refs_of was) (refs_of was) [] over_out p (λ r. omega arith) db
+          ∙ swapped_means refs_of value_of own old new db m a at c keyed was value s key (swapped_key key stands) deadline lasts
+
+      pub over_changes : Changes m after (owned refs_of old ++ refs_of value) (owned refs_of new)
+      over_changes = Changes-beside m after (refs_of was) [] (owned refs_of old ++ refs_of value) (owned refs_of new) p (λ r. omega (arith, intact.owned r, times-append r (owned refs_of old) (refs_of value))) (λ r. times r (owned refs_of new))
+          (λ r. omega (arith, times-append r (owned refs_of old) (refs_of value), owned_swaps refs_of value_of own old new db c.base r at was value s)) (λ r. omega arith)
+
+    -- the value that was there owns live blocks
+    pub over_owned : (out : List BlockRef) → IsIntact refs_of old m out → Owned (refs_of was) m
+    over_owned out intact r = omega (arith, intact.owned r, item_owned old db at (record { key = s.key; hash = s.hash; value = was }) r s.found)
+
+  -- ---- a key's deadline is set or goes
+
+  module _ (old mid : Bases V) (db : ℕ) (m : Blocks) (c : ChangesDeadlines old mid db) (a : IsArranged mid m) where
+    pub retimed_intact : (out : List BlockRef) → IsIntact refs_of old m out → IsIntact refs_of mid m out
+    retimed_intact out intact = record { owned = λ r. omega (arith, intact.owned r, owned_times refs_of value_of own old mid db c r); arranged = a }
+
+    pub retimed_sound : (out : List BlockRef) → SoundBeside refs_of old m out → SoundBeside refs_of mid m out
+    retimed_sound out sound = record { owns = λ r. omega (arith, sound.owns r, owned_times refs_of value_of own old mid db c r); arranged = a }
+
+    pub retimed_changes : (after : Blocks) (part : List BlockRef) (new : Bases V) → IsIntact refs_of old m part → Changes m after (owned refs_of mid ++ part) (owned refs_of new) → Changes m after (owned refs_of old ++ part) (owned refs_of new)
+    retimed_changes after part new intact p =
+        Changes-then m m after (owned refs_of old ++ part) (owned refs_of mid ++ part) (owned refs_of new)
+        (Changes-beside m m [] [] (owned refs_of old ++ part) (owned refs_of mid ++ part) (Changes-same m [] (λ q. omega arith)) (λ r. omega (arith, intact.owned r, times-append r (owned refs_of old) part)) (λ r. times r (owned refs_of old) + times r part)
+        (λ r. omega (arith, times-append r (owned refs_of old) part)) (λ r. omega (arith, times-append r (owned refs_of mid) part, owned_times refs_of value_of own old mid db c r))) p
+
+    module _ (arranged : IsArranged old m) (at : ℕ) (key : List ℕ) (stands : Stands m (table_at old db) at key) (deadline : Option ℕ) (times_are : moments m (deadlines_at mid db) ≡ with_deadline (moments m (deadlines_at old db)) key deadline) where
+      pub retimed_lasts : get (moments m (deadlines_at mid db)) key ≡ deadline
+      retimed_lasts = ap (λ t. get t key) times_are ∙ got_deadline (moments m (deadlines_at old db)) key deadline
+
+      pub retimed_stands : Stands m (table_at mid db) at key
+      retimed_stands = subst (λ (k : Table V). Stands m k at key) (sym c.keys) stands
+
+      pub retimed_put : means value_of db mid m ≡ put (means value_of db old m) key (record { value = value_of m stands.element.value; deadline = deadline })
+      retimed_put = retimed_means refs_of value_of own old mid db m c key (value_of m stands.element.value) (map_of-stands m (value_of m) (table_at old db) at stands.element key (arranged.keyed db) stands.found stands.bytes) deadline times_are
+
+      -- the key's own value, whatever its deadline was
+      pub retimed_entry : (entry : Entry) → look (means value_of db old m) key ≡ Some entry → means value_of db mid m ≡ put (means value_of db old m) key (record { value = entry.value; deadline = deadline })
+      retimed_entry entry is =
+          let both : Some (record { value = value_of m stands.element.value; deadline = get (moments m (deadlines_at old db)) key }) ≡ Some entry = sym (look_stands old db m arranged key at stands.element stands.found stands.bytes _ refl) ∙ is in
+          let same : record { value = value_of m stands.element.value; deadline = get (moments m (deadlines_at old db)) key } ≡ entry = cc in
+          retimed_put ∙ ap (λ (e : Entry). put (means value_of db old m) key (record { value = e.value; deadline = deadline })) same
+
+  -- the key of an item number gets a deadline
+  module _ (old mid : Bases V) (db : ℕ) (m : Blocks) (a : IsArranged old m) (at : ℕ) (key : List ℕ) (stands : Stands m (table_at old db) at key) (name : BlockRef) (is : key_at (item (table_at old db) at) ≡ Some name) where
+    named : stands.element.key ≡ name
+    named = (let both : Some stands.element.key ≡ Some name = sym (ap key_at stands.found) ∙ is in cc)
+
+    bytes : m name ≡ Some key
+    bytes = ap m (sym named) ∙ stands.bytes
+
+    pub set_arranged : {E : Type 0} (d : ℕ) (deadline : Option ℕ) → deadline ≡ Some d → IsDeadline deadline → (result : Result (Unit {0}) E) → ChangesDeadlines old mid db → OnOk result (Sets m (deadlines_at old db).table (deadlines_at mid db).table name d) → Keyed m (deadlines_at mid db).table → OnErr result (mid ≡ old) → IsArranged mid m
+    set_arranged d deadline some late (Ok u) c sets keyed err =
+        arranged_changed refs_of value_of own old mid db m c.base a (order_times m old mid db a c
+        (timed_sets m (table_at old db) (deadlines_at old db) (deadlines_at mid db) name d sets keyed (a.keyed db) (ap is_some bytes) (record { at = at; element = stands.element; found = stands.found; same = named }) (subst IsDeadline some late) (a.timed db))
+        (sets_seed m name (deadlines_at old db) (deadlines_at mid db) d sets))
+    set_arranged d deadline some late (Err e) c sets keyed err = subst (λ (b : Bases V). IsArranged b m) (sym err) a
+
+    pub set_times : {E : Type 0} (d : ℕ) (deadline : Option ℕ) → deadline ≡ Some d → (result : Result (Unit {0}) E) → OnOk result (moments m (deadlines_at mid db) ≡ insert (moments m (deadlines_at old db)) (bytes_at m name) d) → OnOk result (moments m (deadlines_at mid db) ≡ with_deadline (moments m (deadlines_at old db)) key deadline)
+    set_times d deadline some (Ok u) times = times ∙ ap (λ k. insert (moments m (deadlines_at old db)) k d) (some_bytes m name key bytes) ∙ sym (ap (with_deadline (moments m (deadlines_at old db)) key) some)
+    set_times d deadline some (Err e) times = tt
+
+  -- a key's deadline is set, and a value takes the place of its own
+  module _ (old mid new : Bases V) (db : ℕ) (m after : Blocks) (at : ℕ) (key : List ℕ) (was value : V) (deadline : Option ℕ) (intact : IsIntact refs_of old m (refs_of value)) (c : ChangesDeadlines old mid db) (arranged : IsArranged mid m) (times_are : moments m (deadlines_at mid db) ≡ with_deadline (moments m (deadlines_at old db)) key deadline)
+      (stands : Stands m (table_at old db) at key) (d : ChangesTable mid new db) (s : Swaps (table_at mid db) (table_at new db) at was value) (keyed : Keyed m (table_at new db)) where
+    mid_intact : IsIntact refs_of mid m (refs_of value)
+    mid_intact = retimed_intact old mid db m c arranged (refs_of value) intact
+
+    pub put_owned : Owned (refs_of was) m
+    put_owned = over_owned mid new db m d at was value s keyed arranged (refs_of value) mid_intact
+
+    module _ (p : Changes m after (refs_of was) []) where
+      pub put_arranged : IsArranged new after
+      put_arranged = over_arranged mid new db m d at was value s keyed arranged mid_intact after p
+
+      pub put_changes : Changes m after (owned refs_of old ++ refs_of value) (owned refs_of new)
+      put_changes = retimed_changes old mid db m c arranged after (refs_of value) new intact (over_changes mid new db m d at was value s keyed arranged mid_intact after p)
+
+      pub put_over : means value_of db new after ≡ put (means value_of db old m) key (record { value = value_of m value; deadline = deadline })
+      put_over =
+          over_means mid new db m d at was value s keyed arranged mid_intact after p key (retimed_stands old mid db m c arranged intact.arranged at key stands deadline times_are) deadline (retimed_lasts old mid db m c arranged intact.arranged at key stands deadline times_are)
+          ∙ ap (λ w. put w key (record { value = value_of m value; deadline = deadline })) (retimed_put old mid db m c arranged intact.arranged at key stands deadline times_are)
+          ∙ put_twice (means value_of db old m) key _ _
+
+  -- ---- a key joins with its value
+
+  -- a key's block is placed
+  module _ (old : Bases V) (m mid : Blocks) (r : BlockRef) (key : List ℕ) (value : V) (intact : IsIntact refs_of old m (refs_of value)) (placed : mid ≡ with_block m r (Some key)) (p : Changes m mid [] (r ∷ [])) where
+    pub placed_bytes : mid r ≡ Some key
+    placed_bytes = ap (λ b. b r) placed ∙ with_block-same m r (Some key)
+
+    pub placed_intact : IsIntact refs_of old mid (r ∷ refs_of value)
+    placed_intact = intact_out refs_of value_of own old m mid (refs_of value) [] (r ∷ []) intact p (λ q. omega arith) (r ∷ refs_of value) (λ q. omega arith)
+
+    pub placed_lacks : (db : ℕ) → Lacks m (table_at old db) key → Lacks mid (table_at old db) key
+    placed_lacks db lacks = record {
+      each = λ at e found same. lacks.each at e found (sym (kept_inside refs_of value_of own old m mid (refs_of value) [] (r ∷ []) intact p (λ q. omega arith) e.key (omega (arith, key_itself e.key, item_owned old db at e e.key found))) ∙ same);
+    }
+
+    placed_value : value_of mid value ≡ value_of m value
+    placed_value = own m mid value (λ q named. kept_named refs_of value_of own old m mid (refs_of value) [] (r ∷ []) intact p q (omega (arith, named)) refl)
+
+    placed_means : (db : ℕ) → means value_of db old mid ≡ means value_of db old m
+    placed_means db = means_out refs_of value_of own old m mid (refs_of value) [] (r ∷ []) intact p (λ q. omega arith) db
+
+    -- both stand in the table
+    module _ (new : Bases V) (db : ℕ) (deadline : Option ℕ) (j : Joins old new mid db r key value deadline) where
+      joined_order : InOrder mid old new db
+      joined_order = record { keyed = j.keyed; timed = j.timed; seeds = λ h. record { keys = j.adds.seed ∙ h.keys; deadlines = j.seed ∙ h.deadlines } }
+
+      pub new_means : means value_of db new mid ≡ put (means value_of db old m) key (record { value = value_of m value; deadline = deadline })
+      new_means =
+          joined_means refs_of value_of own old new db mid placed_intact.arranged j.at j.base j.keyed (record { key = r; hash = j.hash; value = value }) j.adds key placed_bytes deadline j.times
+          ∙ (λ i. put (placed_means db i) key (record { value = placed_value i; deadline = deadline }))
+
+      pub new_arranged : IsArranged new mid
+      new_arranged = (joined_intact refs_of value_of own old new db mid j.base (r ∷ refs_of value) placed_intact joined_order j.at (record { key = r; hash = j.hash; value = value }) j.adds [] (λ q. omega arith)).arranged
+
+      pub new_changes : Changes m mid (owned refs_of old ++ refs_of value) (owned refs_of new)
+      new_changes = Changes-beside m mid [] (r ∷ []) (owned refs_of old ++ refs_of value) (owned refs_of new) p (λ q. omega (arith, intact.owned q, times-append q (owned refs_of old) (refs_of value))) (λ q. times q (owned refs_of old) + times q (refs_of value))
+          (λ q. omega (arith, times-append q (owned refs_of old) (refs_of value))) (λ q. omega (arith, owned_joins refs_of value_of own old new db j.base q j.at (record { key = r; hash = j.hash; value = value }) j.adds))
+
+    -- memory is refused: the key's block is given back, and the value stays out
+    module _ (fresh : m r ≡ None) (new : Bases V) (db : ℕ) (k : KeepsTimes old new mid db) (after : Blocks) (ended : after ≡ with_block mid r None) where
+      kept_arranged : IsArranged new mid
+      kept_arranged = arranged_changed refs_of value_of own old new db mid k.changes.base placed_intact.arranged (order_times mid old new db placed_intact.arranged k.changes k.timed k.seed)
+
+      kept_intact : IsIntact refs_of new mid (r ∷ refs_of value)
+      kept_intact = retimed_intact old new db mid k.changes kept_arranged (r ∷ refs_of value) placed_intact
+
+      back_given : Changes mid after (r ∷ []) []
+      back_given =
+          Changes-counted mid after (r ∷ []) [] (λ q. omega (arith, placed_intact.owned q))
+          (Counts-ended mid after r (r ∷ []) [] (ap is_some placed_bytes) ended (λ q. omega arith))
+
+      pub back_blocks : after ≡ m
+      back_blocks = ended ∙ ap (λ b. with_block b r None) placed ∙ with_block-undone m r (Some key) fresh
+
+      pub back_means : means value_of db new after ≡ means value_of db old m
+      back_means =
+          means_out refs_of value_of own new mid after (r ∷ refs_of value) (r ∷ []) [] kept_intact back_given (λ q. omega arith) db
+          ∙ same_times refs_of value_of own old new db mid k.changes k.times ∙ placed_means db
+
+      pub back_arranged : IsArranged new after
+      back_arranged = arranged_out refs_of value_of own new mid after (r ∷ refs_of value) (r ∷ []) [] kept_intact back_given (λ q. omega arith)
+
+      pub back_owned : (q : BlockRef) → times q (owned refs_of new) ≡ times q (owned refs_of old)
+      back_owned q = owned_times refs_of value_of own old new db k.changes q
+
+      pub back_keys : (number : ℕ) → table_at new number ≡ table_at old number
+      back_keys number = elim (cases_eq number db) [
+        | inl here ↦ ap (table_at new) here ∙ k.changes.keys ∙ sym (ap (table_at old) here)
+        | inr other ↦ ap (λ (b : Base V). b.keys) (k.changes.base.others number other)
+      ]
+
+  -- the value that was handed back owns live blocks, and is given back
+  pub returned_owned : (old : Bases V) (m mid : Blocks) (value returned : V) → IsIntact refs_of old m (refs_of value) → returned ≡ value → mid ≡ m → Owned (refs_of returned) mid
+  returned_owned old m mid value returned intact same blocks =
+      subst (λ b. Owned (refs_of returned) b) (sym blocks) (subst (λ v. Owned (refs_of v) m) (sym same) (λ q. omega (arith, intact.owned q)))
+
+  pub returned_changes : (m mid after : Blocks) (value returned : V) → returned ≡ value → mid ≡ m → Changes mid after (refs_of returned) [] → Changes m after (refs_of value) []
+  returned_changes m mid after value returned same blocks p =
+      subst (λ v. Changes m after (refs_of v) []) same (subst (λ b. Changes b after (refs_of returned) []) blocks p)
+
+  -- the value alone is given back, where no key changed
+  module _ (old new : Bases V) (m after : Blocks) (value : V) (intact : IsIntact refs_of old m (refs_of value)) (a : IsArranged new m) (same : (q : BlockRef) → times q (owned refs_of new) ≡ times q (owned refs_of old)) (p : Changes m after (refs_of value) []) where
+    refused_intact : IsIntact refs_of new m (refs_of value)
+    refused_intact = record { owned = λ q. omega (arith, intact.owned q, same q); arranged = a }
+
+    pub refused_means : (db : ℕ) → means value_of db new m ≡ means value_of db old m → means value_of db new after ≡ means value_of db old m
+    refused_means db kept = means_out refs_of value_of own new m after (refs_of value) (refs_of value) [] refused_intact p (λ q. omega arith) db ∙ kept
+
+    pub refused_arranged : IsArranged new after
+    refused_arranged = arranged_out refs_of value_of own new m after (refs_of value) (refs_of value) [] refused_intact p (λ q. omega arith)
+
+    pub refused_changes : Changes m after (owned refs_of old ++ refs_of value) (owned refs_of new)
+    refused_changes = Changes-beside m after (refs_of value) [] (owned refs_of old ++ refs_of value) (owned refs_of new) p (λ q. omega (arith, intact.owned q, times-append q (owned refs_of old) (refs_of value))) (λ q. times q (owned refs_of old))
+        (λ q. omega (arith, times-append q (owned refs_of old) (refs_of value))) (λ q. omega (arith, same q))
+
+  -- ---- lifting and lowering
+
+  -- what stands at a key that is there at the moment
+  pub look_now : (bases : Bases V) (db moment : ℕ) (m : Blocks) (key : List ℕ) (e : Entry) → look (means value_of db bases m) key ≡ Some e → in_time moment e.deadline ≡ true → look (model.live (means value_of db bases m) moment) key ≡ Some e
+  look_now bases db moment m key e is late = look_in_time (means value_of db bases m) moment key e is late
+
+  pub look_past : (bases : Bases V) (db moment : ℕ) (m : Blocks) → IsArranged bases m → (key : List ℕ) (at : ℕ) → Stands m (table_at bases db) at key → in_time moment (get (moments m (deadlines_at bases db)) key) ≡ false → look (model.live (means value_of db bases m) moment) key ≡ None
+  look_past bases db moment m a key at stands late = look_gone (means value_of db bases m) moment key _ (look_stands bases db m a key at stands.element stands.found stands.bytes _ refl) late
+
+  pub look_nothing : (bases : Bases V) (db moment : ℕ) (m : Blocks) (key : List ℕ) → look (means value_of db bases m) key ≡ None → look (model.live (means value_of db bases m) moment) key ≡ None
+  look_nothing bases db moment m key is = look_absent (means value_of db bases m) moment key is
 
   module _ (old new : Bases V) (db : ℕ) (m : Blocks) (c : ChangesTable old new db) (at : ℕ) where
-    module _ (was zero : V) (nothing : refs_of zero ≡ []) (empty : V) (is_empty : zero ≡ empty) (s : Swaps (table_at old db) (table_at new db) at was zero) (keyed : Keyed m (table_at new db)) (intact : IsIntact refs_of old m []) (key : List ℕ) (stands : Stands m (table_at old db) at key) where
+    module _ (was zero : V) (nothing : refs_of zero ≡ []) (empty : V) (is_empty : zero ≡ empty) (s : Swaps (table_at old db) (table_at new db) at was zero) (keyed : Keyed m (table_at new db)) (intact : IsIntact refs_of old m []) (key : List ℕ) (moment : ℕ) (there : StandsAt old m db key moment at) where
       lifted_intact : IsIntact refs_of new m (refs_of was)
-      lifted_intact = swapped_intact refs_of value_of own old new db m c [] intact at was zero s keyed (refs_of was) (λ r. omega (arith, ap (times r) nothing))
+      lifted_intact = over_intact old new db m c at was zero s keyed intact.arranged [] (refs_of was) intact (λ r. omega (arith, ap (times r) nothing))
 
-      pub lifts : (moment : ℕ) (lifted : Lifted V) → lifted ≡ record { db = db; item = at; value = was } → Lifts refs_of value_of empty old new m db key moment lifted
-      lifts moment lifted is = subst (Lifts refs_of value_of empty old new m db key moment) (sym is) (record {
+      lifted_key : m s.key ≡ Some key
+      lifted_key = swapped_key old new db m c at was zero s keyed intact.arranged key there.stands
+
+      pub lifts : (lifted : Lifted V) → lifted ≡ record { db = db; item = at; value = was } → Lifts refs_of value_of empty old new m db key moment lifted
+      lifts lifted is = subst (Lifts refs_of value_of empty old new m db key moment) (sym is) (record {
         same_db = refl;
-        deadline = None;
-        stands = look_now old db moment m key _ (look_stands old db m intact.arranged key at (record { key = s.key; hash = s.hash; value = was }) s.found (swapped_key old new db m c at was zero s keyed key stands));
-        owned = over_owned old new db m c at was zero s keyed [] intact;
+        deadline = get (moments m (deadlines_at old db)) key;
+        stands = look_now old db moment m key _ (look_stands old db m intact.arranged key at (record { key = s.key; hash = s.hash; value = was }) s.found lifted_key _ refl) there.in_time;
+        owned = over_owned old new db m c at was zero s keyed intact.arranged [] intact;
         vacant = ap value_at s.updates.changed ∙ ap Some is_empty;
-        place = record { element = record { key = s.key; hash = s.hash; value = zero }; found = s.updates.changed; bytes = swapped_key old new db m c at was zero s keyed key stands; lasts = refl };
-        back = λ entry. ap (λ w. put w key entry) (swapped_means refs_of value_of own old new db m c [] intact at was zero s keyed key (swapped_key old new db m c at was zero s keyed key stands)) ∙ put_twice (means value_of db old m) key (entry_of value_of m zero) entry;
+        place = record { element = record { key = s.key; hash = s.hash; value = zero }; found = s.updates.changed; bytes = lifted_key; lasts = ap (λ (d : Timed). get (moments m d) key) c.deadlines };
+        back = λ entry. ap (λ w. put w key entry) (swapped_means refs_of value_of own old new db m intact.arranged at c keyed was zero s key lifted_key _ refl) ∙ put_twice (means value_of db old m) key _ entry;
       })
 
       pub lifted_sound : (out : List BlockRef) → SoundBeside refs_of old m out → SoundBeside refs_of new m (refs_of was ++ out)
       lifted_sound out sound = record {
-        owns = λ r. omega (arith, sound.owns r, owned_swaps refs_of value_of own old new db c r at was zero s, times-append r (refs_of was) out, ap (times r) nothing);
+        owns = λ r. omega (arith, sound.owns r, owned_swaps refs_of value_of own old new db c.base r at was zero s, times-append r (refs_of was) out, ap (times r) nothing);
         arranged = lifted_intact.arranged;
       }
 
@@ -250,13 +451,12 @@ module _ {V : Type 0} (refs_of : V → List BlockRef) (value_of : Blocks → V �
 
       pub lowered_means : (key : List ℕ) (deadline : Option ℕ) → IsPlace old m db at key deadline → means value_of db new m ≡ put (means value_of db old m) key (record { value = value_of m value; deadline = deadline })
       lowered_means key deadline place =
-          swapped_means refs_of value_of own old new db m c (refs_of value) intact at was value s keyed key (swapped_key old new db m c at was value s keyed key (record { element = place.element; found = place.found; bytes = place.bytes }))
-          ∙ ap (λ d. put (means value_of db old m) key (record { value = value_of m value; deadline = d })) (sym place.lasts)
+          swapped_means refs_of value_of own old new db m intact.arranged at c keyed was value s key (swapped_key old new db m c at was value s keyed intact.arranged key (record { element = place.element; found = place.found; bytes = place.bytes })) deadline place.lasts
 
       pub lowered_sound : (all out : List BlockRef) → SoundBeside refs_of old m all → AreParts all (refs_of value) out → SoundBeside refs_of new m out
       lowered_sound all out sound parts = record {
-        owns = λ r. omega (arith, sound.owns r, parts r, owned_swaps refs_of value_of own old new db c r at was value s, ap (times r) vacated);
-        arranged = (swapped_intact refs_of value_of own old new db m c (refs_of value) intact at was value s keyed [] (λ r. omega (arith, ap (times r) vacated))).arranged;
+        owns = λ r. omega (arith, sound.owns r, parts r, owned_swaps refs_of value_of own old new db c.base r at was value s, ap (times r) vacated);
+        arranged = (over_intact old new db m c at was value s keyed intact.arranged (refs_of value) [] intact (λ r. omega (arith, ap (times r) vacated))).arranged;
       }
 
   -- ---- looking
@@ -266,12 +466,13 @@ module _ {V : Type 0} (refs_of : V → List BlockRef) (value_of : Blocks → V �
   if_none None P p = p
   if_none (Some x) P p = tt
 
-  pub found_held : (bases : Bases V) (db moment : ℕ) (m : Blocks) (key : List ℕ) (at : ℕ) (value : V) → IsIntact refs_of bases m [] → Stands m (table_at bases db) at key → value_at (item (table_at bases db) at) ≡ Some value → Found refs_of value_of bases m db key moment value
-  found_held bases db moment m key at value intact stands held =
+  pub found_held : (bases : Bases V) (db moment : ℕ) (m : Blocks) (key : List ℕ) (at : ℕ) (value : V) → IsIntact refs_of bases m [] → StandsAt bases m db key moment at → value_at (item (table_at bases db) at) ≡ Some value → Found refs_of value_of bases m db key moment value
+  found_held bases db moment m key at value intact there held =
+      let stands = there.stands in
       let same : stands.element.value ≡ value = (let both : Some stands.element.value ≡ Some value = sym (ap value_at stands.found) ∙ held in cc) in
       record {
-        deadline = None;
-        stands = look_now bases db moment m key _ (look_stands bases db m intact.arranged key at stands.element stands.found stands.bytes ∙ ap (λ v. Some (entry_of value_of m v)) same);
+        deadline = get (moments m (deadlines_at bases db)) key;
+        stands = look_now bases db moment m key _ (look_stands bases db m intact.arranged key at stands.element stands.found stands.bytes _ refl ∙ ap (λ v. Some (record { value = value_of m v; deadline = get (moments m (deadlines_at bases db)) key })) same) there.in_time;
         owned = λ r. omega (arith, intact.owned r, item_owned bases db at stands.element r stands.found, ap (λ v. times r (refs_of v)) same);
       }
 
@@ -280,32 +481,35 @@ module _ {V : Type 0} (refs_of : V → List BlockRef) (value_of : Blocks → V �
 
   -- ---- databases without a key
 
-  module _ (bases : Bases V) (seed : ℕ) (none : bases.tables ≡ replicate 16 (no_keys seed)) where
-    new_table : (number : ℕ) → (table_at bases number).items ≡ []
-    new_table number = ap (λ tables. (get_or tables number (no_keys 0)).items) none ∙ in_list 16 number
+  module _ (bases : Bases V) (seed : ℕ) (none : bases.bases ≡ replicate 16 (no_base seed)) where
+    -- a fact of databases without a key holds of each of the new ones
+    each_new : (P : Base V → Type 0) → ((number : ℕ) → P (no_base number)) → (number : ℕ) → P (base_at bases number)
+    each_new P p number = subst (λ list. P (get_or list number (no_base 0))) (sym none) (in_list 16 number)
       where
-        in_list : (n number : ℕ) → (get_or (replicate {A = Table V} n (no_keys seed)) number (no_keys 0)).items ≡ []
-        in_list zero number = refl
-        in_list (suc n) zero = refl
+        in_list : (n number : ℕ) → P (get_or (replicate {A = Base V} n (no_base seed)) number (no_base 0))
+        in_list zero number = p 0
+        in_list (suc n) zero = p seed
         in_list (suc n) (suc number) = in_list n number
 
     pub new_means_world : (m : Blocks) → means value_of 0 bases m ≡ model.new_world
-    new_means_world m = λ i. record { bases = λ number. map_of-empty m (entry_of value_of m) (table_at bases number) (new_table number) i; selected = 0 }
+    new_means_world m = λ i. record { bases = λ number. each_new (λ b. base_means value_of m b ≡ model.no_keys) (no_base_means value_of m) number i; selected = 0 }
 
-    new_keyed : (m : Blocks) (number : ℕ) → Keyed m (table_at bases number)
-    new_keyed m number = subst (λ tables. Keyed m (get_or tables number (no_keys 0))) (sym none) (in_list 16 number)
+    new_seeds : (number : ℕ) → number < 16 → HasSeed (base_at bases number) seed
+    new_seeds number within = subst (λ list. HasSeed (get_or list number (no_base 0)) seed) (sym none) (in_list 16 number within)
       where
-        in_list : (n number : ℕ) → Keyed m (get_or (replicate {A = Table V} n (no_keys seed)) number (no_keys 0))
-        in_list zero number = Keyed-none m 0
-        in_list (suc n) zero = Keyed-none m seed
-        in_list (suc n) (suc number) = in_list n number
+        in_list : (n number : ℕ) → number < n → HasSeed (get_or (replicate {A = Base V} n (no_base seed)) number (no_base 0)) seed
+        in_list zero number within = absurd (omega (arith, within))
+        in_list (suc n) zero within = record { keys = refl; deadlines = refl }
+        in_list (suc n) (suc number) within = in_list n number (omega (arith, within))
 
-    pub new_sound : (m : Blocks) → m ≡ no_blocks → AreInRange bases.limits → SoundBeside refs_of bases m []
-    new_sound m dead limits = record {
-      owns = λ r. (let nothing : times r (owned refs_of bases) ≡ 0 = ap (λ tables. times r (flat_map (refs refs_of) tables)) none in let dead_r : live m r ≡ 0 = ap (λ (b : Blocks). live b r) dead in omega arith);
+    pub new_sound : (m : Blocks) → m ≡ no_blocks → AreInRange bases.limits → bases.seed ≡ seed → SoundBeside refs_of bases m []
+    new_sound m dead limits same = record {
+      owns = λ r. (let nothing : times r (owned refs_of bases) ≡ 0 = ap (λ list. times r (flat_map (λ (b : Base V). refs refs_of b.keys) list)) none in let dead_r : live m r ≡ 0 = ap (λ (b : Blocks). live b r) dead in omega arith);
       arranged = record {
-        keyed = new_keyed m;
+        keyed = each_new (λ b. Keyed m b.keys) (λ number. Keyed-none m number);
+        timed = each_new (λ b. IsTimed m b.keys b.deadlines) (λ number. timed_none m number number);
         sixteen = ap length none;
         limits = limits;
+        seeds = λ number within. subst (HasSeed (base_at bases number)) (sym same) (new_seeds number within);
       };
     }

@@ -1,6 +1,13 @@
+pub mod Maps
+pub mod Timing
 pub mod Tables
 pub mod Releases
 pub mod Bases
+pub mod Joining
 pub mod Calls
+pub mod Purging
+pub mod Shrinking
+pub mod Picking
+pub mod Renaming
 pub mod Uses
 pub mod Serving

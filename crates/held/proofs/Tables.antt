@@ -1,20 +1,20 @@
 -- What the elements of a key table keep, name and mean.
-use Rattle.std.proofs.Common.{◌≡◌, ℕ, zero, suc, ◌≤◌, Bool, true, false, cond, List, [], ◌∷◌, flat_map, get_or, set, length, ◌<◌, Option, Some, None, unwrap_or, refl, sym, ap, ◌∙◌, subst, arith}
+use Rattle.std.proofs.Common.{◌≡◌, ℕ, zero, suc, ◌≤◌, Bool, true, false, cond, List, [], ◌∷◌, flat_map, get_or, set, length, ◌<◌, Option, Some, unwrap_or, refl, sym, ap, ◌∙◌, subst, arith}
 use Rattle.std.proofs.lemmas.Bool.{cond-true}
-use Rattle.std.proofs.lemmas.List.{get_or-set_same, get_or_default}
+use Rattle.std.proofs.lemmas.List.{get_or-set_same, get_or-set_other, get_or_default, length-set}
 use Rattle.std.specs.Ordering.{nat_cmp, eq_by_cmp}
 use Rattle.std.specs.Cmp.{eq_by_cmp_equiv}
 use Rattle.std.specs.Cmp.Lexicographic.{slice_cmp, nat_list_cmp_total}
-use Rattle.std.specs.FinMap.{FinMap, find, get, insert, get-from_entries, get-insert, same_map, slice_cmp-IsAntisymmetric, nat_cmp-IsAntisymmetric}
+use Rattle.std.specs.FinMap.{FinMap, get, insert, get-insert, same_map, slice_cmp-IsAntisymmetric, nat_cmp-IsAntisymmetric}
 use Rattle.blocks.specs.declared.BlockRef.{BlockRef}
 use Rattle.blocks.specs.Blocks.{Blocks, bytes_at, times}
 use Rattle.blocks.proofs.Times.{times-append}
 use Rattle.rehash_dict.specs.Placed.{no_table}
 use Rattle.rehash_dict.specs.Table.{at_item}
 pub use Rattle.rehash_dict.proofs.MapOf.{map_of-empty}
-use Rattle.rehash_dict.specs.MapOf.{pair_of, map_of}
 use Rattle.held.specs.Table.{Table, Element, item, no_keys, Keyed, own_of, refs}
-use Rattle.held.specs.Databases.{Bases, table_at}
+use Rattle.held.specs.declared.databases.Base.{Base}
+use Rattle.held.specs.Databases.{Bases, base_at, no_base, SameSettings, ChangesBase}
 
 -- ---- finite maps by keys of bytes
 
@@ -73,23 +73,22 @@ module _ {V : Type 0} where
     apart = λ at other e f one two same. cc;
   }
 
-  -- what holds of the meaning of every value holds of what stands at a key
-  pub map_of-each : {X : Type 0} (m : Blocks) (meaning : V → X) (P : X → Type 0) → ((value : V) → P (meaning value)) → (t : Table V) (q : List ℕ) (x : X) → get (map_of m meaning t) q ≡ Some x → P x
-  unfolding map_of
-  map_of-each {X} m meaning P all t q x h = in_list t.items (sym (get-from_entries nat_list_cmp_total (flat_map (pair_of m meaning) t.items) q) ∙ h)
-    where
-      here : (test : Bool) (y : X) (rest : Option X) → P y → (rest ≡ Some x → P x) → cond test (Some y) rest ≡ Some x → P x
-      here true y rest p f is = (let same : y ≡ x = cc in subst P same p)
-      here false y rest p f is = f is
-
-      in_list : (items : List (Option (Element V))) → find (slice_cmp nat_cmp) q (flat_map (pair_of m meaning) items) ≡ Some x → P x
-      in_list [] is = cc
-      in_list (None ∷ items) is = in_list items is
-      in_list (Some e ∷ items) is = here (eq_by_cmp (slice_cmp nat_cmp) q (bytes_at m e.key)) (meaning e.value) (find (slice_cmp nat_cmp) q (flat_map (pair_of m meaning) items)) (all e.value) (in_list items) is
-
   -- a fact of what stood in a database's place, and what stands there now
-  pub in_place : (tables : List (Table V)) (bases : Bases V) (db : ℕ) (was new : Table V) (R : Table V → Table V → Type 0) → tables ≡ bases.tables → db < length bases.tables → was ≡ get_or tables db was → R was new → R (table_at bases db) (get_or (set tables db new) db (no_keys 0))
-  in_place tables bases db was new R same within here r =
-      let inside : db < length tables = subst (λ t. db < length t) (sym same) within in
-      subst (λ t. R (table_at bases db) t) (sym (get_or-set_same tables db new (no_keys 0) inside))
-      (subst (λ t. R t new) (here ∙ get_or_default tables db was (no_keys 0) inside ∙ ap (λ t. get_or t db (no_keys 0)) same) r)
+  pub in_place : (list : List (Base V)) (bases : Bases V) (db : ℕ) (was new : Base V) (R : Base V → Base V → Type 0) → list ≡ bases.bases → db < length bases.bases → was ≡ get_or list db was → R was new → R (base_at bases db) (get_or (set list db new) db (no_base 0))
+  in_place list bases db was new R same within here r =
+      let inside : db < length list = subst (λ t. db < length t) (sym same) within in
+      subst (λ t. R (base_at bases db) t) (sym (get_or-set_same list db new (no_base 0) inside))
+      (subst (λ t. R t new) (here ∙ get_or_default list db was (no_base 0) inside ∙ ap (λ t. get_or t db (no_base 0)) same) r)
+
+  -- what stands in a database's place is that database
+  pub place_is : (list : List (Base V)) (bases : Bases V) (db : ℕ) (was : Base V) → list ≡ bases.bases → db < length bases.bases → was ≡ get_or list db was → was ≡ base_at bases db
+  place_is list bases db was same within here =
+      here ∙ get_or_default list db was (no_base 0) (subst (λ t. db < length t) (sym same) within) ∙ ap (λ t. get_or t db (no_base 0)) same
+
+  -- no database changes but the one in whose place another stands
+  pub others_stay : (old new : Bases V) (db : ℕ) (b : Base V) → new.bases ≡ set old.bases db b → SameSettings old new → ChangesBase old new db
+  others_stay old new db b is settings = record {
+    others = λ number other. ap (λ t. get_or t number (no_base 0)) is ∙ get_or-set_other old.bases db number b (no_base 0) other;
+    count = ap length is ∙ length-set old.bases db b;
+    settings = settings;
+  }

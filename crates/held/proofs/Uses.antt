@@ -1,33 +1,27 @@
 -- For whoever calls a keyspace: what a command function needs to say that the keyspace is sound after it, and which
 -- world it leaves. Each lemma takes the clauses of the calls as they stand.
-use Rattle.std.proofs.Common.{Some, None, ◌≡◌, ℕ, ◌+◌, ◌≤◌, List, [], ◌++◌, Option, sym, ap, ◌∙◌, subst, arith}
+use Rattle.std.proofs.Common.{Some, ◌≡◌, ℕ, ◌+◌, ◌≤◌, List, [], ◌++◌, Option, sym, ap, ◌∙◌, subst, arith}
 use Rattle.blocks.specs.declared.BlockRef.{BlockRef}
 use Rattle.blocks.specs.Blocks.{Blocks, times, Changes}
 use Rattle.blocks.proofs.Times.{times-append}
 use Rattle.std.proofs.lemmas.Bool.{cond-true}
 use Rattle.blocks.proofs.Refs.{ref_eq-refl}
 use Rattle.blocks.proofs.Change.{one, Counts-changed}
-use Rattle.plain_world.specs.Worlds.{Value, Entry, World, look, put}
+use Rattle.plain_world.specs.Worlds.{Value, Entry, World, look, put, stand}
 use Rattle.plain_world.specs.Worlds as model
 use Rattle.held.specs.declared.keyspace.Lifted.{Lifted}
 use Rattle.held.specs.Databases.{ReadsOwn, Bases, means}
 use Rattle.held.specs.Sound.{IsIntact, Sound, SoundBeside}
 use Rattle.held.specs.Calls.{IsPlace, IsVacant, Lifts, AreParts}
-use Rattle.held.proofs.Bases.{arranged_out, means_out, kept_inside, sound_intact}
-use Rattle.held.proofs.Calls.{live_means, item_owned, no_deadline, put_twice, look_put}
+use Rattle.std.specs.FinMap.{get}
+use Rattle.plain_world.proofs.Lives.{live_put, live_put_in_time, was_in_time}
+use Rattle.held.proofs.Bases.{arranged_out, means_out, kept_inside, kept_timed, sound_intact}
+use Rattle.held.proofs.Calls.{item_owned, put_twice, look_put}
 
 module _ {V : Type 0} (refs_of : V → List BlockRef) (value_of : Blocks → V → Value) (own : ReadsOwn refs_of value_of) where
   -- what each call asks follows from soundness
   pub Sound-intact : (bases : Bases V) (m : Blocks) (out : List BlockRef) → SoundBeside refs_of bases m out → IsIntact refs_of bases m out
   Sound-intact = sound_intact refs_of value_of own
-
-  -- nothing is gone at any moment, so the live world is the whole one
-  pub Live-means : (db : ℕ) (bases : Bases V) (m : Blocks) (moment : ℕ) → model.live (means value_of db bases m) moment ≡ means value_of db bases m
-  Live-means = live_means refs_of value_of own
-
-  -- what stands at a key has no deadline yet
-  pub No-deadline : (db : ℕ) (bases : Bases V) (m : Blocks) (moment : ℕ) (key : List ℕ) (e : Entry) → look (model.live (means value_of db bases m) moment) key ≡ Some e → e.deadline ≡ None
-  No-deadline = no_deadline refs_of value_of own
 
   -- what was put at a key stands there, and what is put there next takes its place
   pub Look-put : (w : World) (key : List ℕ) (a : Entry) → look (put w key a) key ≡ Some a
@@ -67,11 +61,11 @@ module _ {V : Type 0} (refs_of : V → List BlockRef) (value_of : Blocks → V �
       Put-sound clause = clause (refs_of value) [] Made-sound (λ r. omega arith)
 
       -- from the clause `means` of `put`, or its clause `kept`: the world that the step speaks of
-      pub Put-means : (db moment : ℕ) (key : List ℕ) (entry : Entry) → means value_of db new later ≡ put (means value_of db bases after) key entry → means value_of db new later ≡ put (model.live (means value_of db bases m) moment) key entry
-      Put-means db moment key entry clause = clause ∙ ap (λ w. put w key entry) (Made-means db ∙ sym (live_means refs_of value_of own db bases m moment))
+      pub Put-means : (db moment : ℕ) (key : List ℕ) (entry : Entry) → means value_of db new later ≡ put (means value_of db bases after) key entry → model.live (means value_of db new later) moment ≡ stand (model.live (means value_of db bases m) moment) moment key entry
+      Put-means db moment key entry clause = ap (λ w. model.live w moment) (clause ∙ ap (λ w. put w key entry) (Made-means db)) ∙ live_put (means value_of db bases m) moment key entry
 
-      pub Put-kept : (db moment : ℕ) → means value_of db new later ≡ means value_of db bases after → means value_of db new later ≡ model.live (means value_of db bases m) moment
-      Put-kept db moment clause = clause ∙ Made-means db ∙ sym (live_means refs_of value_of own db bases m moment)
+      pub Put-kept : (db moment : ℕ) → means value_of db new later ≡ means value_of db bases after → model.live (means value_of db new later) moment ≡ model.live (means value_of db bases m) moment
+      Put-kept db moment clause = ap (λ w. model.live w moment) (clause ∙ Made-means db)
 
   -- ---- a value is lifted, changed and lowered again
 
@@ -99,7 +93,7 @@ module _ {V : Type 0} (refs_of : V → List BlockRef) (value_of : Blocks → V �
           found = lifts.place.found;
           bytes = kept_inside refs_of value_of own mid m after (refs_of lifted.value ++ out) (refs_of lifted.value) (refs_of changed.value) (sound_intact refs_of value_of own mid m (refs_of lifted.value ++ out) sound) p part lifts.place.element.key
               (omega (arith, key_itself lifts.place.element.key, item_owned refs_of value_of own mid db lifted.item lifts.place.element lifts.place.element.key lifts.place.found)) ∙ lifts.place.bytes;
-          lasts = lifts.place.lasts;
+          lasts = ap (λ t. get t key) (kept_timed refs_of value_of own mid m after (refs_of lifted.value ++ out) (refs_of lifted.value) (refs_of changed.value) (sound_intact refs_of value_of own mid m (refs_of lifted.value ++ out) sound) p part db).1 ∙ lifts.place.lasts;
         }))
       where
         key_itself : (r : BlockRef) → one r r ≡ 1
@@ -112,10 +106,11 @@ module _ {V : Type 0} (refs_of : V → List BlockRef) (value_of : Blocks → V �
 
       -- from the clause `means` of `lower`: the value stands at the key, with the deadline that was there
       pub Lower-means : ((k : List ℕ) (deadline : Option ℕ) → IsPlace mid after changed.db changed.item k deadline → means value_of changed.db new after ≡ put (means value_of changed.db mid after) k (record { value = value_of after changed.value; deadline = deadline }))
-          → means value_of db new after ≡ put (model.live (means value_of db old m) moment) key (record { value = value_of after changed.value; deadline = lifts.deadline })
+          → model.live (means value_of db new after) moment ≡ put (model.live (means value_of db old m) moment) key (record { value = value_of after changed.value; deadline = lifts.deadline })
       Lower-means clause =
           let entry : Entry = record { value = value_of after changed.value; deadline = lifts.deadline } in
-          subst (λ d. means value_of d new after ≡ put (means value_of d mid after) key entry) (same_db ∙ lifts.same_db) (clause key lifts.deadline place)
+          ap (λ w. model.live w moment)
+          (subst (λ d. means value_of d new after ≡ put (means value_of d mid after) key entry) (same_db ∙ lifts.same_db) (clause key lifts.deadline place)
           ∙ ap (λ w. put w key entry) (means_out refs_of value_of own mid m after (refs_of lifted.value ++ out) (refs_of lifted.value) (refs_of changed.value) (sound_intact refs_of value_of own mid m (refs_of lifted.value ++ out) sound) p part db)
-          ∙ lifts.back entry
-          ∙ ap (λ w. put w key entry) (sym (live_means refs_of value_of own db old m moment))
+          ∙ lifts.back entry)
+          ∙ live_put_in_time (means value_of db old m) moment key entry (was_in_time (means value_of db old m) moment key _ lifts.stands).1

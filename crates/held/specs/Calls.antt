@@ -1,11 +1,15 @@
 -- What the calls of a keyspace hand out.
-use Rattle.std.specs.Prelude.{◌≡◌, ℕ, ◌+◌, List, Option, Some, None}
+use Rattle.std.specs.Prelude.{◌≡◌, ◌⊎◌, ℕ, ◌+◌, ◌<◌, ◌^◌, List, Option, Some, IfSome, true}
 use Rattle.blocks.specs.declared.BlockRef.{BlockRef}
 use Rattle.blocks.specs.Blocks.{Blocks, Owned, times}
-use Rattle.plain_world.specs.Worlds.{Entry, Value, look, put, live}
+use Rattle.plain_world.specs.Worlds.{Entry, Value, look, put, live, in_time}
 use Rattle.held.specs.declared.keyspace.Lifted.{Lifted}
-use Rattle.held.specs.Table.{Element, item, value_at}
-use Rattle.held.specs.Databases.{Bases, table_at, means}
+use Rattle.std.specs.FinMap.{get}
+use Rattle.expiry.specs.Timed.{Timed, moments}
+use Rattle.expiry.specs.Changes.{Clears}
+use Rattle.held.specs.Table.{Table, Element, item, value_at, Stands, Lacks, Adds, Keyed}
+use Rattle.held.specs.Databases.{Bases, table_at, deadlines_at, with_deadline, means, ChangesBase, ChangesDeadlines}
+use Rattle.held.specs.Sound.{Names, IsTimed}
 
 module _ {V : Type 0} where
   -- The value is what stands at the key of the database at the moment, and its blocks are live.
@@ -14,12 +18,12 @@ module _ {V : Type 0} where
     pub stands : look (live (means value_of db bases blocks) moment) key ≡ Some (record { value = value_of blocks value; deadline = deadline })
     pub owned : Owned (refs_of value) blocks
 
-  -- the item number is the place of a key with these bytes and this deadline: no key has one yet
+  -- the item number is the place of a key with these bytes and this deadline, or none
   pub record IsPlace (bases : Bases V) (blocks : Blocks) (db at : ℕ) (key : List ℕ) (deadline : Option ℕ) : Type 0 where
     pub element : Element V
     pub found : item (table_at bases db) at ≡ Some element
     pub bytes : blocks element.key ≡ Some key
-    pub lasts : deadline ≡ None
+    pub lasts : get (moments blocks (deadlines_at bases db)) key ≡ deadline
 
   -- in the place stands what stands there for a value that was taken out
   abbrev pub IsVacant : V → Bases V → ℕ → ℕ → Type 0
@@ -39,3 +43,42 @@ module _ {V : Type 0} where
 -- the references `all` are those of `part` and those of `rest`
 abbrev pub AreParts : List BlockRef → List BlockRef → List BlockRef → Type 0
 AreParts all part rest = (r : BlockRef) → times r all ≡ times r part + times r rest
+
+module _ {V : Type 0} where
+  -- a key is there at the moment, at this item number
+  pub record StandsAt (bases : Bases V) (blocks : Blocks) (db : ℕ) (key : List ℕ) (moment at : ℕ) : Type 0 where
+    pub stands : Stands blocks (table_at bases db) at key
+    pub in_time : in_time moment (get (moments blocks (deadlines_at bases db)) key) ≡ true
+
+  -- the deadline of a key that is to join stands already, where it has one
+  pub record Begins (old mid : Bases V) (blocks : Blocks) (db : ℕ) (name : BlockRef) (key : List ℕ) (deadline : Option ℕ) : Type 0 where
+    pub changes : ChangesDeadlines old mid db
+    pub keyed : Keyed blocks (deadlines_at mid db).table
+    pub seed : (deadlines_at mid db).table.seed ≡ (deadlines_at old db).table.seed
+    pub times : moments blocks (deadlines_at mid db) ≡ with_deadline (moments blocks (deadlines_at old db)) key deadline
+    -- where the key joins, each deadline is a key's
+    pub joined : (keys : Table V) → Names keys name → Keyed blocks keys → IsTimed blocks keys (deadlines_at old db) → IsTimed blocks keys (deadlines_at mid db)
+    -- where its deadline goes again, too
+    pub undone : (new : Timed) → Clears blocks (deadlines_at mid db).table new.table key ⊎ ((new ≡ deadlines_at mid db) × Lacks blocks (deadlines_at mid db).table key) → Keyed blocks new.table → IsTimed blocks (table_at old db) new
+
+  -- a key joined with its value and its deadline
+  pub record Joins (old new : Bases V) (blocks : Blocks) (db : ℕ) (ref : BlockRef) (key : List ℕ) (value : V) (deadline : Option ℕ) : Type 0 where
+    pub base : ChangesBase old new db
+    pub at : ℕ
+    pub hash : ℕ
+    pub adds : Adds (table_at old db) (table_at new db) at (record { key = ref; hash = hash; value = value })
+    pub keyed : Keyed blocks (table_at new db)
+    pub timed : IsTimed blocks (table_at new db) (deadlines_at new db)
+    pub seed : (deadlines_at new db).table.seed ≡ (deadlines_at old db).table.seed
+    pub times : moments blocks (deadlines_at new db) ≡ with_deadline (moments blocks (deadlines_at old db)) key deadline
+
+  -- the keys stay, and every deadline, whatever the tables of the deadlines do
+  pub record KeepsTimes (old new : Bases V) (blocks : Blocks) (db : ℕ) : Type 0 where
+    pub changes : ChangesDeadlines old new db
+    pub timed : IsTimed blocks (table_at old db) (deadlines_at new db)
+    pub seed : (deadlines_at new db).table.seed ≡ (deadlines_at old db).table.seed
+    pub times : moments blocks (deadlines_at new db) ≡ moments blocks (deadlines_at old db)
+
+-- a deadline is at most 2^63 - 1
+abbrev pub IsDeadline : Option ℕ → Type 0
+IsDeadline deadline = IfSome deadline (λ d. d < 2 ^ 63)

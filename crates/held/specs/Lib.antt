@@ -2,4 +2,5 @@ pub mod Table
 pub mod Databases
 pub mod Sound
 pub mod Worlds
+pub mod Gone
 pub mod Calls

@@ -1,17 +1,40 @@
 -- When databases over the blocks of a store are sound: they own every live block, and each once.
-use Rattle.std.specs.Prelude.{◌≡◌, ℕ, ◌+◌, ◌≤◌, List, [], length}
+use Rattle.std.specs.Prelude.{◌≡◌, ℕ, ◌+◌, ◌≤◌, ◌<◌, ◌^◌, List, [], Some, length}
 use Rattle.blocks.specs.declared.BlockRef.{BlockRef}
 use Rattle.blocks.specs.Blocks.{Blocks, times, live}
 use Rattle.object_codec.specs.Limits.{AreInRange}
-use Rattle.held.specs.Table.{Keyed}
-use Rattle.held.specs.Databases.{Bases, table_at, owned}
+use Rattle.expiry.specs.Timed.{Timed}
+use Rattle.held.specs.declared.databases.Base.{Base}
+use Rattle.held.specs.Table.{Table, Element, item, Keyed}
+use Rattle.held.specs.Databases.{Bases, base_at, table_at, deadlines_at, owned}
 
 module _ {V : Type 0} where
-  -- There are 16 databases, in each the keys are live blocks whose bytes differ, and the limits are in their ranges.
+  -- the reference names a key of the table
+  pub record Names (keys : Table V) (ref : BlockRef) : Type 0 where
+    pub at : ℕ
+    pub element : Element V
+    pub found : item keys at ≡ Some element
+    pub same : element.key ≡ ref
+
+  -- Each deadline is that of a key of the table, which both name by the same reference. It is at most 2^63 - 1.
+  pub record IsTimed (blocks : Blocks) (keys : Table V) (deadlines : Timed) : Type 0 where
+    pub keyed : Keyed blocks deadlines.table
+    pub names : (at : ℕ) (e : Element ℕ) → item deadlines.table at ≡ Some e → Names keys e.key
+    pub latest : (at : ℕ) (e : Element ℕ) → item deadlines.table at ≡ Some e → e.value < 2 ^ 63
+
+  -- the hashes of both tables have this seed
+  pub record HasSeed (base : Base V) (seed : ℕ) : Type 0 where
+    pub keys : base.keys.seed ≡ seed
+    pub deadlines : base.deadlines.table.seed ≡ seed
+
+  -- There are 16 databases, in each the keys are live blocks whose bytes differ and the deadlines are those of keys, and
+  -- limits and seeds are in order.
   pub record IsArranged (bases : Bases V) (blocks : Blocks) : Type 0 where
     pub keyed : (db : ℕ) → Keyed blocks (table_at bases db)
-    pub sixteen : length bases.tables ≡ 16
+    pub timed : (db : ℕ) → IsTimed blocks (table_at bases db) (deadlines_at bases db)
+    pub sixteen : length bases.bases ≡ 16
     pub limits : AreInRange bases.limits
+    pub seeds : (db : ℕ) → db < 16 → HasSeed (base_at bases db) bases.seed
 
   -- The databases, and the values that are out of them with these references, name live blocks, none of them twice.
   pub record IsIntact (refs_of : V → List BlockRef) (bases : Bases V) (blocks : Blocks) (out : List BlockRef) : Type 0 where

@@ -1,11 +1,18 @@
-ghost use Rattle.std.specs.Prelude.{◌≡◌, ◌≢◌, ◌<◌, ℕ, IfOk, IfErr, OnErr, Some, IfSome, IfNone, IsSome, length, replicate};
+ghost use Rattle.std.specs.Prelude.{◌≡◌, ◌≢◌, ◌<◌, ◌≤◌, ◌⊎◌, ℕ, List, IfOk, IfErr, OnOk, OnErr, Some, IfSome, IfNone, IsSome, IsTrue, length, replicate};
+ghost use Rattle.std.specs.FinMap.{get, insert, remove};
 ghost use Rattle.blocks.specs.Blocks.{Blocks, bytes_at};
 ghost use Rattle.rehash_dict.specs.Table.{table_len};
 ghost use Rattle.rehash_dict.specs.Keyed.{hash_of};
-ghost use Rattle.held.specs.Table.{item, value_at, no_keys, Stands, Lacks, Keyed, Adds, Swaps, Removes};
-ghost use Rattle.held.specs.Databases.{table_at, ChangesTable};
+ghost use Rattle.expiry.specs.Timed.{moments};
+ghost use Rattle.expiry.specs.Changes.{HasDeadline, Sets, Clears};
+ghost use Rattle.held.specs.Table.{Element, item, value_at, key_at, no_keys, Stands, Lacks, Keyed, Adds, Swaps, Removes};
+ghost use Rattle.held.specs.Sound.{IsTimed};
+ghost use Rattle.held.specs.Calls.{IsDeadline, Begins, Joins, KeepsTimes};
+ghost use Rattle.held.specs.Databases.{no_base, base_at, table_at, deadlines_at, ChangesBase, ChangesTable, ChangesDeadlines};
+ghost use Rattle.held.specs.Gone.{IsPassed};
 
 use blocks::{BlockRef, BlockStore, Memory};
+use expiry::Deadlines;
 use object_codec::Limits;
 use rehash_dict::Dict;
 use std::alloc::Global;
@@ -15,37 +22,58 @@ use std::mem;
 // How many databases there are.
 const COUNT: usize = 16;
 
+/// The keys of one database with their values, and the deadlines of those keys that have one. A key's block is named by both.
+#[derive(Drop)]
+pub struct Base<V> {
+    keys: Dict<V>,
+    deadlines: Deadlines,
+}
+
 /// The 16 databases, and what every value is made with. The calls of the keyspace alone use it.
 #[derive(Drop)]
 pub struct Databases<V> {
     alloc: Global,
-    tables: Vec<Dict<V>>,
+    bases: Vec<Base<V>>,
     limits: Limits,
     seed: u64,
 }
 
 impl<V> Model for Databases<V> {
+    ghost use Rattle.held.specs.Sound.{IsTimed};
+    ghost use Rattle.held.specs.Calls.{IsDeadline, Begins, Joins, KeepsTimes};
     ghost use Rattle.held.specs.Databases.{Bases};
 
     ghost Value = { Bases V };
 
-    ghost view = { λ d. record { tables = d.tables.items; limits = d.limits; seed = d.seed } };
+    ghost view = { λ d. record { bases = d.bases.items; limits = d.limits; seed = d.seed } };
+}
+
+impl<V: Drop> Base<V> {
+    // No key.
+    fn new(alloc: Global, seed: u64) -> Base<V>
+        ensures { result ≡ no_base seed }
+    {
+        Base {
+            keys: Dict::new(alloc, seed),
+            deadlines: Deadlines::new(alloc, seed),
+        }
+    }
 }
 
 impl<V: Drop> Databases<V> {
     // 16 databases without a key.
     pub(crate) fn new(alloc: Global, limits: Limits, seed: u64) -> Result<Databases<V>, Memory>
-        ensures tables { IfOk result (λ bases. bases.tables ≡ replicate 16 (no_keys seed)) }
+        ensures bases { IfOk result (λ bases. bases.bases ≡ replicate 16 (no_base seed)) }
         ensures limits { IfOk result (λ bases. bases.limits ≡ limits) }
         ensures seed { IfOk result (λ bases. bases.seed ≡ seed) }
     {
-        let mut tables = Vec::new(alloc);
+        let mut bases = Vec::new(alloc);
         for _ in 0..COUNT {
-            tables.push(Dict::new(alloc, seed))?;
+            bases.push(Base::new(alloc, seed))?;
         }
         Ok(Databases {
             alloc,
-            tables,
+            bases,
             limits,
             seed,
         })
@@ -67,42 +95,161 @@ impl<V: Drop> Databases<V> {
         self.seed
     }
 
+    // The key table of a database.
+    pub(crate) fn table(&self, db: usize) -> &Dict<V>
+        requires { db < length self.now.bases }
+        ensures { result.now ≡ table_at self.now db }
+    {
+        &self.bases[db].keys
+    }
+
     // The number of a database's keys.
     pub(crate) fn len(&self, db: usize) -> usize
-        requires { db < length self.now.tables }
+        requires { db < length self.now.bases }
         ensures { result ≡ table_len (table_at self.now db) }
     {
-        self.tables[db].len()
+        self.bases[db].keys.len()
     }
 
     // The item number of a key.
     pub(crate) fn find<B: BlockStore>(&self, store: &B, db: usize, key: &[u8]) -> Option<usize>
-        requires db { db < length self.now.tables }
+        requires db { db < length self.now.bases }
         requires keyed { Keyed (B.blocks store.now) (table_at self.now db) }
         ensures found { IfSome result (λ at. Stands (B.blocks store.now) (table_at self.now db) at key.now) }
         ensures none { IfNone result (Lacks (B.blocks store.now) (table_at self.now db) key.now) }
     {
-        self.tables[db].find(store, key)
+        self.bases[db].keys.find(store, key)
     }
 
     // The value of an item number.
     pub(crate) fn value(&self, db: usize, at: usize) -> &V
-        requires db { db < length self.now.tables }
+        requires db { db < length self.now.bases }
         requires item { IsSome (item (table_at self.now db) at) }
         ensures { value_at (item (table_at self.now db) at) ≡ Some result.now }
     {
-        self.tables[db].entry(at).1
+        self.bases[db].keys.entry(at).1
+    }
+
+    // The key block of an item number.
+    pub(crate) fn key(&self, db: usize, at: usize) -> BlockRef
+        requires db { db < length self.now.bases }
+        requires item { IsSome (item (table_at self.now db) at) }
+        ensures { key_at (item (table_at self.now db) at) ≡ Some result }
+    {
+        self.bases[db].keys.entry(at).0
+    }
+
+    // Whether no key of a database has a deadline.
+    fn has_no_deadline(&self, db: usize) -> bool
+        requires { db < length self.now.bases }
+        ensures { IsTrue result → (blocks : Blocks) (key : List ℕ) → Keyed blocks (deadlines_at self.now db).table → Lacks blocks (deadlines_at self.now db).table key }
+    {
+        self.bases[db].deadlines.table().is_empty()
+    }
+
+    // The deadline of a key, in milliseconds.
+    pub(crate) fn deadline<B: BlockStore>(&self, store: &B, db: usize, key: &[u8]) -> Option<u64>
+        requires db { db < length self.now.bases }
+        requires keyed { Keyed (B.blocks store.now) (deadlines_at self.now db).table }
+        ensures value { get (moments (B.blocks store.now) (deadlines_at self.now db)) key.now ≡ result }
+        ensures found { IfSome result (λ deadline. HasDeadline (B.blocks store.now) (deadlines_at self.now db).table key.now deadline) }
+    {
+        if self.has_no_deadline(db) {
+            return None;
+        }
+        self.bases[db].deadlines.get(store, key)
+    }
+
+    // A number above each item number of a database's deadlines.
+    pub(crate) fn deadlines_top(&self, db: usize) -> usize
+        requires { db < length self.now.bases }
+        ensures { (at : ℕ) → IsSome (item (deadlines_at self.now db).table at) → at < result }
+    {
+        self.bases[db].deadlines.table().top()
+    }
+
+    // The key block of an item number of the deadlines, where that deadline is past at the moment, in milliseconds.
+    pub(crate) fn passed(&self, db: usize, at: usize, moment: u64) -> Option<BlockRef>
+        requires { db < length self.now.bases }
+        ensures passed { IfSome result (λ name. IsPassed (deadlines_at self.now db) at moment name) }
+        ensures none { IfNone result ((e : Element ℕ) → item (deadlines_at self.now db).table at ≡ Some e → moment ≤ e.value) }
+    {
+        let deadlines = self.bases[db].deadlines.table();
+        if !deadlines.is_entry(at) {
+            return None;
+        }
+        let (name, deadline) = deadlines.entry(at);
+        if moment <= *deadline {
+            return None;
+        }
+        Some(name)
+    }
+
+    // Gives the key of this block a deadline, in milliseconds. `Memory` leaves all.
+    pub(crate) fn set_deadline<B: BlockStore>(
+        &mut self,
+        store: &B,
+        db: usize,
+        key: BlockRef,
+        deadline: u64,
+    ) -> Result<(), Memory>
+        requires db { db < length self.old.bases }
+        requires keyed { Keyed (B.blocks store.now) (deadlines_at self.old db).table }
+        requires live { IsSome (B.blocks store.now key) }
+        ensures changes { ChangesDeadlines self.old self.new db }
+        ensures set { OnOk result (Sets (B.blocks store.now) (deadlines_at self.old db).table (deadlines_at self.new db).table key deadline) }
+        ensures moments { OnOk result (moments (B.blocks store.now) (deadlines_at self.new db) ≡ insert (moments (B.blocks store.now) (deadlines_at self.old db)) (bytes_at (B.blocks store.now) key) deadline) }
+        ensures keyed { Keyed (B.blocks store.now) (deadlines_at self.new db).table }
+        ensures err { OnErr result (self.new ≡ self.old) }
+    {
+        self.bases[db].deadlines.set(store, key, deadline)
+    }
+
+    // Takes the deadline of a key away, where it has one.
+    pub(crate) fn clear_deadline<B: BlockStore>(&mut self, store: &B, db: usize, key: &[u8])
+        requires db { db < length self.old.bases }
+        requires keyed { Keyed (B.blocks store.now) (deadlines_at self.old db).table }
+        ensures changes { ChangesDeadlines self.old self.new db }
+        ensures moments { moments (B.blocks store.now) (deadlines_at self.new db) ≡ remove (moments (B.blocks store.now) (deadlines_at self.old db)) key.now }
+        ensures cleared { Clears (B.blocks store.now) (deadlines_at self.old db).table (deadlines_at self.new db).table key.now ⊎ ((self.new ≡ self.old) × Lacks (B.blocks store.now) (deadlines_at self.old db).table key.now) }
+        ensures keyed { Keyed (B.blocks store.now) (deadlines_at self.new db).table }
+    {
+        if !self.has_no_deadline(db) {
+            let _was = self.bases[db].deadlines.clear(store, key);
+        }
+    }
+
+    // Begins a rehash of a database's keys to a smaller table, where they are few in theirs. `Memory` leaves all.
+    pub(crate) fn shrink_keys(&mut self, db: usize) -> Result<bool, Memory>
+        requires db { db < length self.old.bases }
+        ensures changes { ChangesTable self.old self.new db }
+        ensures items { (table_at self.new db).items ≡ (table_at self.old db).items }
+        ensures seed { (table_at self.new db).seed ≡ (table_at self.old db).seed }
+        ensures keyed { (blocks : Blocks) → Keyed blocks (table_at self.old db) → Keyed blocks (table_at self.new db) }
+    {
+        self.bases[db].keys.shrink()
+    }
+
+    // The same of the deadlines.
+    pub(crate) fn shrink_deadlines(&mut self, db: usize) -> Result<bool, Memory>
+        requires db { db < length self.old.bases }
+        ensures changes { ChangesDeadlines self.old self.new db }
+        ensures items { (deadlines_at self.new db).table.items ≡ (deadlines_at self.old db).table.items }
+        ensures seed { (deadlines_at self.new db).table.seed ≡ (deadlines_at self.old db).table.seed }
+        ensures keyed { (blocks : Blocks) → Keyed blocks (deadlines_at self.old db).table → Keyed blocks (deadlines_at self.new db).table }
+    {
+        self.bases[db].deadlines.shrink()
     }
 
     // Puts a value in the place of another, which it answers.
     pub(crate) fn swap_value(&mut self, db: usize, at: usize, value: V) -> V
-        requires db { db < length self.old.tables }
+        requires db { db < length self.old.bases }
         requires item { IsSome (item (table_at self.old db) at) }
         ensures changes { ChangesTable self.old self.new db }
         ensures swaps { Swaps (table_at self.old db) (table_at self.new db) at result value }
         ensures keyed { (blocks : Blocks) → Keyed blocks (table_at self.old db) → Keyed blocks (table_at self.new db) }
     {
-        self.tables[db].swap_value(at, value)
+        self.bases[db].keys.swap_value(at, value)
     }
 
     // Adds a key that is not there, and answers its item number.
@@ -113,7 +260,7 @@ impl<V: Drop> Databases<V> {
         key: BlockRef,
         value: V,
     ) -> Result<usize, (V, Memory)>
-        requires db { db < length self.old.tables }
+        requires db { db < length self.old.bases }
         requires keyed { Keyed (B.blocks store.now) (table_at self.old db) }
         requires live { IsSome (B.blocks store.now key) }
         requires lacks { Lacks (B.blocks store.now) (table_at self.old db) (bytes_at (B.blocks store.now) key) }
@@ -123,7 +270,63 @@ impl<V: Drop> Databases<V> {
         ensures err { OnErr result (self.new ≡ self.old) }
         ensures value_returned { IfErr result (λ e. e.0 ≡ value) }
     {
-        self.tables[db].insert(store, key, value)
+        self.bases[db].keys.insert(store, key, value)
+    }
+
+    // Gives a key that is to join its deadline, where it has one. `Memory` leaves all.
+    fn set_new<B: BlockStore>(
+        &mut self,
+        store: &B,
+        db: usize,
+        name: BlockRef,
+        key: &[u8],
+        deadline: Option<u64>,
+    ) -> Result<(), Memory>
+        requires db { db < length self.old.bases }
+        requires timed { IsTimed (B.blocks store.now) (table_at self.old db) (deadlines_at self.old db) }
+        requires named { B.blocks store.now name ≡ Some key.now }
+        requires lacks { Lacks (B.blocks store.now) (table_at self.old db) key.now }
+        requires latest { IsDeadline deadline }
+        ensures begins { OnOk result (Begins self.old self.new (B.blocks store.now) db name key.now deadline) }
+        ensures err { OnErr result (self.new ≡ self.old) }
+    {
+        let _ = key;
+        match deadline {
+            None => Ok(()),
+            Some(deadline) => self.set_deadline(store, db, name, deadline),
+        }
+    }
+
+    // Adds a key that is not there, with its deadline. Where memory is refused the keys stay, and so does each deadline.
+    pub(crate) fn insert_timed<B: BlockStore>(
+        &mut self,
+        store: &B,
+        db: usize,
+        name: BlockRef,
+        key: &[u8],
+        value: V,
+        deadline: Option<u64>,
+    ) -> Result<(), (V, Memory)>
+        requires db { db < length self.old.bases }
+        requires keyed { Keyed (B.blocks store.now) (table_at self.old db) }
+        requires timed { IsTimed (B.blocks store.now) (table_at self.old db) (deadlines_at self.old db) }
+        requires named { B.blocks store.now name ≡ Some key.now }
+        requires lacks { Lacks (B.blocks store.now) (table_at self.old db) key.now }
+        requires latest { IsDeadline deadline }
+        ensures joins { OnOk result (Joins self.old self.new (B.blocks store.now) db name key.now value deadline) }
+        ensures stays { OnErr result (KeepsTimes self.old self.new (B.blocks store.now) db) }
+        ensures value_returned { IfErr result (λ e. e.0 ≡ value) }
+    {
+        if let Err(error) = self.set_new(store, db, name, key, deadline) {
+            return Err((value, error));
+        }
+        match self.insert(store, db, name, value) {
+            Ok(_at) => Ok(()),
+            Err((value, error)) => {
+                self.clear_deadline(store, db, key);
+                Err((value, error))
+            }
+        }
     }
 
     // Takes out a key with its value.
@@ -133,7 +336,7 @@ impl<V: Drop> Databases<V> {
         db: usize,
         key: &[u8],
     ) -> Option<(BlockRef, V)>
-        requires db { db < length self.old.tables }
+        requires db { db < length self.old.bases }
         requires keyed { Keyed (B.blocks store.now) (table_at self.old db) }
         ensures changes { ChangesTable self.old self.new db }
         ensures removed { IfSome result (λ pair. Removes (B.blocks store.now) (table_at self.old db) (table_at self.new db) key.now pair.0 pair.1) }
@@ -141,17 +344,18 @@ impl<V: Drop> Databases<V> {
         ensures same { IfNone result (self.new ≡ self.old) }
         ensures none { IfNone result (Lacks (B.blocks store.now) (table_at self.old db) key.now) }
     {
-        self.tables[db].remove(store, key)
+        self.bases[db].keys.remove(store, key)
     }
 
     // Takes out all keys with their values: the database has none afterwards.
     pub(crate) fn take(&mut self, db: usize) -> Dict<V>
-        requires { db < length self.old.tables }
-        ensures changes { ChangesTable self.old self.new db }
+        requires { db < length self.old.bases }
+        ensures changes { ChangesBase self.old self.new db }
         ensures taken { result ≡ table_at self.old db }
-        ensures none { table_at self.new db ≡ no_keys self.old.seed }
+        ensures none { base_at self.new db ≡ no_base self.old.seed }
     {
-        let none = Dict::new(self.alloc, self.seed);
-        mem::replace(&mut self.tables[db], none)
+        let none = Base::new(self.alloc, self.seed);
+        let was = mem::replace(&mut self.bases[db], none);
+        was.keys
     }
 }

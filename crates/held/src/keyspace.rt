@@ -1,17 +1,18 @@
-ghost use Rattle.std.specs.Prelude.{◌≡◌, ◌≢◌, ◌<◌, ℕ, ◌++◌, [], ◌∷◌, List, Option, None, IfOk, OnOk, OnErr, IfSome, IfNone, is_some, length};
+ghost use Rattle.std.specs.Prelude.{◌≡◌, ◌≢◌, ◌<◌, ℕ, ◌++◌, [], ◌∷◌, List, Option, None, Some, IfOk, OnOk, OnErr, IfSome, IfNone, is_some, length};
 ghost use Rattle.std.specs.FinMap as map;
 ghost use Rattle.blocks.specs.declared.BlockRef.{BlockRef};
 ghost use Rattle.blocks.specs.Blocks.{no_blocks, Changes, Owned, Served};
 ghost use Rattle.object_codec.specs.Limits.{AreInRange};
-ghost use Rattle.plain_world.specs.Worlds.{World, new_world, live, look, put};
-ghost use Rattle.held.specs.Databases.{means, owned, entry_of, SameSettings, table_at};
+ghost use Rattle.plain_world.specs.Worlds.{World, Entry, new_world, live, look, put, in_time, deadline_of};
+ghost use Rattle.expiry.specs.Timed.{moments};
+ghost use Rattle.held.specs.Databases.{means, owned, SameSettings, table_at, deadlines_at, with_deadline, ChangesDeadlines};
 ghost use Rattle.held.specs.Sound.{IsArranged, IsIntact, Sound, SoundBeside};
-ghost use Rattle.held.specs.Table.{Lacks, refs};
+ghost use Rattle.held.specs.Table.{Stands, refs};
 ghost use Rattle.held.specs.Worlds.{without, emptied};
-ghost use Rattle.held.specs.Calls.{Found, IsPlace, IsVacant, Lifts, AreParts};
+ghost use Rattle.held.specs.Calls.{Found, StandsAt, IsPlace, IsVacant, IsDeadline, Lifts, AreParts};
 
 use crate::{Databases, Held};
-use blocks::{BlockRef, BlockStore, Memory, put_block};
+use blocks::{BlockRef, BlockStore, Memory};
 use object_codec::Limits;
 use rehash_dict::Dict;
 use std::alloc::{AllocError, Global};
@@ -36,7 +37,7 @@ pub struct Lifted<V> {
 }
 
 // Gives back a key's block and all blocks of its value.
-fn release_both<V: Held, B: BlockStore>(store: &mut B, key: BlockRef, value: V)
+pub(crate) fn release_both<V: Held, B: BlockStore>(store: &mut B, key: BlockRef, value: V)
     requires { Owned (key ∷ V.refs_of value) (B.blocks store.old) }
     ensures changes { Changes (B.blocks store.old) (B.blocks store.new) (key ∷ V.refs_of value) [] }
     ensures served { Served B.step store.old store.new }
@@ -57,6 +58,17 @@ fn release_all<V: Held, B: BlockStore>(store: &mut B, mut table: Dict<V>)
             let key = table.entry(at).0;
             release_both(store, key, value);
         }
+    }
+}
+
+// Whether a deadline, in milliseconds, is not past at the moment: as with EXPIRE, a key stays through the moment of its
+// deadline.
+pub(crate) fn is_in_time(moment: u64, deadline: Option<u64>) -> bool
+    ensures { result ≡ in_time moment deadline }
+{
+    match deadline {
+        None => true,
+        Some(deadline) => moment <= deadline,
     }
 }
 
@@ -95,6 +107,15 @@ impl<V: Held, B: BlockStore> Keyspace<V, B> {
         self.bases.seed()
     }
 
+    /// The key table of a database.
+    pub fn table(&self, db: usize) -> &Dict<V>
+        requires db { db < 16 }
+        requires intact { IsIntact V.refs_of self.now.bases (B.blocks self.now.store) [] }
+        ensures { result.now ≡ table_at self.now.bases db }
+    {
+        self.bases.table(db)
+    }
+
     /// The number of a database's keys.
     pub fn count(&self, db: usize) -> u64
         requires db { db < 16 }
@@ -111,10 +132,87 @@ impl<V: Held, B: BlockStore> Keyspace<V, B> {
         ensures found { IfSome result (λ value. Found V.refs_of V.value_of self.now.bases (B.blocks self.now.store) db key.now moment value.now) }
         ensures none { IfNone result (look (live (means V.value_of db self.now.bases (B.blocks self.now.store)) moment) key.now ≡ None) }
     {
-        // No key has a deadline yet.
-        let _ = moment;
-        let at = self.bases.find(&self.store, db, key)?;
+        let at = self.find(db, key, moment)?;
         Some(self.bases.value(db, at))
+    }
+
+    // The item number of a key that is there at the moment.
+    fn find(&self, db: usize, key: &[u8], moment: u64) -> Option<usize>
+        requires db { db < 16 }
+        requires arranged { IsArranged self.now.bases (B.blocks self.now.store) }
+        ensures found { IfSome result (λ at. StandsAt self.now.bases (B.blocks self.now.store) db key.now moment at) }
+        ensures none { IfNone result (look (live (means V.value_of db self.now.bases (B.blocks self.now.store)) moment) key.now ≡ None) }
+    {
+        let at = self.bases.find(&self.store, db, key)?;
+        let deadline = self.bases.deadline(&self.store, db, key);
+        if !is_in_time(moment, deadline) {
+            return None;
+        }
+        Some(at)
+    }
+
+    /// The deadline of a key in milliseconds, whether it is past or not. `None` comes exactly where the key isn't there, or
+    /// has none.
+    pub fn deadline(&self, db: usize, key: &[u8]) -> Option<u64>
+        requires db { db < 16 }
+        requires intact { IsIntact V.refs_of self.now.bases (B.blocks self.now.store) [] }
+        ensures value { result ≡ deadline_of (look (means V.value_of db self.now.bases (B.blocks self.now.store)) key.now) }
+        ensures latest { IsDeadline result }
+    {
+        self.bases.deadline(&self.store, db, key)
+    }
+
+    // The key of an item number gets this deadline, or loses the one that it has. `Memory` leaves all.
+    pub(crate) fn retime(
+        &mut self,
+        db: usize,
+        at: usize,
+        key: &[u8],
+        deadline: Option<u64>,
+    ) -> Result<(), Memory>
+        requires db { db < 16 }
+        requires arranged { IsArranged self.old.bases (B.blocks self.old.store) }
+        requires stands { Stands (B.blocks self.old.store) (table_at self.old.bases db) at key.now }
+        requires latest { IsDeadline deadline }
+        ensures changes { ChangesDeadlines self.old.bases self.new.bases db }
+        ensures arranged { IsArranged self.new.bases (B.blocks self.old.store) }
+        ensures times { OnOk result (moments (B.blocks self.old.store) (deadlines_at self.new.bases db) ≡ with_deadline (moments (B.blocks self.old.store) (deadlines_at self.old.bases db)) key.now deadline) }
+        ensures err { OnErr result (self.new.bases ≡ self.old.bases) }
+        ensures store { self.new.store ≡ self.old.store }
+    {
+        match deadline {
+            None => {
+                self.bases.clear_deadline(&self.store, db, key);
+                Ok(())
+            }
+            Some(deadline) => {
+                let name = self.bases.key(db, at);
+                self.bases.set_deadline(&self.store, db, name, deadline)
+            }
+        }
+    }
+
+    /// Gives a key this deadline, in milliseconds, or takes the one away that it has. The answer is whether the key is there,
+    /// whether it is gone or not; where it isn't, nothing changes.
+    ///
+    /// `Memory` leaves all.
+    pub fn set_deadline(&mut self, db: usize, key: &[u8], to: Option<u64>) -> Result<bool, Memory>
+        requires db { db < 16 }
+        requires intact { IsIntact V.refs_of self.old.bases (B.blocks self.old.store) [] }
+        requires latest { IsDeadline to }
+        ensures answer { IfOk result (λ there. there ≡ is_some (look (means V.value_of db self.old.bases (B.blocks self.old.store)) key.now)) }
+        ensures means { OnOk result ((entry : Entry) → look (means V.value_of db self.old.bases (B.blocks self.old.store)) key.now ≡ Some entry → means V.value_of db self.new.bases (B.blocks self.old.store) ≡ put (means V.value_of db self.old.bases (B.blocks self.old.store)) key.now (record { value = entry.value; deadline = to })) }
+        ensures absent { look (means V.value_of db self.old.bases (B.blocks self.old.store)) key.now ≡ None → self.new.bases ≡ self.old.bases }
+        ensures err { OnErr result (self.new.bases ≡ self.old.bases) }
+        ensures sound { (out : List BlockRef) → SoundBeside V.refs_of self.old.bases (B.blocks self.old.store) out → SoundBeside V.refs_of self.new.bases (B.blocks self.old.store) out }
+        ensures store { self.new.store ≡ self.old.store }
+        ensures settings { SameSettings self.old.bases self.new.bases }
+    {
+        let Some(at) = self.bases.find(&self.store, db, key) else {
+            return Ok(false);
+        };
+        self.retime(db, at, key, to)?;
+        Ok(true)
     }
 
     /// Takes out the value that stands at a key at the moment, in milliseconds; `vacant`, which owns no block,
@@ -129,9 +227,7 @@ impl<V: Held, B: BlockStore> Keyspace<V, B> {
         ensures store { self.new.store ≡ self.old.store }
         ensures settings { SameSettings self.old.bases self.new.bases }
     {
-        // No key has a deadline yet.
-        let _ = moment;
-        let item = self.bases.find(&self.store, db, key)?;
+        let item = self.find(db, key, moment)?;
         let value = self.bases.swap_value(db, item, V::zero());
         Some(Lifted { db, item, value })
     }
@@ -150,9 +246,10 @@ impl<V: Held, B: BlockStore> Keyspace<V, B> {
         let _zero = self.bases.swap_value(db, item, value);
     }
 
-    /// Lets a value stand at a key. What stood there is released. No key has a deadline yet: `None` is handed in.
+    /// Lets a value stand at a key, with this deadline in milliseconds or without one. What stood there is released, and its
+    /// deadline goes.
     ///
-    /// `Memory` leaves the databases and all their blocks, and releases the value that was handed in.
+    /// `Memory` leaves the keys, their deadlines and all their blocks, and releases the value that was handed in.
     pub fn put(
         &mut self,
         db: usize,
@@ -161,49 +258,21 @@ impl<V: Held, B: BlockStore> Keyspace<V, B> {
         deadline: Option<u64>,
     ) -> Result<(), Memory>
         requires db { db < 16 }
-        requires deadline { deadline ≡ None }
+        requires latest { IsDeadline deadline }
         requires intact { IsIntact V.refs_of self.old.bases (B.blocks self.old.store) (V.refs_of value) }
         ensures means { OnOk result (means V.value_of db self.new.bases (B.blocks self.new.store) ≡ put (means V.value_of db self.old.bases (B.blocks self.old.store)) key.now (record { value = V.value_of (B.blocks self.old.store) value; deadline = deadline })) }
         ensures kept { OnErr result (means V.value_of db self.new.bases (B.blocks self.new.store) ≡ means V.value_of db self.old.bases (B.blocks self.old.store)) }
         ensures sound { (all out : List BlockRef) → SoundBeside V.refs_of self.old.bases (B.blocks self.old.store) all → AreParts all (V.refs_of value) out → SoundBeside V.refs_of self.new.bases (B.blocks self.new.store) out }
         ensures changes { Changes (B.blocks self.old.store) (B.blocks self.new.store) (owned V.refs_of self.old.bases ++ V.refs_of value) (owned V.refs_of self.new.bases) }
-        ensures err_bases { OnErr result (self.new.bases ≡ self.old.bases) }
+        ensures err_keys { OnErr result ((number : ℕ) → table_at self.new.bases number ≡ table_at self.old.bases number) }
         ensures err_blocks { OnErr result (Changes (B.blocks self.old.store) (B.blocks self.new.store) (V.refs_of value) []) }
         ensures served { Served B.step self.old.store self.new.store }
         ensures settings { SameSettings self.old.bases self.new.bases }
     {
-        // No key has a deadline yet.
-        let _ = deadline;
-        let Some(at) = self.bases.find(&self.store, db, key) else {
-            return self.put_new(db, key, value);
-        };
-        let was = self.bases.swap_value(db, at, value);
-        was.release(&mut self.store);
-        Ok(())
-    }
-
-    // The same where nothing stands at the key.
-    fn put_new(&mut self, db: usize, key: &[u8], value: V) -> Result<(), Memory>
-        requires db { db < 16 }
-        requires intact { IsIntact V.refs_of self.old.bases (B.blocks self.old.store) (V.refs_of value) }
-        requires lacks { Lacks (B.blocks self.old.store) (table_at self.old.bases db) key.now }
-        ensures means { OnOk result (means V.value_of db self.new.bases (B.blocks self.new.store) ≡ put (means V.value_of db self.old.bases (B.blocks self.old.store)) key.now (entry_of V.value_of (B.blocks self.old.store) value)) }
-        ensures kept { OnErr result (means V.value_of db self.new.bases (B.blocks self.new.store) ≡ means V.value_of db self.old.bases (B.blocks self.old.store)) }
-        ensures arranged { IsArranged self.new.bases (B.blocks self.new.store) }
-        ensures changes { Changes (B.blocks self.old.store) (B.blocks self.new.store) (owned V.refs_of self.old.bases ++ V.refs_of value) (owned V.refs_of self.new.bases) }
-        ensures err_bases { OnErr result (self.new.bases ≡ self.old.bases) }
-        ensures err_blocks { OnErr result (Changes (B.blocks self.old.store) (B.blocks self.new.store) (V.refs_of value) []) }
-        ensures served { Served B.step self.old.store self.new.store }
-        ensures settings { SameSettings self.old.bases self.new.bases }
-    {
-        let Ok(at) = put_block(&mut self.store, key) else {
-            value.release(&mut self.store);
-            return Err(AllocError);
-        };
-        match self.bases.insert(&self.store, db, at, value) {
-            Ok(_) => Ok(()),
-            Err((value, _)) => {
-                release_both(&mut self.store, at, value);
+        match self.place(db, key, value, deadline) {
+            Ok(()) => Ok(()),
+            Err(value) => {
+                value.release(&mut self.store);
                 Err(AllocError)
             }
         }
@@ -220,6 +289,7 @@ impl<V: Held, B: BlockStore> Keyspace<V, B> {
         ensures served { Served B.step self.old.store self.new.store }
         ensures settings { SameSettings self.old.bases self.new.bases }
     {
+        self.bases.clear_deadline(&self.store, db, key);
         let Some((at, value)) = self.bases.remove(&self.store, db, key) else {
             return false;
         };
@@ -239,5 +309,23 @@ impl<V: Held, B: BlockStore> Keyspace<V, B> {
     {
         let table = self.bases.take(db);
         release_all(&mut self.store, table);
+    }
+
+    /// Begins a rehash of a database's keys to a smaller table, and then of their deadlines, each where no rehash is going on,
+    /// the table has more than 4 buckets, and ten times its elements are fewer than its buckets.
+    ///
+    /// `Memory` leaves the keys, their values and their deadlines; where the table of the deadlines finds none, what was begun
+    /// with the keys goes on.
+    pub fn shrink(&mut self, db: usize) -> Result<(), Memory>
+        requires db { db < 16 }
+        requires intact { IsIntact V.refs_of self.old.bases (B.blocks self.old.store) [] }
+        ensures means { means V.value_of db self.new.bases (B.blocks self.old.store) ≡ means V.value_of db self.old.bases (B.blocks self.old.store) }
+        ensures sound { (out : List BlockRef) → SoundBeside V.refs_of self.old.bases (B.blocks self.old.store) out → SoundBeside V.refs_of self.new.bases (B.blocks self.old.store) out }
+        ensures store { self.new.store ≡ self.old.store }
+        ensures settings { SameSettings self.old.bases self.new.bases }
+    {
+        let _of_keys = self.bases.shrink_keys(db)?;
+        let _of_deadlines = self.bases.shrink_deadlines(db)?;
+        Ok(())
     }
 }

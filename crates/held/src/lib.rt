@@ -2,9 +2,11 @@
 #![tactic(auto)]
 
 mod databases;
+mod gone;
 mod held;
 mod keyspace;
+mod moving;
 
-pub use databases::Databases;
+pub use databases::{Base, Databases};
 pub use held::Held;
 pub use keyspace::{Keyspace, Lifted};

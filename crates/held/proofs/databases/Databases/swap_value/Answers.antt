@@ -7,5 +7,5 @@ use Rattle.held.proofs.databases.Databases.swap_value.Goals as goal
 
 pub returns-clause-keyed : goal.returns-clause-keyed
 returns-clause-keyed g c =
-    in_place c.self.inside.tables.items c.args.self.now c.args.db c.index_mut.result.now c.swap_value.new.self (λ old new. (blocks : Blocks) → Keyed blocks old → Keyed blocks new)
-    (ap (λ (b : Bases _). b.tables) c.self.view_is) c.requires.db c.index_mut.ensures.value c.swap_value.ensures.keyed
+    in_place c.self.inside.bases.items c.args.self.now c.args.db c.index_mut.result.now _ (λ old new. (blocks : Blocks) → Keyed blocks old.keys → Keyed blocks new.keys)
+    (ap (λ (b : Bases _). b.bases) c.self.view_is) c.requires.db c.index_mut.ensures.value c.swap_value.ensures.keyed

@@ -1,38 +1,42 @@
-use Rattle.std.proofs.Common.{[], sym, subst}
+use Rattle.std.proofs.Common.{[], refl, sym, subst}
 use Rattle.blocks.specs.Blocks.{Changes, Owned}
-use Rattle.held.specs.Table.{Keyed, refs}
+use Rattle.held.specs.Table.{refs}
 use Rattle.held.specs.Databases.{table_at}
-use Rattle.held.proofs.Tables.{Keyed-none}
 use Rattle.held.proofs.Bases.{sound_kept}
-use Rattle.held.proofs.Calls.{all_gone, all_means, left_owned, left_means, left_arranged, left_changes}
+use Rattle.held.proofs.Calls.{all_gone, all_order, all_means, left_owned, left_means, left_arranged, left_changes}
 use Rattle.held.proofs.keyspace.Keyspace.clear.Goals as goal
 
 pub release_all-requires : goal.release_all-requires
 release_all-requires g c =
     let m = g.B.BlockStore.blocks c.args.self.now.store in
     subst (λ t. Owned (refs g.V.Held.refs_of t) m) (sym c.take-table.ensures.taken)
-    (left_owned g.V.Held.refs_of g.V.Held.value_of g.met.V.Held.reads_own c.args.self.now.bases c.take-table.new.self c.args.db m m c.take-table.ensures.changes c.requires.intact (refs g.V.Held.refs_of (table_at c.args.self.now.bases c.args.db)) (all_gone g.V.Held.refs_of g.V.Held.value_of g.met.V.Held.reads_own c.args.self.now.bases c.take-table.new.self c.args.db c.take-table.ensures.changes c.args.self.now.bases.seed c.take-table.ensures.none) (subst (Keyed m) (sym c.take-table.ensures.none) (Keyed-none m c.args.self.now.bases.seed)))
+    (left_owned g.V.Held.refs_of g.V.Held.value_of g.met.V.Held.reads_own c.args.self.now.bases c.take-table.new.self c.args.db m m c.take-table.ensures.changes c.requires.intact (refs g.V.Held.refs_of (table_at c.args.self.now.bases c.args.db)) (all_gone g.V.Held.refs_of g.V.Held.value_of g.met.V.Held.reads_own c.args.self.now.bases c.take-table.new.self c.args.db _ c.take-table.ensures.changes c.take-table.ensures.none)
+    (all_order g.V.Held.refs_of g.V.Held.value_of g.met.V.Held.reads_own c.args.self.now.bases c.take-table.new.self c.args.db _ c.take-table.ensures.changes c.take-table.ensures.none m refl))
 
 pub returns-clause-means : goal.returns-clause-means
 returns-clause-means g c =
     let m = g.B.BlockStore.blocks c.args.self.now.store in
     let after = g.B.BlockStore.blocks c.release_all.new.store in
-    left_means g.V.Held.refs_of g.V.Held.value_of g.met.V.Held.reads_own c.args.self.now.bases c.take-table.new.self c.args.db m after c.take-table.ensures.changes c.requires.intact (refs g.V.Held.refs_of (table_at c.args.self.now.bases c.args.db)) (all_gone g.V.Held.refs_of g.V.Held.value_of g.met.V.Held.reads_own c.args.self.now.bases c.take-table.new.self c.args.db c.take-table.ensures.changes c.args.self.now.bases.seed c.take-table.ensures.none) (subst (Keyed m) (sym c.take-table.ensures.none) (Keyed-none m c.args.self.now.bases.seed))
-    (subst (λ t. Changes m after (refs g.V.Held.refs_of t) []) c.take-table.ensures.taken c.release_all.ensures.changes) _ (all_means g.V.Held.refs_of g.V.Held.value_of g.met.V.Held.reads_own c.take-table.new.self c.args.db m c.args.self.now.bases.seed c.take-table.ensures.none)
+    left_means g.V.Held.refs_of g.V.Held.value_of g.met.V.Held.reads_own c.args.self.now.bases c.take-table.new.self c.args.db m after c.take-table.ensures.changes c.requires.intact (refs g.V.Held.refs_of (table_at c.args.self.now.bases c.args.db)) (all_gone g.V.Held.refs_of g.V.Held.value_of g.met.V.Held.reads_own c.args.self.now.bases c.take-table.new.self c.args.db _ c.take-table.ensures.changes c.take-table.ensures.none)
+    (all_order g.V.Held.refs_of g.V.Held.value_of g.met.V.Held.reads_own c.args.self.now.bases c.take-table.new.self c.args.db _ c.take-table.ensures.changes c.take-table.ensures.none m refl)
+    (subst (λ t. Changes m after (refs g.V.Held.refs_of t) []) c.take-table.ensures.taken c.release_all.ensures.changes) _ (all_means g.V.Held.refs_of g.V.Held.value_of g.met.V.Held.reads_own c.args.self.now.bases c.take-table.new.self c.args.db _ c.take-table.ensures.changes c.take-table.ensures.none m)
 
 pub returns-clause-sound : goal.returns-clause-sound
 returns-clause-sound g c =
     let m = g.B.BlockStore.blocks c.args.self.now.store in
     let after = g.B.BlockStore.blocks c.release_all.new.store in
     sound_kept g.V.Held.refs_of g.V.Held.value_of g.met.V.Held.reads_own c.args.self.now.bases c.take-table.new.self m after
-    (left_changes g.V.Held.refs_of g.V.Held.value_of g.met.V.Held.reads_own c.args.self.now.bases c.take-table.new.self c.args.db m after c.take-table.ensures.changes c.requires.intact (refs g.V.Held.refs_of (table_at c.args.self.now.bases c.args.db)) (all_gone g.V.Held.refs_of g.V.Held.value_of g.met.V.Held.reads_own c.args.self.now.bases c.take-table.new.self c.args.db c.take-table.ensures.changes c.args.self.now.bases.seed c.take-table.ensures.none) (subst (Keyed m) (sym c.take-table.ensures.none) (Keyed-none m c.args.self.now.bases.seed))
+    (left_changes g.V.Held.refs_of g.V.Held.value_of g.met.V.Held.reads_own c.args.self.now.bases c.take-table.new.self c.args.db m after c.take-table.ensures.changes c.requires.intact (refs g.V.Held.refs_of (table_at c.args.self.now.bases c.args.db)) (all_gone g.V.Held.refs_of g.V.Held.value_of g.met.V.Held.reads_own c.args.self.now.bases c.take-table.new.self c.args.db _ c.take-table.ensures.changes c.take-table.ensures.none)
+    (all_order g.V.Held.refs_of g.V.Held.value_of g.met.V.Held.reads_own c.args.self.now.bases c.take-table.new.self c.args.db _ c.take-table.ensures.changes c.take-table.ensures.none m refl)
     (subst (λ t. Changes m after (refs g.V.Held.refs_of t) []) c.take-table.ensures.taken c.release_all.ensures.changes))
-    (left_arranged g.V.Held.refs_of g.V.Held.value_of g.met.V.Held.reads_own c.args.self.now.bases c.take-table.new.self c.args.db m after c.take-table.ensures.changes c.requires.intact (refs g.V.Held.refs_of (table_at c.args.self.now.bases c.args.db)) (all_gone g.V.Held.refs_of g.V.Held.value_of g.met.V.Held.reads_own c.args.self.now.bases c.take-table.new.self c.args.db c.take-table.ensures.changes c.args.self.now.bases.seed c.take-table.ensures.none) (subst (Keyed m) (sym c.take-table.ensures.none) (Keyed-none m c.args.self.now.bases.seed))
+    (left_arranged g.V.Held.refs_of g.V.Held.value_of g.met.V.Held.reads_own c.args.self.now.bases c.take-table.new.self c.args.db m after c.take-table.ensures.changes c.requires.intact (refs g.V.Held.refs_of (table_at c.args.self.now.bases c.args.db)) (all_gone g.V.Held.refs_of g.V.Held.value_of g.met.V.Held.reads_own c.args.self.now.bases c.take-table.new.self c.args.db _ c.take-table.ensures.changes c.take-table.ensures.none)
+    (all_order g.V.Held.refs_of g.V.Held.value_of g.met.V.Held.reads_own c.args.self.now.bases c.take-table.new.self c.args.db _ c.take-table.ensures.changes c.take-table.ensures.none m refl)
     (subst (λ t. Changes m after (refs g.V.Held.refs_of t) []) c.take-table.ensures.taken c.release_all.ensures.changes))
 
 pub returns-clause-changes : goal.returns-clause-changes
 returns-clause-changes g c =
     let m = g.B.BlockStore.blocks c.args.self.now.store in
     let after = g.B.BlockStore.blocks c.release_all.new.store in
-    left_changes g.V.Held.refs_of g.V.Held.value_of g.met.V.Held.reads_own c.args.self.now.bases c.take-table.new.self c.args.db m after c.take-table.ensures.changes c.requires.intact (refs g.V.Held.refs_of (table_at c.args.self.now.bases c.args.db)) (all_gone g.V.Held.refs_of g.V.Held.value_of g.met.V.Held.reads_own c.args.self.now.bases c.take-table.new.self c.args.db c.take-table.ensures.changes c.args.self.now.bases.seed c.take-table.ensures.none) (subst (Keyed m) (sym c.take-table.ensures.none) (Keyed-none m c.args.self.now.bases.seed))
+    left_changes g.V.Held.refs_of g.V.Held.value_of g.met.V.Held.reads_own c.args.self.now.bases c.take-table.new.self c.args.db m after c.take-table.ensures.changes c.requires.intact (refs g.V.Held.refs_of (table_at c.args.self.now.bases c.args.db)) (all_gone g.V.Held.refs_of g.V.Held.value_of g.met.V.Held.reads_own c.args.self.now.bases c.take-table.new.self c.args.db _ c.take-table.ensures.changes c.take-table.ensures.none)
+    (all_order g.V.Held.refs_of g.V.Held.value_of g.met.V.Held.reads_own c.args.self.now.bases c.take-table.new.self c.args.db _ c.take-table.ensures.changes c.take-table.ensures.none m refl)
     (subst (λ t. Changes m after (refs g.V.Held.refs_of t) []) c.take-table.ensures.taken c.release_all.ensures.changes)

@@ -1,18 +1,13 @@
-use Rattle.std.proofs.Common.{None, refl, ap, ◌∙◌}
-use Rattle.held.proofs.Calls.{if_none, look_now, look_lacks, lifts, lifted_sound}
+use Rattle.std.proofs.Common.{refl, ap, ◌∙◌}
+use Rattle.held.proofs.Calls.{lifts, lifted_sound}
 use Rattle.held.proofs.keyspace.Keyspace.lift.Goals as goal
-
-pub returns-in_err-item-clause-none : goal.returns-in_err-item-clause-none
-returns-in_err-item-clause-none g c =
-    let m = g.B.BlockStore.blocks c.args.self.now.store in
-    if_none g.V.Held.refs_of g.V.Held.value_of g.met.V.Held.reads_own c.from_residual.result _ (look_now g.V.Held.refs_of g.V.Held.value_of g.met.V.Held.reads_own c.args.self.now.bases c.args.db c.args.moment m c.args.key.now None (look_lacks g.V.Held.refs_of g.V.Held.value_of g.met.V.Held.reads_own c.args.self.now.bases c.args.db m c.requires.intact.arranged c.args.key.now c.in_err-item.ensures.none))
 
 pub returns-clause-lifts : goal.returns-clause-lifts
 returns-clause-lifts g c =
     lifts g.V.Held.refs_of g.V.Held.value_of g.met.V.Held.reads_own c.args.self.now.bases c.swap_value-value.new.self c.args.db (g.B.BlockStore.blocks c.args.self.now.store) c.swap_value-value.ensures.changes c.in_ok-item.item c.swap_value-value.result c.zero.result (ap g.V.Held.refs_of c.zero.ensures ∙ g.met.V.Held.owns_none) g.V.Held.vacant c.zero.ensures c.swap_value-value.ensures.swaps (c.swap_value-value.ensures.keyed (g.B.BlockStore.blocks c.args.self.now.store) (c.requires.intact.arranged.keyed c.args.db))
-    c.requires.intact c.args.key.now c.in_ok-item.ensures.found c.args.moment _ refl
+    c.requires.intact c.args.key.now c.args.moment c.in_ok-item.ensures.found _ refl
 
 pub returns-clause-sound : goal.returns-clause-sound
 returns-clause-sound g c =
     lifted_sound g.V.Held.refs_of g.V.Held.value_of g.met.V.Held.reads_own c.args.self.now.bases c.swap_value-value.new.self c.args.db (g.B.BlockStore.blocks c.args.self.now.store) c.swap_value-value.ensures.changes c.in_ok-item.item c.swap_value-value.result c.zero.result (ap g.V.Held.refs_of c.zero.ensures ∙ g.met.V.Held.owns_none) g.V.Held.vacant c.zero.ensures c.swap_value-value.ensures.swaps (c.swap_value-value.ensures.keyed (g.B.BlockStore.blocks c.args.self.now.store) (c.requires.intact.arranged.keyed c.args.db))
-    c.requires.intact c.args.key.now c.in_ok-item.ensures.found
+    c.requires.intact c.args.key.now c.args.moment c.in_ok-item.ensures.found

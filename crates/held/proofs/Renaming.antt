@@ -1,0 +1,181 @@
+-- A key moves with its value and its deadline.
+use Rattle.std.proofs.Common.{◌≡◌, inl, inr, ℕ, ◌+◌, ◌<◌, ◌^◌, List, [], ◌++◌, Option, Some, None, IsSome, is_some, refl, sym, ap, ◌∙◌, subst, arith}
+use Rattle.std.proofs.lemmas.Bool.{cases_eq, eq-eqb, ne_eqb, cond-true, cond-false}
+use Rattle.std.specs.FinMap.{get, insert}
+use Rattle.std.specs.FinMap as map
+use Rattle.blocks.specs.declared.BlockRef.{BlockRef}
+use Rattle.blocks.specs.Blocks.{Blocks, times, live, Changes}
+use Rattle.blocks.proofs.Times.{times-append}
+use Rattle.blocks.proofs.Change.{Changes-same, Changes-then, Changes-beside, Changes-owned}
+use Rattle.rehash_dict.proofs.MapOf.{map_of-has}
+use Rattle.plain_world.specs.Worlds.{Value, Entry, World, Database, look, put, put_in, remove, selecting, deadline_of}
+use Rattle.expiry.specs.Timed.{Timed, moments}
+use Rattle.held.specs.Table.{Table, Element, item, Stands, Keyed, Swaps}
+use Rattle.held.specs.Databases.{ReadsOwn, Bases, table_at, deadlines_at, means, owned, ChangesTable}
+use Rattle.held.specs.Sound.{IsArranged, IsIntact, SoundBeside}
+use Rattle.held.specs.Worlds.{without}
+use Rattle.held.specs.Calls.{IsDeadline}
+use Rattle.held.proofs.Maps.{same_entry, put_removed, moved_base}
+use Rattle.held.proofs.Timing.{some_same}
+use Rattle.held.proofs.Bases.{owned_swaps, swapped_means, sound_joined}
+use Rattle.held.proofs.Calls.{look_stands, deadline_seen, swapped_key, over_intact, put_twice}
+
+-- ---- worlds
+
+-- what stands at a key is put there
+pub put_same : (w : World) (key : List ℕ) (e : Entry) → look w key ≡ Some e → put w key e ≡ w
+put_same w key e is = λ i. record { bases = λ number. each number i; selected = w.selected }
+  where
+    each : (number : ℕ) → (put w key e).bases number ≡ w.bases number
+    each number = elim (cases_eq number w.selected) [
+      | inl here ↦ cond-true _ _ _ (eq-eqb number w.selected here) ∙ same_entry (w.bases w.selected) key e is ∙ ap w.bases (sym here)
+      | inr other ↦ cond-false _ _ _ (ne_eqb number w.selected other)
+    ]
+
+-- Something else is put at a key, its own entry is put at another key, and the first key leaves.
+pub moved_world : (w : World) (key to : List ℕ) (number : ℕ) (a e : Entry) → ((w.selected ≡ number) × (key ≡ to) → ⊥) → remove (put_in (put w key a) number to e) key ≡ put_in (remove w key) number to e
+moved_world w key to number a e apart = λ i. record { bases = λ n. each n i; selected = w.selected }
+  where
+    chosen : Database
+    chosen = w.bases w.selected
+
+    -- in the database of the key, and then in the other
+    here_both : w.selected ≡ number → (remove (put_in (put w key a) number to e) key).bases w.selected ≡ (put_in (remove w key) number to e).bases w.selected
+    here_both same =
+        cond-true _ _ _ (eq-eqb w.selected w.selected refl)
+        ∙ ap (λ b. map.remove b key) (cond-true _ _ _ (eq-eqb w.selected number same) ∙ ap (λ b. insert b to e) (cond-true _ _ _ (eq-eqb number w.selected (sym same))))
+        ∙ moved_base chosen key to a e (λ k. apart (same, k))
+        ∙ sym (cond-true _ _ _ (eq-eqb w.selected number same) ∙ ap (λ b. insert b to e) (cond-true _ _ _ (eq-eqb number w.selected (sym same))))
+
+    here_one : (w.selected ≡ number → ⊥) → (remove (put_in (put w key a) number to e) key).bases w.selected ≡ (put_in (remove w key) number to e).bases w.selected
+    here_one other =
+        cond-true _ _ _ (eq-eqb w.selected w.selected refl)
+        ∙ ap (λ b. map.remove b key) (cond-false _ _ _ (ne_eqb w.selected number other) ∙ cond-true _ _ _ (eq-eqb w.selected w.selected refl))
+        ∙ put_removed chosen key a
+        ∙ sym (cond-false _ _ _ (ne_eqb w.selected number other) ∙ cond-true _ _ _ (eq-eqb w.selected w.selected refl))
+
+    there : (n : ℕ) → (n ≡ w.selected → ⊥) → (remove (put_in (put w key a) number to e) key).bases n ≡ (put_in (remove w key) number to e).bases n
+    there n other = cond-false _ _ _ (ne_eqb n w.selected other) ∙ elim (cases_eq n number) [
+      | inl same ↦
+          (let apart_too : number ≡ w.selected → ⊥ = (λ s. other (same ∙ s)) in
+          cond-true _ _ _ (eq-eqb n number same) ∙ ap (λ b. insert b to e) (cond-false _ _ _ (ne_eqb number w.selected apart_too))
+          ∙ sym (cond-true _ _ _ (eq-eqb n number same) ∙ ap (λ b. insert b to e) (cond-false _ _ _ (ne_eqb number w.selected apart_too))))
+      | inr apart_too ↦
+          cond-false _ _ _ (ne_eqb n number apart_too) ∙ cond-false _ _ _ (ne_eqb n w.selected other)
+          ∙ sym (cond-false _ _ _ (ne_eqb n number apart_too) ∙ cond-false _ _ _ (ne_eqb n w.selected other))
+    ]
+
+    each : (n : ℕ) → (remove (put_in (put w key a) number to e) key).bases n ≡ (put_in (remove w key) number to e).bases n
+    each n = elim (cases_eq n w.selected) [
+      | inl here ↦
+          subst (λ k. (remove (put_in (put w key a) number to e) key).bases k ≡ (put_in (remove w key) number to e).bases k) (sym here)
+          (elim (cases_eq w.selected number) [ inl same ↦ here_both same | inr other ↦ here_one other ])
+      | inr other ↦ there n other
+    ]
+
+module _ {V : Type 0} (refs_of : V → List BlockRef) (value_of : Blocks → V → Value) (own : ReadsOwn refs_of value_of) where
+  -- each deadline that a key has is at most the greatest
+  pub deadline_late : (bases : Bases V) (db : ℕ) (m : Blocks) → IsArranged bases m → (key : List ℕ) (deadline : Option ℕ) → get (moments m (deadlines_at bases db)) key ≡ deadline → IsDeadline deadline
+  deadline_late bases db m a key None is = tt
+  deadline_late bases db m a key (Some deadline) is =
+      (let had = map_of-has m (λ v. v) (deadlines_at bases db).table key deadline (a.timed db).keyed is in
+      subst (λ d. d < 2 ^ 63) had.1 ((a.timed db).latest had.0.at had.0.element had.0.found))
+
+  -- ---- the value is taken out of its place
+
+  module _ (old mid : Bases V) (db : ℕ) (m : Blocks) (intact : IsIntact refs_of old m []) (key : List ℕ) (at : ℕ) (stands : Stands m (table_at old db) at key) (deadline : Option ℕ) (lasts : get (moments m (deadlines_at old db)) key ≡ deadline)
+      (c : ChangesTable old mid db) (was zero : V) (nothing : refs_of zero ≡ []) (s : Swaps (table_at old db) (table_at mid db) at was zero) (keyed : Keyed m (table_at mid db)) where
+    out_key : m s.key ≡ Some key
+    out_key = swapped_key refs_of value_of own old mid db m c at was zero s keyed intact.arranged key stands
+
+    pub out_intact : IsIntact refs_of mid m (refs_of was)
+    out_intact = over_intact refs_of value_of own old mid db m c at was zero s keyed intact.arranged [] (refs_of was) intact (λ r. omega (arith, ap (times r) nothing))
+
+    out_means : means value_of db mid m ≡ put (means value_of db old m) key (record { value = value_of m zero; deadline = deadline })
+    out_means = swapped_means refs_of value_of own old mid db m intact.arranged at c keyed was zero s key out_key deadline lasts
+
+    pub out_look : look (means value_of db old m) key ≡ Some (record { value = value_of m was; deadline = deadline })
+    out_look = look_stands refs_of value_of own old db m intact.arranged key at (record { key = s.key; hash = s.hash; value = was }) s.found out_key deadline lasts
+
+    out_owned : (r : BlockRef) → times r (owned refs_of old) ≡ times r (owned refs_of mid) + times r (refs_of was)
+    out_owned r = omega (arith, owned_swaps refs_of value_of own old mid db c.base r at was zero s, ap (times r) nothing)
+
+    out_sound : (out : List BlockRef) → SoundBeside refs_of old m out → SoundBeside refs_of mid m (refs_of was ++ out)
+    out_sound out sound = record { owns = λ r. omega (arith, sound.owns r, out_owned r, times-append r (refs_of was) out); arranged = out_intact.arranged }
+
+    -- ---- it stands at the other key, and the first one leaves
+
+    module _ (to_db : ℕ) (to : List ℕ) (new : Bases V) (after : Blocks) (p : Changes m after (owned refs_of mid ++ refs_of was) (owned refs_of new)) (a : IsArranged new after) where
+      pub moved_intact : IsIntact refs_of new after []
+      moved_intact = record { owned = λ r. omega (arith, Changes-owned m after (owned refs_of mid ++ refs_of was) (owned refs_of new) p r); arranged = a }
+
+      pub moved_sound : (out : List BlockRef) → SoundBeside refs_of old m out → SoundBeside refs_of new after out
+      moved_sound out sound = sound_joined refs_of value_of own mid new m after (refs_of was) p a (refs_of was ++ out) out (out_sound out sound) (λ r. times-append r (refs_of was) out)
+
+      pub moved_changes : Changes m after (owned refs_of old) (owned refs_of new)
+      moved_changes =
+          Changes-then m m after (owned refs_of old) (owned refs_of mid ++ refs_of was) (owned refs_of new)
+          (Changes-beside m m [] [] (owned refs_of old) (owned refs_of mid ++ refs_of was) (Changes-same m [] (λ q. omega arith)) (λ r. omega (arith, intact.owned r)) (λ r. times r (owned refs_of old)) (λ r. omega arith)
+          (λ r. omega (arith, out_owned r, times-append r (owned refs_of mid) (refs_of was)))) p
+
+      pub moved_means : means value_of to_db new after ≡ put (means value_of to_db mid m) to (record { value = value_of m was; deadline = deadline }) → (last : Bases V) (later : Blocks) → means value_of db last later ≡ without (means value_of db new after) key
+          → ((db ≡ to_db) × (key ≡ to) → ⊥) → (entry : Entry) → look (means value_of db old m) key ≡ Some entry → means value_of db last later ≡ put_in (remove (means value_of db old m) key) to_db to entry
+      moved_means put_there last later gone apart entry is =
+          let same : record { value = value_of m was; deadline = deadline } ≡ entry = some_same (look (means value_of db old m) key) _ _ out_look is in
+          gone ∙ ap (λ w. without (selecting w db) key) put_there
+          ∙ ap (λ w. without (put_in w to_db to (record { value = value_of m was; deadline = deadline })) key) out_means
+          ∙ moved_world (means value_of db old m) key to to_db _ _ apart
+          ∙ ap (λ e. put_in (remove (means value_of db old m) key) to_db to e) same
+
+    -- ---- memory is refused, and it is put back
+
+    module _ (to_db : ℕ) (new : Bases V) (after : Blocks) (same : after ≡ m) (keys : (number : ℕ) → table_at new number ≡ table_at mid number) (owns : (r : BlockRef) → times r (owned refs_of new) ≡ times r (owned refs_of mid)) (a : IsArranged new after) (kept : means value_of to_db new after ≡ means value_of to_db mid m) where
+      pub back_item : IsSome (item (table_at new db) at)
+      back_item = ap (λ (t : Table V). is_some (item t at)) (keys db) ∙ ap is_some s.updates.changed
+
+      back_world : means value_of db new after ≡ means value_of db mid m
+      back_world = ap (λ w. selecting w db) kept
+
+      back_lasts : get (moments after (deadlines_at new db)) key ≡ deadline
+      back_lasts =
+          deadline_seen refs_of value_of own new db after a key ∙ ap (λ w. deadline_of (look w key)) back_world
+          ∙ sym (deadline_seen refs_of value_of own mid db m out_intact.arranged key) ∙ ap (λ (d : Timed). get (moments m d) key) c.deadlines ∙ lasts
+
+      module _ (last : Bases V) (value : V) (returned : value ≡ was) (d : ChangesTable new last db) (vacant : V) (b : Swaps (table_at new db) (table_at last db) at vacant value) (last_keyed : Keyed after (table_at last db)) where
+        back_found : item (table_at new db) at ≡ Some (record { key = s.key; hash = s.hash; value = zero })
+        back_found = ap (λ (t : Table V). item t at) (keys db) ∙ s.updates.changed
+
+        back_stands : Stands after (table_at new db) at key
+        back_stands = record { element = record { key = s.key; hash = s.hash; value = zero }; found = back_found; bytes = ap (λ x. x s.key) same ∙ out_key }
+
+        back_zero : refs_of vacant ≡ []
+        back_zero =
+            let one : record { key = b.key; hash = b.hash; value = vacant } ≡ record { key = s.key; hash = s.hash; value = zero } = some_same (item (table_at new db) at) _ _ b.found back_found in
+            ap (λ (x : Element V). refs_of x.value) one ∙ nothing
+
+        back_value : value_of after value ≡ value_of m was
+        back_value = λ i. value_of (same i) (returned i)
+
+        pub refused_world : means value_of db last after ≡ means value_of db old m
+        refused_world =
+            swapped_means refs_of value_of own new last db after a at d last_keyed vacant value b key (swapped_key refs_of value_of own new last db after d at vacant value b last_keyed a key back_stands) deadline back_lasts
+            ∙ (λ i. put (back_world i) key (record { value = back_value i; deadline = deadline }))
+            ∙ ap (λ w. put w key (record { value = value_of m was; deadline = deadline })) out_means
+            ∙ put_twice refs_of value_of own (means value_of db old m) key _ _
+            ∙ put_same (means value_of db old m) key _ out_look
+
+        back_owned : (r : BlockRef) → times r (owned refs_of last) ≡ times r (owned refs_of old)
+        back_owned r = (let returned_refs = ap (λ v. times r (refs_of v)) returned in omega (arith, owned_swaps refs_of value_of own new last db d.base r at vacant value b, ap (times r) back_zero, returned_refs, owns r, out_owned r))
+
+        new_intact : IsIntact refs_of new after (refs_of value)
+        new_intact = record { owned = λ r. (let returned_refs = ap (λ v. times r (refs_of v)) returned in let alive = ap (λ x. live x r) same in omega (arith, out_intact.owned r, owns r, returned_refs, alive)); arranged = a }
+
+        last_arranged : IsArranged last after
+        last_arranged = (over_intact refs_of value_of own new last db after d at vacant value b last_keyed a (refs_of value) [] new_intact (λ r. omega (arith, ap (times r) back_zero))).arranged
+
+        pub refused_sound : (out : List BlockRef) → SoundBeside refs_of old m out → SoundBeside refs_of last after out
+        refused_sound out sound = record { owns = λ r. (let alive = ap (λ x. live x r) same in omega (arith, sound.owns r, back_owned r, alive)); arranged = last_arranged }
+
+        pub refused_same : Changes m after (owned refs_of old) (owned refs_of last)
+        refused_same = subst (λ x. Changes m x (owned refs_of old) (owned refs_of last)) (sym same)
+            (Changes-beside m m [] [] (owned refs_of old) (owned refs_of last) (Changes-same m [] (λ q. omega arith)) (λ r. omega (arith, intact.owned r)) (λ r. times r (owned refs_of old)) (λ r. omega arith) (λ r. omega (arith, back_owned r)))

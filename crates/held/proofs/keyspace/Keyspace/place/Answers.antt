@@ -1,0 +1,34 @@
+use Rattle.std.proofs.Common.{[], sym, ap, subst}
+use Rattle.blocks.specs.Blocks.{Blocks, Changes, Owned, Served, no_step}
+use Rattle.held.proofs.Calls.{put_owned, put_over, put_arranged, put_changes}
+use Rattle.held.proofs.keyspace.Keyspace.place.Goals as goal
+
+pub returns-in-Err-clause-served : goal.returns-in-Err-clause-served
+returns-in-Err-clause-served g c = subst (Served g.B.BlockStore.step c.args.self.now.store) (sym c.retime.ensures.store) no_step
+
+pub release-requires : goal.release-requires
+release-requires g c =
+    let m = g.B.BlockStore.blocks c.args.self.now.store in
+    let after = m in
+    subst (λ (b : Blocks). Owned (g.V.Held.refs_of c.swap_value-was.result) b) (sym (ap g.B.BlockStore.blocks c.retime.ensures.store)) (put_owned g.V.Held.refs_of g.V.Held.value_of g.met.V.Held.reads_own c.args.self.now.bases c.retime.new.self.bases c.swap_value-was.new.self c.args.db m after c.in-Some.at c.args.key.now c.swap_value-was.result c.args.value c.args.deadline c.requires.intact c.retime.ensures.changes c.retime.ensures.arranged c.in_default-retime.ensures.times c.in-Some.ensures.found c.swap_value-was.ensures.changes c.swap_value-was.ensures.swaps (c.swap_value-was.ensures.keyed m (c.retime.ensures.arranged.keyed c.args.db)))
+
+pub returns-clause-means : goal.returns-clause-means
+returns-clause-means g c =
+    let m = g.B.BlockStore.blocks c.args.self.now.store in
+    let after = g.B.BlockStore.blocks c.release.new.store in
+    put_over g.V.Held.refs_of g.V.Held.value_of g.met.V.Held.reads_own c.args.self.now.bases c.retime.new.self.bases c.swap_value-was.new.self c.args.db m after c.in-Some.at c.args.key.now c.swap_value-was.result c.args.value c.args.deadline c.requires.intact c.retime.ensures.changes c.retime.ensures.arranged c.in_default-retime.ensures.times c.in-Some.ensures.found c.swap_value-was.ensures.changes c.swap_value-was.ensures.swaps (c.swap_value-was.ensures.keyed m (c.retime.ensures.arranged.keyed c.args.db))
+    (subst (λ (b : Blocks). Changes b after (g.V.Held.refs_of c.swap_value-was.result) []) (ap g.B.BlockStore.blocks c.retime.ensures.store) c.release.ensures.changes)
+
+pub returns-clause-changes : goal.returns-clause-changes
+returns-clause-changes g c =
+    let m = g.B.BlockStore.blocks c.args.self.now.store in
+    let after = g.B.BlockStore.blocks c.release.new.store in
+    put_changes g.V.Held.refs_of g.V.Held.value_of g.met.V.Held.reads_own c.args.self.now.bases c.retime.new.self.bases c.swap_value-was.new.self c.args.db m after c.in-Some.at c.args.key.now c.swap_value-was.result c.args.value c.args.deadline c.requires.intact c.retime.ensures.changes c.retime.ensures.arranged c.in_default-retime.ensures.times c.in-Some.ensures.found c.swap_value-was.ensures.changes c.swap_value-was.ensures.swaps (c.swap_value-was.ensures.keyed m (c.retime.ensures.arranged.keyed c.args.db))
+    (subst (λ (b : Blocks). Changes b after (g.V.Held.refs_of c.swap_value-was.result) []) (ap g.B.BlockStore.blocks c.retime.ensures.store) c.release.ensures.changes)
+
+pub returns-clause-arranged : goal.returns-clause-arranged
+returns-clause-arranged g c =
+    let m = g.B.BlockStore.blocks c.args.self.now.store in
+    let after = g.B.BlockStore.blocks c.release.new.store in
+    put_arranged g.V.Held.refs_of g.V.Held.value_of g.met.V.Held.reads_own c.args.self.now.bases c.retime.new.self.bases c.swap_value-was.new.self c.args.db m after c.in-Some.at c.args.key.now c.swap_value-was.result c.args.value c.args.deadline c.requires.intact c.retime.ensures.changes c.retime.ensures.arranged c.in_default-retime.ensures.times c.in-Some.ensures.found c.swap_value-was.ensures.changes c.swap_value-was.ensures.swaps (c.swap_value-was.ensures.keyed m (c.retime.ensures.arranged.keyed c.args.db))
+    (subst (λ (b : Blocks). Changes b after (g.V.Held.refs_of c.swap_value-was.result) []) (ap g.B.BlockStore.blocks c.retime.ensures.store) c.release.ensures.changes)

@@ -1,0 +1,73 @@
+use Rattle.std.proofs.Common.{is_some, refl, sym, ap, ◌∙◌}
+use Rattle.blocks.specs.Blocks.{no_step}
+use Rattle.blocks.proofs.Serve.{Served-then}
+use Rattle.blocks.proofs.Change.{Changes-then}
+use Rattle.held.proofs.Timing.{some_none}
+use Rattle.held.proofs.Calls.{look_lacks, look_stands}
+use Rattle.held.proofs.Renaming.{deadline_late, out_intact, out_look, moved_means, moved_sound, moved_changes, refused_world, refused_sound, refused_same}
+use Rattle.held.proofs.keyspace.Keyspace.rename.Goals as goal
+
+pub returns-in_default-clause-answer : goal.returns-in_default-clause-answer
+returns-in_default-clause-answer g c = ap is_some (sym (look_lacks g.V.Held.refs_of g.V.Held.value_of g.met.V.Held.reads_own c.args.self.now.bases c.args.db (g.B.BlockStore.blocks c.args.self.now.store) c.requires.intact.arranged c.args.from.now c.in_default.ensures.none))
+
+pub returns-in_default-clause-means : goal.returns-in_default-clause-means
+returns-in_default-clause-means g c apart entry is = some_none _ entry is (look_lacks g.V.Held.refs_of g.V.Held.value_of g.met.V.Held.reads_own c.args.self.now.bases c.args.db (g.B.BlockStore.blocks c.args.self.now.store) c.requires.intact.arranged c.args.from.now c.in_default.ensures.none)
+
+pub returns-in_default-clause-served : goal.returns-in_default-clause-served
+returns-in_default-clause-served g c = no_step
+
+pub returns-then-eq-clause-answer : goal.returns-then-eq-clause-answer
+returns-then-eq-clause-answer g c = ap is_some (sym (look_stands g.V.Held.refs_of g.V.Held.value_of g.met.V.Held.reads_own c.args.self.now.bases c.args.db (g.B.BlockStore.blocks c.args.self.now.store) c.requires.intact.arranged c.args.from.now c.in-Some.at c.in-Some.ensures.found.element c.in-Some.ensures.found.found c.in-Some.ensures.found.bytes _ refl))
+
+pub returns-then-eq-clause-served : goal.returns-then-eq-clause-served
+returns-then-eq-clause-served g c = no_step
+
+pub place-requires-clause-latest : goal.place-requires-clause-latest
+place-requires-clause-latest g c = deadline_late g.V.Held.refs_of g.V.Held.value_of g.met.V.Held.reads_own c.args.self.now.bases c.args.db (g.B.BlockStore.blocks c.args.self.now.store) c.requires.intact.arranged c.args.from.now c.deadline-deadline.result c.deadline-deadline.ensures.value
+
+pub place-requires-clause-intact : goal.place-requires-clause-intact
+place-requires-clause-intact g c =
+    out_intact g.V.Held.refs_of g.V.Held.value_of g.met.V.Held.reads_own c.args.self.now.bases c.swap_value-value.new.self c.args.db (g.B.BlockStore.blocks c.args.self.now.store) c.requires.intact c.args.from.now c.in-Some.at c.in-Some.ensures.found c.deadline-deadline.result c.deadline-deadline.ensures.value c.swap_value-value.ensures.changes c.swap_value-value.result c.zero.result (ap g.V.Held.refs_of c.zero.ensures ∙ g.met.V.Held.owns_none) c.swap_value-value.ensures.swaps (c.swap_value-value.ensures.keyed (g.B.BlockStore.blocks c.args.self.now.store) (c.requires.intact.arranged.keyed c.args.db))
+
+pub returns-in-Ok-clause-absent : goal.returns-in-Ok-clause-absent
+returns-in-Ok-clause-absent g c is = some_none _ _ (out_look g.V.Held.refs_of g.V.Held.value_of g.met.V.Held.reads_own c.args.self.now.bases c.swap_value-value.new.self c.args.db (g.B.BlockStore.blocks c.args.self.now.store) c.requires.intact c.args.from.now c.in-Some.at c.in-Some.ensures.found c.deadline-deadline.result c.deadline-deadline.ensures.value c.swap_value-value.ensures.changes c.swap_value-value.result c.zero.result (ap g.V.Held.refs_of c.zero.ensures ∙ g.met.V.Held.owns_none) c.swap_value-value.ensures.swaps (c.swap_value-value.ensures.keyed (g.B.BlockStore.blocks c.args.self.now.store) (c.requires.intact.arranged.keyed c.args.db))) is
+
+pub returns-in-Err-clause-absent : goal.returns-in-Err-clause-absent
+returns-in-Err-clause-absent g c is = some_none _ _ (out_look g.V.Held.refs_of g.V.Held.value_of g.met.V.Held.reads_own c.args.self.now.bases c.swap_value-value.new.self c.args.db (g.B.BlockStore.blocks c.args.self.now.store) c.requires.intact c.args.from.now c.in-Some.at c.in-Some.ensures.found c.deadline-deadline.result c.deadline-deadline.ensures.value c.swap_value-value.ensures.changes c.swap_value-value.result c.zero.result (ap g.V.Held.refs_of c.zero.ensures ∙ g.met.V.Held.owns_none) c.swap_value-value.ensures.swaps (c.swap_value-value.ensures.keyed (g.B.BlockStore.blocks c.args.self.now.store) (c.requires.intact.arranged.keyed c.args.db))) is
+
+pub returns-in-Ok-clause-answer : goal.returns-in-Ok-clause-answer
+returns-in-Ok-clause-answer g c = ap is_some (sym (out_look g.V.Held.refs_of g.V.Held.value_of g.met.V.Held.reads_own c.args.self.now.bases c.swap_value-value.new.self c.args.db (g.B.BlockStore.blocks c.args.self.now.store) c.requires.intact c.args.from.now c.in-Some.at c.in-Some.ensures.found c.deadline-deadline.result c.deadline-deadline.ensures.value c.swap_value-value.ensures.changes c.swap_value-value.result c.zero.result (ap g.V.Held.refs_of c.zero.ensures ∙ g.met.V.Held.owns_none) c.swap_value-value.ensures.swaps (c.swap_value-value.ensures.keyed (g.B.BlockStore.blocks c.args.self.now.store) (c.requires.intact.arranged.keyed c.args.db))))
+
+pub returns-in-Ok-clause-means : goal.returns-in-Ok-clause-means
+returns-in-Ok-clause-means g c =
+    moved_means g.V.Held.refs_of g.V.Held.value_of g.met.V.Held.reads_own c.args.self.now.bases c.swap_value-value.new.self c.args.db (g.B.BlockStore.blocks c.args.self.now.store) c.requires.intact c.args.from.now c.in-Some.at c.in-Some.ensures.found c.deadline-deadline.result c.deadline-deadline.ensures.value c.swap_value-value.ensures.changes c.swap_value-value.result c.zero.result (ap g.V.Held.refs_of c.zero.ensures ∙ g.met.V.Held.owns_none) c.swap_value-value.ensures.swaps (c.swap_value-value.ensures.keyed (g.B.BlockStore.blocks c.args.self.now.store) (c.requires.intact.arranged.keyed c.args.db))
+    c.args.to_db c.args.to.now c.place.new.self.bases (g.B.BlockStore.blocks c.place.new.self.store) c.in-Ok.ensures.changes c.in-Ok.ensures.arranged
+    c.in-Ok.ensures.means c.drop_key-there.new.self.bases (g.B.BlockStore.blocks c.drop_key-there.new.self.store) c.drop_key-there.ensures.means
+
+pub returns-in-Ok-clause-sound : goal.returns-in-Ok-clause-sound
+returns-in-Ok-clause-sound g c out sound =
+    c.drop_key-there.ensures.sound out (moved_sound g.V.Held.refs_of g.V.Held.value_of g.met.V.Held.reads_own c.args.self.now.bases c.swap_value-value.new.self c.args.db (g.B.BlockStore.blocks c.args.self.now.store) c.requires.intact c.args.from.now c.in-Some.at c.in-Some.ensures.found c.deadline-deadline.result c.deadline-deadline.ensures.value c.swap_value-value.ensures.changes c.swap_value-value.result c.zero.result (ap g.V.Held.refs_of c.zero.ensures ∙ g.met.V.Held.owns_none) c.swap_value-value.ensures.swaps (c.swap_value-value.ensures.keyed (g.B.BlockStore.blocks c.args.self.now.store) (c.requires.intact.arranged.keyed c.args.db))
+    c.args.to_db c.args.to.now c.place.new.self.bases (g.B.BlockStore.blocks c.place.new.self.store) c.in-Ok.ensures.changes c.in-Ok.ensures.arranged out sound)
+
+pub returns-in-Ok-clause-changes : goal.returns-in-Ok-clause-changes
+returns-in-Ok-clause-changes g c =
+    Changes-then (g.B.BlockStore.blocks c.args.self.now.store) (g.B.BlockStore.blocks c.place.new.self.store) (g.B.BlockStore.blocks c.drop_key-there.new.self.store) _ _ _ (moved_changes g.V.Held.refs_of g.V.Held.value_of g.met.V.Held.reads_own c.args.self.now.bases c.swap_value-value.new.self c.args.db (g.B.BlockStore.blocks c.args.self.now.store) c.requires.intact c.args.from.now c.in-Some.at c.in-Some.ensures.found c.deadline-deadline.result c.deadline-deadline.ensures.value c.swap_value-value.ensures.changes c.swap_value-value.result c.zero.result (ap g.V.Held.refs_of c.zero.ensures ∙ g.met.V.Held.owns_none) c.swap_value-value.ensures.swaps (c.swap_value-value.ensures.keyed (g.B.BlockStore.blocks c.args.self.now.store) (c.requires.intact.arranged.keyed c.args.db))
+    c.args.to_db c.args.to.now c.place.new.self.bases (g.B.BlockStore.blocks c.place.new.self.store) c.in-Ok.ensures.changes c.in-Ok.ensures.arranged) c.drop_key-there.ensures.changes
+
+pub returns-in-Ok-clause-served : goal.returns-in-Ok-clause-served
+returns-in-Ok-clause-served g c = Served-then _ _ _ c.place.ensures.served c.drop_key-there.ensures.served
+
+pub returns-in-Err-clause-err : goal.returns-in-Err-clause-err
+returns-in-Err-clause-err g c =
+    refused_world g.V.Held.refs_of g.V.Held.value_of g.met.V.Held.reads_own c.args.self.now.bases c.swap_value-value.new.self c.args.db (g.B.BlockStore.blocks c.args.self.now.store) c.requires.intact c.args.from.now c.in-Some.at c.in-Some.ensures.found c.deadline-deadline.result c.deadline-deadline.ensures.value c.swap_value-value.ensures.changes c.swap_value-value.result c.zero.result (ap g.V.Held.refs_of c.zero.ensures ∙ g.met.V.Held.owns_none) c.swap_value-value.ensures.swaps (c.swap_value-value.ensures.keyed (g.B.BlockStore.blocks c.args.self.now.store) (c.requires.intact.arranged.keyed c.args.db))
+    c.args.to_db c.place.new.self.bases (g.B.BlockStore.blocks c.place.new.self.store) c.in-Err.ensures.err_blocks c.in-Err.ensures.err_keys c.in-Err.ensures.err_owned c.in-Err.ensures.arranged c.in-Err.ensures.kept c.swap_value-zero.new.self c.in-Err.value c.in-Err.ensures.value_returned c.swap_value-zero.ensures.changes c.swap_value-zero.result c.swap_value-zero.ensures.swaps (c.swap_value-zero.ensures.keyed (g.B.BlockStore.blocks c.place.new.self.store) (c.in-Err.ensures.arranged.keyed c.args.db))
+
+pub returns-in-Err-clause-sound : goal.returns-in-Err-clause-sound
+returns-in-Err-clause-sound g c =
+    refused_sound g.V.Held.refs_of g.V.Held.value_of g.met.V.Held.reads_own c.args.self.now.bases c.swap_value-value.new.self c.args.db (g.B.BlockStore.blocks c.args.self.now.store) c.requires.intact c.args.from.now c.in-Some.at c.in-Some.ensures.found c.deadline-deadline.result c.deadline-deadline.ensures.value c.swap_value-value.ensures.changes c.swap_value-value.result c.zero.result (ap g.V.Held.refs_of c.zero.ensures ∙ g.met.V.Held.owns_none) c.swap_value-value.ensures.swaps (c.swap_value-value.ensures.keyed (g.B.BlockStore.blocks c.args.self.now.store) (c.requires.intact.arranged.keyed c.args.db))
+    c.args.to_db c.place.new.self.bases (g.B.BlockStore.blocks c.place.new.self.store) c.in-Err.ensures.err_blocks c.in-Err.ensures.err_keys c.in-Err.ensures.err_owned c.in-Err.ensures.arranged c.in-Err.ensures.kept c.swap_value-zero.new.self c.in-Err.value c.in-Err.ensures.value_returned c.swap_value-zero.ensures.changes c.swap_value-zero.result c.swap_value-zero.ensures.swaps (c.swap_value-zero.ensures.keyed (g.B.BlockStore.blocks c.place.new.self.store) (c.in-Err.ensures.arranged.keyed c.args.db))
+
+pub returns-in-Err-clause-changes : goal.returns-in-Err-clause-changes
+returns-in-Err-clause-changes g c =
+    refused_same g.V.Held.refs_of g.V.Held.value_of g.met.V.Held.reads_own c.args.self.now.bases c.swap_value-value.new.self c.args.db (g.B.BlockStore.blocks c.args.self.now.store) c.requires.intact c.args.from.now c.in-Some.at c.in-Some.ensures.found c.deadline-deadline.result c.deadline-deadline.ensures.value c.swap_value-value.ensures.changes c.swap_value-value.result c.zero.result (ap g.V.Held.refs_of c.zero.ensures ∙ g.met.V.Held.owns_none) c.swap_value-value.ensures.swaps (c.swap_value-value.ensures.keyed (g.B.BlockStore.blocks c.args.self.now.store) (c.requires.intact.arranged.keyed c.args.db))
+    c.args.to_db c.place.new.self.bases (g.B.BlockStore.blocks c.place.new.self.store) c.in-Err.ensures.err_blocks c.in-Err.ensures.err_keys c.in-Err.ensures.err_owned c.in-Err.ensures.arranged c.in-Err.ensures.kept c.swap_value-zero.new.self c.in-Err.value c.in-Err.ensures.value_returned c.swap_value-zero.ensures.changes c.swap_value-zero.result c.swap_value-zero.ensures.swaps (c.swap_value-zero.ensures.keyed (g.B.BlockStore.blocks c.place.new.self.store) (c.in-Err.ensures.arranged.keyed c.args.db))

@@ -1,0 +1,30 @@
+use Rattle.held.proofs.Shrinking.{keys_shrink, both_shrink, items_means, items_sound}
+use Rattle.held.proofs.keyspace.Keyspace.shrink.Goals as goal
+
+pub returns-in_err-_of_keys-clause-means : goal.returns-in_err-_of_keys-clause-means
+returns-in_err-_of_keys-clause-means g c = items_means g.V.Held.refs_of g.V.Held.value_of g.met.V.Held.reads_own c.args.self.now.bases c.shrink_keys.new.self (g.B.BlockStore.blocks c.args.self.now.store) c.args.db c.requires.intact.arranged
+    (keys_shrink g.V.Held.refs_of g.V.Held.value_of g.met.V.Held.reads_own c.args.self.now.bases c.shrink_keys.new.self (g.B.BlockStore.blocks c.args.self.now.store) c.args.db c.requires.intact.arranged c.shrink_keys.ensures.changes c.shrink_keys.ensures.items (c.shrink_keys.ensures.keyed (g.B.BlockStore.blocks c.args.self.now.store) (c.requires.intact.arranged.keyed c.args.db)) c.shrink_keys.ensures.seed)
+
+pub returns-in_err-_of_keys-clause-sound : goal.returns-in_err-_of_keys-clause-sound
+returns-in_err-_of_keys-clause-sound g c = items_sound g.V.Held.refs_of g.V.Held.value_of g.met.V.Held.reads_own c.args.self.now.bases c.shrink_keys.new.self (g.B.BlockStore.blocks c.args.self.now.store) c.args.db c.requires.intact.arranged
+    (keys_shrink g.V.Held.refs_of g.V.Held.value_of g.met.V.Held.reads_own c.args.self.now.bases c.shrink_keys.new.self (g.B.BlockStore.blocks c.args.self.now.store) c.args.db c.requires.intact.arranged c.shrink_keys.ensures.changes c.shrink_keys.ensures.items (c.shrink_keys.ensures.keyed (g.B.BlockStore.blocks c.args.self.now.store) (c.requires.intact.arranged.keyed c.args.db)) c.shrink_keys.ensures.seed)
+
+pub returns-in_err-_of_deadlines-clause-means : goal.returns-in_err-_of_deadlines-clause-means
+returns-in_err-_of_deadlines-clause-means g c = items_means g.V.Held.refs_of g.V.Held.value_of g.met.V.Held.reads_own c.args.self.now.bases c.shrink_deadlines.new.self (g.B.BlockStore.blocks c.args.self.now.store) c.args.db c.requires.intact.arranged
+    (both_shrink g.V.Held.refs_of g.V.Held.value_of g.met.V.Held.reads_own c.args.self.now.bases c.shrink_keys.new.self (g.B.BlockStore.blocks c.args.self.now.store) c.args.db c.requires.intact.arranged c.shrink_keys.ensures.changes c.shrink_keys.ensures.items (c.shrink_keys.ensures.keyed (g.B.BlockStore.blocks c.args.self.now.store) (c.requires.intact.arranged.keyed c.args.db)) c.shrink_keys.ensures.seed c.shrink_deadlines.new.self c.shrink_deadlines.ensures.changes c.shrink_deadlines.ensures.items
+    (c.shrink_deadlines.ensures.keyed (g.B.BlockStore.blocks c.args.self.now.store) (keys_shrink g.V.Held.refs_of g.V.Held.value_of g.met.V.Held.reads_own c.args.self.now.bases c.shrink_keys.new.self (g.B.BlockStore.blocks c.args.self.now.store) c.args.db c.requires.intact.arranged c.shrink_keys.ensures.changes c.shrink_keys.ensures.items (c.shrink_keys.ensures.keyed (g.B.BlockStore.blocks c.args.self.now.store) (c.requires.intact.arranged.keyed c.args.db)) c.shrink_keys.ensures.seed).times_keyed) c.shrink_deadlines.ensures.seed)
+
+pub returns-in_err-_of_deadlines-clause-sound : goal.returns-in_err-_of_deadlines-clause-sound
+returns-in_err-_of_deadlines-clause-sound g c = items_sound g.V.Held.refs_of g.V.Held.value_of g.met.V.Held.reads_own c.args.self.now.bases c.shrink_deadlines.new.self (g.B.BlockStore.blocks c.args.self.now.store) c.args.db c.requires.intact.arranged
+    (both_shrink g.V.Held.refs_of g.V.Held.value_of g.met.V.Held.reads_own c.args.self.now.bases c.shrink_keys.new.self (g.B.BlockStore.blocks c.args.self.now.store) c.args.db c.requires.intact.arranged c.shrink_keys.ensures.changes c.shrink_keys.ensures.items (c.shrink_keys.ensures.keyed (g.B.BlockStore.blocks c.args.self.now.store) (c.requires.intact.arranged.keyed c.args.db)) c.shrink_keys.ensures.seed c.shrink_deadlines.new.self c.shrink_deadlines.ensures.changes c.shrink_deadlines.ensures.items
+    (c.shrink_deadlines.ensures.keyed (g.B.BlockStore.blocks c.args.self.now.store) (keys_shrink g.V.Held.refs_of g.V.Held.value_of g.met.V.Held.reads_own c.args.self.now.bases c.shrink_keys.new.self (g.B.BlockStore.blocks c.args.self.now.store) c.args.db c.requires.intact.arranged c.shrink_keys.ensures.changes c.shrink_keys.ensures.items (c.shrink_keys.ensures.keyed (g.B.BlockStore.blocks c.args.self.now.store) (c.requires.intact.arranged.keyed c.args.db)) c.shrink_keys.ensures.seed).times_keyed) c.shrink_deadlines.ensures.seed)
+
+pub returns-clause-means : goal.returns-clause-means
+returns-clause-means g c = items_means g.V.Held.refs_of g.V.Held.value_of g.met.V.Held.reads_own c.args.self.now.bases c.shrink_deadlines.new.self (g.B.BlockStore.blocks c.args.self.now.store) c.args.db c.requires.intact.arranged
+    (both_shrink g.V.Held.refs_of g.V.Held.value_of g.met.V.Held.reads_own c.args.self.now.bases c.shrink_keys.new.self (g.B.BlockStore.blocks c.args.self.now.store) c.args.db c.requires.intact.arranged c.shrink_keys.ensures.changes c.shrink_keys.ensures.items (c.shrink_keys.ensures.keyed (g.B.BlockStore.blocks c.args.self.now.store) (c.requires.intact.arranged.keyed c.args.db)) c.shrink_keys.ensures.seed c.shrink_deadlines.new.self c.shrink_deadlines.ensures.changes c.shrink_deadlines.ensures.items
+    (c.shrink_deadlines.ensures.keyed (g.B.BlockStore.blocks c.args.self.now.store) (keys_shrink g.V.Held.refs_of g.V.Held.value_of g.met.V.Held.reads_own c.args.self.now.bases c.shrink_keys.new.self (g.B.BlockStore.blocks c.args.self.now.store) c.args.db c.requires.intact.arranged c.shrink_keys.ensures.changes c.shrink_keys.ensures.items (c.shrink_keys.ensures.keyed (g.B.BlockStore.blocks c.args.self.now.store) (c.requires.intact.arranged.keyed c.args.db)) c.shrink_keys.ensures.seed).times_keyed) c.shrink_deadlines.ensures.seed)
+
+pub returns-clause-sound : goal.returns-clause-sound
+returns-clause-sound g c = items_sound g.V.Held.refs_of g.V.Held.value_of g.met.V.Held.reads_own c.args.self.now.bases c.shrink_deadlines.new.self (g.B.BlockStore.blocks c.args.self.now.store) c.args.db c.requires.intact.arranged
+    (both_shrink g.V.Held.refs_of g.V.Held.value_of g.met.V.Held.reads_own c.args.self.now.bases c.shrink_keys.new.self (g.B.BlockStore.blocks c.args.self.now.store) c.args.db c.requires.intact.arranged c.shrink_keys.ensures.changes c.shrink_keys.ensures.items (c.shrink_keys.ensures.keyed (g.B.BlockStore.blocks c.args.self.now.store) (c.requires.intact.arranged.keyed c.args.db)) c.shrink_keys.ensures.seed c.shrink_deadlines.new.self c.shrink_deadlines.ensures.changes c.shrink_deadlines.ensures.items
+    (c.shrink_deadlines.ensures.keyed (g.B.BlockStore.blocks c.args.self.now.store) (keys_shrink g.V.Held.refs_of g.V.Held.value_of g.met.V.Held.reads_own c.args.self.now.bases c.shrink_keys.new.self (g.B.BlockStore.blocks c.args.self.now.store) c.args.db c.requires.intact.arranged c.shrink_keys.ensures.changes c.shrink_keys.ensures.items (c.shrink_keys.ensures.keyed (g.B.BlockStore.blocks c.args.self.now.store) (c.requires.intact.arranged.keyed c.args.db)) c.shrink_keys.ensures.seed).times_keyed) c.shrink_deadlines.ensures.seed)
