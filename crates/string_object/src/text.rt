@@ -79,6 +79,38 @@ impl Text {
         }
     }
 
+    // Places a block of the string's bytes.
+    fn place_same<B: BlockStore>(&self, store: &mut B) -> Result<BlockRef, Memory>
+        requires { Owned (text_refs self.now) (B.blocks store.old) }
+        ensures placed { IfOk result (λ at. B.blocks store.new at ≡ Some (text_bytes (B.blocks store.old) self.now)) }
+        ensures changes { IfOk result (λ at. Changes (B.blocks store.old) (B.blocks store.new) [] (at ∷ [])) }
+        ensures served { Served B.step store.old store.new }
+        ensures err_blocks { OnErr result (B.blocks store.new ≡ B.blocks store.old) }
+        ensures err_slabs { OnErr result (B.heap store.new ≡ B.heap store.old) }
+    {
+        let len = self.len(store);
+        self.place_copy(store, len)
+    }
+
+    /// Another string of the same bytes in a block of its own, where it has one. Its encoding is the same. `Memory` leaves all
+    /// blocks and slabs.
+    pub fn copy<B: BlockStore>(&self, store: &mut B) -> Result<Text, Memory>
+        requires { Owned (text_refs self.now) (B.blocks store.old) }
+        ensures bytes { IfOk result (λ text. text_bytes (B.blocks store.new) text ≡ text_bytes (B.blocks store.old) self.now) }
+        ensures raw { IfOk result (λ text. is_raw text ≡ is_raw self.now) }
+        ensures number { IfOk result (λ text. length (text_refs text) ≡ length (text_refs self.now)) }
+        ensures changes { IfOk result (λ text. Changes (B.blocks store.old) (B.blocks store.new) [] (text_refs text)) }
+        ensures served { Served B.step store.old store.new }
+        ensures err_blocks { OnErr result (B.blocks store.new ≡ B.blocks store.old) }
+        ensures err_slabs { OnErr result (B.heap store.new ≡ B.heap store.old) }
+    {
+        match *self {
+            Text::Number(n) => Ok(Text::Number(n)),
+            Text::Whole(_) => Ok(Text::Whole(self.place_same(store)?)),
+            Text::Raw(_) => Ok(Text::Raw(self.place_same(store)?)),
+        }
+    }
+
     /// Gives back all blocks of the string.
     pub fn release<B: BlockStore>(self, store: &mut B)
         requires { Owned (text_refs self) (B.blocks store.old) }
