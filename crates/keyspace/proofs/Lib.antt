@@ -1,3 +1,4 @@
+pub mod Seen
 pub mod Uses
 pub mod Running
 pub mod Serving

@@ -16,6 +16,9 @@ outcome_is outcome reply new e = (sym (ap (λ o. o.reply) e), sym (ap (λ o. o.w
 pub same_settings : (bases : Bases) → SameSettings bases bases
 same_settings bases = record { limits = refl; seed = refl }
 
+pub same_held : {S : Type 0} (blocks : S → Blocks) (step : S → S → Type 0) (keyspace : Keyspace S) → Sound keyspace.bases (blocks keyspace.store) → Held blocks step keyspace keyspace
+same_held blocks step keyspace sound = record { sound = sound; served = Served.no_step; settings = same_settings keyspace.bases }
+
 -- nothing is changed
 pub unchanged : {S E : Type 0} (blocks : S → Blocks) (step : S → S → Type 0) (keyspace : Keyspace S) (result : Result (List Part) E) → Sound keyspace.bases (blocks keyspace.store) → Kept blocks step keyspace keyspace result
 unchanged blocks step keyspace (Ok reply) sound = record { refusals = λ refused. refl; sound = sound; served = Served.no_step; settings = same_settings keyspace.bases }

@@ -1,15 +1,20 @@
 -- For whoever calls a keyspace: what a command function needs to say that the keyspace is sound after it, and which
 -- world it leaves. Each lemma takes the clauses of the calls as they stand.
-use Rattle.std.proofs.Common.{Some, None, ◌≡◌, ℕ, ◌+◌, ◌≤◌, List, [], ◌++◌, Option, sym, ap, ◌∙◌, subst}
+use Rattle.std.proofs.Common.{Some, None, ◌≡◌, ℕ, ◌+◌, ◌≤◌, List, [], ◌++◌, Option, refl, sym, ap, ◌∙◌, subst, lit<}
 use Rattle.blocks.specs.declared.BlockRef.{BlockRef}
 use Rattle.blocks.specs.Blocks.{Blocks, times, Changes, Owned}
-use Rattle.plain_world.specs.Worlds.{Entry, World, look, put}
+use Rattle.plain_world.specs.Worlds.{Entry, World, look, put, stand}
 use Rattle.plain_world.specs.Worlds as model
+use Rattle.std.specs.List.{Contains}
+use Rattle.object_codec.specs.declared.name.Name.{Name}
+use Rattle.object_codec.specs.declared.name.Name.TheVariants.{Int, Embstr, Raw}
+use Rattle.object_codec.specs.Names.{name_text}
+use Rattle.plain_model.specs.KeySteps.{encodings}
 use Rattle.string_object.specs.declared.text.Text as texts
 use Rattle.string_object.specs.Text.{text_bytes, text_refs}
 use Rattle.keyspace.specs.declared.value.Value.{Value}
 use Rattle.keyspace.specs.declared.value.Value.TheVariants.{Text}
-use Rattle.keyspace.specs.Values.{value_of, value_refs, value_own, vacant}
+use Rattle.keyspace.specs.Values.{value_of, value_refs, value_own, vacant, IsEncodedAs}
 use Rattle.keyspace.specs.Databases.{Bases, means}
 use Rattle.keyspace.specs.Sound.{IsIntact, Sound, SoundBeside}
 use Rattle.keyspace.specs.Calls.{Lifted, IsPlace, IsVacant, Lifts, AreParts}
@@ -18,14 +23,6 @@ use Rattle.held.proofs.Uses as held
 -- what each call asks follows from soundness
 pub Sound-intact : (bases : Bases) (m : Blocks) (out : List BlockRef) → SoundBeside bases m out → IsIntact bases m out
 Sound-intact = held.Sound-intact value_refs value_of value_own
-
--- nothing is gone at any moment, so the live world is the whole one
-pub Live-means : (db : ℕ) (bases : Bases) (m : Blocks) (moment : ℕ) → model.live (means db bases m) moment ≡ means db bases m
-Live-means = held.Live-means value_refs value_of value_own
-
--- what stands at a key has no deadline yet
-pub No-deadline : (db : ℕ) (bases : Bases) (m : Blocks) (moment : ℕ) (key : List ℕ) (e : Entry) → look (model.live (means db bases m) moment) key ≡ Some e → e.deadline ≡ None
-No-deadline = held.No-deadline value_refs value_of value_own
 
 -- what was put at a key stands there, and what is put there next takes its place
 pub Look-put : (w : World) (key : List ℕ) (a : Entry) → look (put w key a) key ≡ Some a
@@ -62,10 +59,10 @@ module _ (bases : Bases) (m after : Blocks) (value : Value) (sound : Sound bases
     Put-sound = held.Put-sound value_refs value_of value_own bases m after value sound p new later
 
     -- from the clause `means` of `put`, or its clause `kept`: the world that the step speaks of
-    pub Put-means : (db moment : ℕ) (key : List ℕ) (entry : Entry) → means db new later ≡ put (means db bases after) key entry → means db new later ≡ put (model.live (means db bases m) moment) key entry
+    pub Put-means : (db moment : ℕ) (key : List ℕ) (entry : Entry) → means db new later ≡ put (means db bases after) key entry → model.live (means db new later) moment ≡ stand (model.live (means db bases m) moment) moment key entry
     Put-means = held.Put-means value_refs value_of value_own bases m after value sound p new later
 
-    pub Put-kept : (db moment : ℕ) → means db new later ≡ means db bases after → means db new later ≡ model.live (means db bases m) moment
+    pub Put-kept : (db moment : ℕ) → means db new later ≡ means db bases after → model.live (means db new later) moment ≡ model.live (means db bases m) moment
     Put-kept = held.Put-kept value_refs value_of value_own bases m after value sound p new later
 
 -- ---- a value is lifted, changed and lowered again
@@ -85,7 +82,7 @@ module _ (old mid : Bases) (m after : Blocks) (db moment : ℕ) (key : List ℕ)
 
     -- from the clause `means` of `lower`: the value stands at the key, with the deadline that was there
     pub Lower-means : ((k : List ℕ) (deadline : Option ℕ) → IsPlace mid after changed.db changed.item k deadline → means changed.db new after ≡ put (means changed.db mid after) k (record { value = value_of after changed.value; deadline = deadline }))
-        → means db new after ≡ put (model.live (means db old m) moment) key (record { value = value_of after changed.value; deadline = lifts.deadline })
+        → model.live (means db new after) moment ≡ put (model.live (means db old m) moment) key (record { value = value_of after changed.value; deadline = lifts.deadline })
     Lower-means = held.Lower-means value_refs value_of value_own old mid m after db moment key lifted changed out vacant lifts sound p same_db same_item new
 
 -- ---- strings: from what a call on the text of a lifted value asks and says
@@ -99,3 +96,14 @@ module _ (m mid : Blocks) (value : Value) (text : texts.Text) (same : mid ≡ m)
 
   pub Text-bytes : value_of m value ≡ model.Str (text_bytes mid text)
   Text-bytes = ap (value_of m) is ∙ ap (λ b. model.Str (text_bytes b text)) (sym same)
+
+-- ---- encodings
+
+name_known : (bytes : List ℕ) (own : Name) → Contains (encodings (model.Str bytes)) (name_text own)
+name_known bytes Int = (0, lit< tt, refl)
+name_known bytes Embstr = (1, lit< tt, refl)
+name_known bytes Raw = (2, lit< tt, refl)
+
+-- the name of a value's encoding is one of those of its type
+pub encoding_known : (m : Blocks) (value : Value) (name : List ℕ) → IsEncodedAs m value name → Contains (encodings (value_of m value)) name
+encoding_known m (Text text) name is = subst (Contains (encodings (model.Str (text_bytes m text)))) (sym is.2) (name_known (text_bytes m text) is.0)

@@ -1,10 +1,12 @@
 -- What a value over the blocks of a store means, and the blocks that it owns: a line for each type of value.
-use Rattle.std.specs.Prelude.{◌≡◌, List, [], pos}
+use Rattle.std.specs.Prelude.{◌≡◌, ℕ, List, [], pos}
 use Rattle.std.proofs.Common.{refl, ap}
 use Rattle.blocks.specs.declared.BlockRef.{BlockRef}
 use Rattle.blocks.specs.Blocks.{Blocks}
 use Rattle.string_object.specs.declared.text.Text.TheVariants.{Number}
-use Rattle.string_object.specs.Text.{text_bytes, text_refs}
+use Rattle.object_codec.specs.declared.name.Name.{Name}
+use Rattle.object_codec.specs.Names.{IsNameOf, name_text}
+use Rattle.string_object.specs.Text.{text_bytes, text_refs, is_raw}
 use Rattle.string_object.proofs.Texts.{text-own}
 use Rattle.held.specs.Databases.{ReadsOwn}
 use Rattle.plain_world.specs.Worlds.{Str}
@@ -19,6 +21,10 @@ value_of blocks (Text text) = Str (text_bytes blocks text)
 -- the references that it owns
 abbrev pub value_refs : Value → List BlockRef
 value_refs (Text text) = text_refs text
+
+-- this is the name of its encoding (Redis command reference, "OBJECT ENCODING")
+abbrev pub IsEncodedAs : Blocks → Value → List ℕ → Type 0
+IsEncodedAs blocks (Text text) name = (own : Name) × IsNameOf (text_bytes blocks text) (is_raw text) own × (name ≡ name_text own)
 
 -- what stands in the place of a value that was taken out: the string of the number 0
 abbrev pub vacant : Value

@@ -1,11 +1,13 @@
 //! The sixteen databases of a server over a block store: every key and value stands in its blocks.
 #![tactic(auto)]
 
+mod deadlines;
 mod kind;
 #[cfg(test)]
 mod tests;
 mod value;
 
+pub use deadlines::{deadline_at, expire, persist};
 pub use value::Value;
 
 /// A store, and the databases over it.

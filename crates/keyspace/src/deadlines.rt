@@ -1,0 +1,89 @@
+//! The deadlines of keys that are there at a moment.
+
+ghost use Rattle.std.specs.Prelude.{◌≡◌, ◌<◌, Some, true, IfOk, OnOk, is_some};
+ghost use Rattle.held.specs.Calls.{IsDeadline};
+ghost use Rattle.plain_world.specs.Worlds.{Entry, look, put, in_time, deadline_of};
+ghost use Rattle.plain_model.specs.Deadlines as model;
+ghost use Rattle.keyspace.specs.Commands.{Ready, Held, sight};
+
+use crate::Keyspace;
+use blocks::BlockStore;
+use plain_model::{Ctx, Memory};
+
+/// The deadline in milliseconds of a key that is there at the moment. `None` where it has none, or isn't there.
+pub fn deadline_at<B: BlockStore>(keyspace: &Keyspace<B>, at: &Ctx, key: &[u8]) -> Option<u64>
+    requires ready { Ready B.blocks keyspace.now at.now }
+    ensures value { result ≡ deadline_of (look (sight B.blocks keyspace.now at.now) key.now) }
+    ensures latest { IsDeadline result }
+{
+    match keyspace.deadline(at.db, key) {
+        None => None,
+        Some(deadline) => {
+            if deadline < at.moment {
+                return None;
+            }
+            Some(deadline)
+        }
+    }
+}
+
+// The key is there, and gets a deadline that is not past, or loses the one that it has.
+fn retime<B: BlockStore>(
+    keyspace: &mut Keyspace<B>,
+    at: &Ctx,
+    key: &[u8],
+    to: Option<u64>,
+) -> Result<(), Memory>
+    requires ready { Ready B.blocks keyspace.old at.now }
+    requires latest { IsDeadline to }
+    requires late { in_time at.now.moment to ≡ true }
+    ensures world { OnOk result ((entry : Entry) → look (sight B.blocks keyspace.old at.now) key.now ≡ Some entry → sight B.blocks keyspace.new at.now ≡ put (sight B.blocks keyspace.old at.now) key.now (record { value = entry.value; deadline = to })) }
+    ensures held { Held B.blocks B.step keyspace.old keyspace.new }
+{
+    match keyspace.set_deadline(at.db, key, to) {
+        Ok(_) => Ok(()),
+        Err(error) => Err(error),
+    }
+}
+
+/// What stands at a key gets this deadline, in milliseconds; by one that is not after the moment the key is removed. Where
+/// nothing stands there, nothing changes.
+pub fn expire<B: BlockStore>(
+    keyspace: &mut Keyspace<B>,
+    at: &Ctx,
+    key: &[u8],
+    due: i64,
+) -> Result<(), Memory>
+    requires ready { Ready B.blocks keyspace.old at.now }
+    ensures world { OnOk result (sight B.blocks keyspace.new at.now ≡ model.expire (sight B.blocks keyspace.old at.now) at.now.moment key.now due (look (sight B.blocks keyspace.old at.now) key.now)) }
+    ensures held { Held B.blocks B.step keyspace.old keyspace.new }
+{
+    let Some(_) = keyspace.look(at.db, key, at.moment) else {
+        return Ok(());
+    };
+    if i128::from(at.moment) < i128::from(due) {
+        return retime(keyspace, at, key, Some(due as u64));
+    }
+    let _ = keyspace.drop_key(at.db, key);
+    Ok(())
+}
+
+/// What stands at a key has no deadline any more. The answer is whether it had one.
+pub fn persist<B: BlockStore>(
+    keyspace: &mut Keyspace<B>,
+    at: &Ctx,
+    key: &[u8],
+) -> Result<bool, Memory>
+    requires ready { Ready B.blocks keyspace.old at.now }
+    ensures answer { IfOk result (λ had. had ≡ is_some (deadline_of (look (sight B.blocks keyspace.old at.now) key.now))) }
+    ensures world { OnOk result (sight B.blocks keyspace.new at.now ≡ model.persist (sight B.blocks keyspace.old at.now) key.now (look (sight B.blocks keyspace.old at.now) key.now)) }
+    ensures held { Held B.blocks B.step keyspace.old keyspace.new }
+{
+    match deadline_at(keyspace, at, key) {
+        None => Ok(false),
+        Some(_) => match retime(keyspace, at, key, None) {
+            Ok(()) => Ok(true),
+            Err(error) => Err(error),
+        },
+    }
+}
