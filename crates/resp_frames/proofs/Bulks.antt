@@ -1,5 +1,5 @@
 -- Bulk strings are read.
-use Rattle.std.proofs.Common.{◌≡◌, ℕ, zero, suc, ◌<◌, ◌≤◌, ◌^◌, List, [], ◌∷◌, ◌++◌, Option, Some, None, length, take, drop, get_or, ◌+◌, ap, sym, ◌∙◌, refl, arith, lit<}
+use Rattle.std.proofs.Common.{◌≡◌, ℕ, zero, suc, ◌<◌, ◌≤◌, ◌^◌, List, [], ◌∷◌, ◌++◌, Option, Some, None, length, take, drop, get_or, ◌+◌, ◌⊎◌, inl, inr, ap, sym, subst, ◌∙◌, refl, arith, lit<}
 use Rattle.std.specs.Prelude.{flat_map}
 use Rattle.std.specs.List.{AllByRecursion}
 use Rattle.std.specs.Fmt.{decimal}
@@ -9,10 +9,10 @@ use Rattle.plain_world.specs.Spelling.{line_end}
 use Rattle.plain_world.proofs.Lines.{decimal_plain}
 use Rattle.std.proofs.lemmas.Fmt.{length-decimal-le}
 use Rattle.resp_frames.specs.Frames.{header, bulk, IsWord, IsText}
-use Rattle.resp_frames.specs.Faults.{bad_number, BulkFault, length_line, length_number, no_return, no_feed}
-use Rattle.resp_frames.specs.Reading.{Read, Took, Open, Wrong, read_on, read_header, read_number, after_return, after_word, read_body, read_word, read_bulk, read_bulks}
-use Rattle.resp_frames.proofs.Choices.{on_other, by_equal}
-use Rattle.resp_frames.proofs.Headers.{HeaderIs, header_again, header_is, line_first}
+use Rattle.resp_frames.specs.Faults.{bad_number, BulkFault, other_mark, length_line, length_number, no_return, no_feed}
+use Rattle.resp_frames.specs.Reading.{Read, Took, Open, Wrong, read_on, read_header, read_number, after_return, after_word, read_body, read_word, read_marked, read_bulk, read_bulks}
+use Rattle.resp_frames.proofs.Choices.{on_equal, on_other, by_equal}
+use Rattle.resp_frames.proofs.Headers.{HeaderIs, header_again, header_is, line_first, line_begins}
 use Rattle.resp_frames.proofs.Numbers.{NumberIs, number_is, length_again, length_bad, not_length}
 
 pub decimal_text : (n : ℕ) → n < 2 ^ 64 → IsText (decimal n)
@@ -33,18 +33,29 @@ drop_whole : (w A : List ℕ) → drop (length w) (w ++ A) ≡ A
 drop_whole [] A = refl
 drop_whole (b ∷ w) A = drop_whole w A
 
+-- behind the mark
+marked : (bytes more : List ℕ) → bytes ≡ 36 ∷ more → read_bulk bytes ≡ read_marked bytes
+unfolding read_bulk
+marked bytes more e = ap read_bulk e ∙ on_equal 36 36 (read_marked (36 ∷ more)) (Wrong 2 (36 ∷ more)) refl ∙ ap read_marked (sym e)
+
+bulk_none : read_bulk [] ≡ Open
+unfolding read_bulk
+bulk_none = refl
+
 -- the bytes after a whole header
 pub after_length : (n : ℕ) (rest : List ℕ) → n ≤ 536870912 → read_bulk (header 36 (decimal n) ++ rest) ≡ read_body n rest
-unfolding read_bulk
 after_length n rest le =
     let all = header 36 (decimal n) ++ rest in
-    ap (λ x. read_on x (λ text more. read_word all (read_number 536870912 text) more)) (header_again 36 2 (decimal n) rest (length_text n le))
+    marked all ((decimal n ++ line_end) ++ rest) refl
+    ∙ ap (λ x. read_on x (λ text more. read_word all (read_number 536870912 text) more)) (header_again 36 (decimal n) rest (length_text n le))
     ∙ ap (λ o. read_word all o rest) (length_again n le)
 
 -- a bulk string whose header isn't whole
-pub bulk_counting : (bytes : List ℕ) → read_header 36 2 bytes ≡ Open → read_bulk bytes ≡ Open
-unfolding read_bulk
-bulk_counting bytes e = ap (λ x. read_on x (λ text rest. read_word bytes (read_number 536870912 text) rest)) e
+pub bulk_counting : (bytes : List ℕ) → (bytes ≡ []) ⊎ (bytes ≡ 36 ∷ drop 1 bytes) → read_header bytes ≡ Open → read_bulk bytes ≡ Open
+bulk_counting bytes begun e = elim begun [
+  | inl none ↦ ap read_bulk none ∙ bulk_none
+  | inr some ↦ marked bytes (drop 1 bytes) some ∙ ap (λ x. read_on x (λ text rest. read_word bytes (read_number 536870912 text) rest)) e
+]
 
 -- a body that isn't whole
 pub body_short : (len : ℕ) (bytes : List ℕ) → length bytes ≤ len → read_body len bytes ≡ Open
@@ -70,9 +81,12 @@ fault_is rule rule' from from' e f = sym (ap (λ r. Wrong r from) e ∙ ap (Wron
 
 pub bulk_first : (bytes : List ℕ) (rule : ℕ) (from : List ℕ) → BulkFault bytes rule from → read_bulk bytes ≡ Wrong rule from
 unfolding read_bulk
-bulk_first bytes rule from (length_line h) = ap (λ x. read_on x (λ text more. read_word bytes (read_number 536870912 text) more)) (line_first 36 2 rule bytes from h)
+bulk_first bytes rule from (other_mark b more r f e ne) = ap read_bulk e ∙ on_other b 36 (read_marked (b ∷ more)) (Wrong 2 (b ∷ more)) ne ∙ fault_is rule 2 from (b ∷ more) r (f ∙ e)
+bulk_first bytes rule from (length_line h) =
+    let begins = line_begins 36 rule bytes from h in
+    marked bytes begins.0 begins.1 ∙ ap (λ x. read_on x (λ text more. read_word bytes (read_number 536870912 text) more)) (line_first 36 rule bytes from h)
 bulk_first bytes rule from (length_number (bad_number text more r f e h bad)) =
-    ap (λ x. read_on x (λ t m. read_word bytes (read_number 536870912 t) m)) (ap (read_header 36 2) e ∙ header_again 36 2 text more h)
+    marked bytes ((text ++ line_end) ++ more) e ∙ ap (λ x. read_on x (λ t m. read_word bytes (read_number 536870912 t) m)) (ap read_header e ∙ header_again 36 text more h)
     ∙ ap (λ o. read_word bytes o more) (length_bad text bad) ∙ fault_is rule 3 from bytes r f
 bulk_first bytes rule from (no_return word more b r f e h ne) =
     ap read_bulk e ∙ after_length (length word) (word ++ from) h ∙ body_split word from ∙ ap (after_word word) f ∙ on_other b 13 (after_return word more) (Wrong 5 (b ∷ more)) ne
@@ -128,14 +142,19 @@ word_is : (bytes text rest : List ℕ) (o : Option ℕ) → read_number 53687091
 word_is bytes text rest None is k h e = length_number (bad_number text rest refl refl e h (not_length text is))
 word_is bytes text rest (Some len) is k h e = body_is bytes len rest k.0 (e ∙ ap (λ t. header 36 t ++ rest) k.1)
 
-then_word : (bytes : List ℕ) (x : Read (List ℕ)) → HeaderIs 36 2 bytes x → BulkIs bytes (read_on x (λ text rest. read_word bytes (read_number 536870912 text) rest))
+then_word : (bytes : List ℕ) (x : Read (List ℕ)) → HeaderIs 36 bytes x → BulkIs bytes (read_on x (λ text rest. read_word bytes (read_number 536870912 text) rest))
 then_word bytes (Took text rest) h = word_is bytes text rest _ refl (number_is 536870912 text) h.0 h.1
 then_word bytes Open h = tt
 then_word bytes (Wrong rule from) h = length_line h
 
 pub bulk_is : (bytes : List ℕ) → BulkIs bytes (read_bulk bytes)
 unfolding read_bulk
-bulk_is bytes = then_word bytes (read_header 36 2 bytes) (header_is 36 2 bytes)
+bulk_is [] = tt
+bulk_is (b ∷ bytes) =
+    let Q : ℕ → Type 0 = λ c. BulkIs (c ∷ bytes) (read_marked (c ∷ bytes)) in
+    by_equal (BulkIs (b ∷ bytes)) b 36 (read_marked (b ∷ bytes)) (Wrong 2 (b ∷ bytes))
+    (λ e. subst Q (sym e) (then_word (36 ∷ bytes) (read_header (36 ∷ bytes)) (header_is 36 bytes)))
+    (λ ne. other_mark b bytes refl refl refl ne)
 
 -- many bulk strings
 

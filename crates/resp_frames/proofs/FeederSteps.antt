@@ -8,7 +8,7 @@ use Rattle.resp_frames.specs.Feeding.{Feeding, feeding, current_words, Gives, Gi
 use Rattle.resp_frames.specs.RequestRead.{words_at, IsPassedAt}
 use Rattle.resp_frames.specs.declared.feeder.Next.{Next}
 use Rattle.resp_frames.specs.declared.feeder.Next.TheVariants as next
-use Rattle.resp_frames.specs.declared.request.Span.{Span}
+use Rattle.resp_frames.specs.declared.span.Span.{Span}
 use Rattle.resp_frames.specs.declared.request.Progress.{Progress}
 use Rattle.resp_frames.proofs.Giving.{gives_append, gives_request, gives_passed}
 use Rattle.resp_frames.proofs.Items.{cut_from_open}

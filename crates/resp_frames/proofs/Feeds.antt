@@ -1,18 +1,20 @@
 -- What is read stays, when more bytes come.
-use Rattle.std.proofs.Common.{◌≡◌, ℕ, ◌+◌, ◌≤◌, ◌^◌, List, [], ◌∷◌, ◌++◌, Bool, true, false, length, drop, take, length-append, length-drop, arith, sym, ap, subst, ◌∙◌, refl}
+use Rattle.std.proofs.Common.{◌≡◌, ℕ, ◌+◌, ◌≤◌, ◌^◌, List, [], ◌∷◌, ◌++◌, Bool, true, false, length, drop, length-append, length-drop, arith, sym, ap, subst, ◌∙◌, refl}
 use Rattle.std.specs.Prelude.{if◌then◌else◌}
 use Rattle.std.specs.Fmt.{decimal}
 use Rattle.std.proofs.lemmas.List.{append_assoc, append-nil, drop-append-le, take-append-le}
-use Rattle.resp_frames.specs.Frames.{header, IsPlainText}
+use Rattle.resp_frames.specs.Frames.{header, IsWithout, IsPlainText}
 use Rattle.resp_frames.specs.Faults.{Begun}
 use Rattle.resp_frames.specs.HeaderRead.{IsScanned}
+use Rattle.resp_frames.specs.LineRead.{IsLineScanned}
 use Rattle.resp_frames.specs.Feeding.{IsFeeder}
-use Rattle.resp_frames.specs.RequestRead.{word_at, words_at, AreWithin, Stands}
-use Rattle.resp_frames.specs.declared.request.Span.{Span}
+use Rattle.resp_frames.specs.RequestRead.{words_at, AreWithin, Stands}
+use Rattle.resp_frames.specs.declared.span.Span.{Span}
 use Rattle.resp_frames.specs.declared.request.Due.{Due}
 use Rattle.resp_frames.specs.declared.request.Due.TheVariants as due
 use Rattle.resp_frames.specs.declared.request.Progress.{Progress}
 use Rattle.resp_frames.proofs.Items.{begun_stays}
+use Rattle.resp_frames.proofs.Parts.{words_stay, within_stays}
 
 scanned_stays : (bytes piece : List ℕ) (n : ℕ) → IsScanned bytes n → IsScanned (bytes ++ piece) n
 scanned_stays [] piece n h =
@@ -23,23 +25,22 @@ scanned_stays (b ∷ bytes) piece n h =
     let w : n ≤ length bytes = h.within in
     record { within = omega (arith, length-append bytes piece); few = h.few; plain = subst IsPlainText (sym (take-append-le n bytes piece h.within)) h.plain }
 
-word_stays : (bytes piece : List ℕ) (s : Span) → s.start + s.len ≤ length bytes → word_at (bytes ++ piece) s ≡ word_at bytes s
-word_stays bytes piece s h =
-    ap (take s.len) (drop-append-le s.start bytes piece (omega arith)) ∙ take-append-le s.len (drop s.start bytes) piece (omega (arith, length-drop s.start bytes))
-
-words_stay : (bytes piece : List ℕ) (spans : List Span) → AreWithin bytes spans → words_at (bytes ++ piece) spans ≡ words_at bytes spans
-words_stay bytes piece [] h = refl
-words_stay bytes piece (s ∷ spans) h = ap (λ w. w ∷ words_at (bytes ++ piece) spans) (word_stays bytes piece s h.0) ∙ ap (λ ws. word_at bytes s ∷ ws) (words_stay bytes piece spans h.1)
-
-within_stays : (bytes piece : List ℕ) (spans : List Span) → AreWithin bytes spans → AreWithin (bytes ++ piece) spans
-within_stays bytes piece [] h = tt
-within_stays bytes piece (s ∷ spans) h = (let w : s.start + s.len ≤ length bytes = h.0 in omega (arith, length-append bytes piece), within_stays bytes piece spans h.1)
+line_scanned_stays : (bytes piece : List ℕ) (n : ℕ) → IsLineScanned bytes n → IsLineScanned (bytes ++ piece) n
+line_scanned_stays bytes piece n h =
+    let w : n ≤ length bytes = h.within in
+    record { within = omega (arith, length-append bytes piece); few = h.few; plain = subst (IsWithout 10) (sym (take-append-le n bytes piece h.within)) h.plain }
 
 begun_further : (bytes piece : List ℕ) (n : ℕ) (spans : List Span) (rest : List ℕ) → AreWithin bytes spans → Begun bytes n (words_at bytes spans) rest → Begun (bytes ++ piece) n (words_at (bytes ++ piece) spans) (rest ++ piece)
 begun_further bytes piece n spans rest h b = subst (λ ws. Begun (bytes ++ piece) n ws (rest ++ piece)) (sym (words_stay bytes piece spans h)) (begun_stays bytes n (words_at bytes spans) rest piece b)
 
 pub stands_stays : (bytes piece : List ℕ) (read : ℕ) (spans : List Span) (d : Due) → Stands bytes read spans d → Stands (bytes ++ piece) read spans d
 stands_stays bytes piece read spans (due.Count scanned) s = record { start = s.start; none = s.none; header = scanned_stays bytes piece scanned s.header }
+stands_stays bytes piece read spans (due.Line scanned) s = record {
+  start = s.start;
+  none = s.none;
+  begun = record { b = s.begun.b; more = s.begun.more ++ piece; first = ap (λ l. l ++ piece) s.begun.first; other = s.begun.other };
+  line = line_scanned_stays bytes piece scanned s.line;
+}
 stands_stays bytes piece read spans (due.Length words scanned) s =
     let rest : drop read (bytes ++ piece) ≡ drop read bytes ++ piece = drop-append-le read bytes piece s.within in
     let w : read ≤ length bytes = s.within in

@@ -5,10 +5,10 @@ use Rattle.std.specs.List.{AllByRecursion}
 use Rattle.std.proofs.lemmas.List.{append_assoc, append-nil}
 use Rattle.std.proofs.lemmas.List.Concat.{flat_map-append}
 use Rattle.plain_world.specs.Words.{Words}
-use Rattle.resp_frames.specs.Frames.{Item, Asked, Passed, item_bytes, IsItem, Framed, requests, asked}
+use Rattle.resp_frames.specs.Frames.{Item, Asked, Passed, Line, item_bytes, IsItem, Framed, requests, asked}
 use Rattle.resp_frames.specs.Feeding.{Gives}
 use Rattle.resp_frames.specs.RequestRead.{IsRequestAt, IsPassedAt, words_at}
-use Rattle.resp_frames.specs.declared.request.Span.{Span}
+use Rattle.resp_frames.specs.declared.span.Span.{Span}
 
 module _ {X : Type 0} (P : X → Type 0) where
   pub all_append : (xs ys : List X) → AllByRecursion P xs → AllByRecursion P ys → AllByRecursion P (xs ++ ys)
@@ -36,14 +36,15 @@ one_item : (a b : List ℕ) (item : Item) → IsItem item → a ≡ item_bytes i
 one_item a b item sound whole = record { whole = whole ∙ ap (λ l. l ++ b) (sym (append-nil (item_bytes item))); each = (sound, tt) }
 
 pub gives_request : (bytes : List ℕ) (end : ℕ) (spans : List Span) → IsRequestAt bytes end spans → Gives bytes (drop end bytes) (words_at bytes spans ∷ [])
-gives_request bytes end spans h = record { items = Asked (words_at bytes spans) ∷ []; framed = one_item bytes (drop end bytes) (Asked (words_at bytes spans)) h.sound h.whole; are = refl }
+gives_request bytes end spans h = record { items = h.item ∷ []; framed = one_item bytes (drop end bytes) h.item h.good h.whole; are = append-nil (asked h.item) ∙ h.asks }
 
 pub gives_passed : (bytes : List ℕ) (end : ℕ) (spans : List Span) → IsPassedAt bytes end spans → Gives bytes (drop end bytes) []
-gives_passed bytes end spans h = record { items = Passed h.text ∷ []; framed = one_item bytes (drop end bytes) (Passed h.text) (h.count, h.plain) h.whole; are = refl }
+gives_passed bytes end spans h = record { items = h.item ∷ []; framed = one_item bytes (drop end bytes) h.item h.good h.whole; are = append-nil (asked h.item) ∙ h.asks }
 
 item_some : (item : Item) → 0 < length (item_bytes item)
 item_some (Asked words) = omega arith
 item_some (Passed text) = omega arith
+item_some (Line text) = omega (arith, length-append text (10 ∷ []))
 
 framed_fewer : (a b : List ℕ) (x : Item) (xs : List Item) → Framed a (x ∷ xs) b → length b < length a
 framed_fewer a b x xs f =

@@ -4,14 +4,14 @@ use Rattle.std.proofs.lemmas.Bool.{cases_lt}
 use Rattle.std.proofs.lemmas.List.{take-append-drop, take_all, drop_more, drop_all, take_rest, append_assoc}
 use Rattle.plain_world.specs.Spelling.{line_end}
 use Rattle.resp_frames.specs.Frames.{IsPlainText, IsText}
-use Rattle.resp_frames.specs.Faults.{other_mark, too_long, no_line_feed}
+use Rattle.resp_frames.specs.Faults.{too_long, no_line_feed}
 use Rattle.resp_frames.specs.Reading.{read_header, Open}
-use Rattle.resp_frames.specs.HeaderRead.{ReadsText, IsOpenHeader, IsNoHeader, Reads}
+use Rattle.resp_frames.specs.HeaderRead.{ReadsText, IsOpenHeader, IsOther, Reads}
 use Rattle.resp_frames.specs.declared.header.Header.{Header}
 use Rattle.resp_frames.specs.declared.header.Header.TheVariants as headers
 use Rattle.resp_frames.proofs.Headers.{header_none, header_begun, header_returned}
 
--- what `before_return` tells
+-- what `before_end` tells of a CR
 pub record Cuts (bytes : List ℕ) (n : ℕ) : Type 0 where
   pub within : n ≤ length bytes
   pub few : n ≤ 65536
@@ -73,21 +73,23 @@ drop_past [] rest x = refl
 drop_past (b ∷ t) rest x = drop_past t rest x
 
 -- the mark, and then what stands after it
-with_mark : (mark strange : ℕ) (bytes : List ℕ) (r : Header) → ReadsText bytes r → Reads mark strange (mark ∷ bytes) r
-with_mark mark strange bytes (headers.Open n) h =
-    let P : List ℕ → Type 0 = λ l. read_header mark strange (mark ∷ l) ≡ Open in
+with_mark : (mark : ℕ) (bytes : List ℕ) (r : Header) → ReadsText bytes r → Reads mark (mark ∷ bytes) r
+with_mark mark bytes headers.Other h = absurd h
+with_mark mark bytes (headers.Open n) h =
+    let P : List ℕ → Type 0 = λ l. read_header (mark ∷ l) ≡ Open in
     record {
+      begun = inr refl;
       scanned = record { within = h.within; few = let s : length (take n bytes) ≤ 65535 = h.text.short in let w : n ≤ length bytes = h.within in omega (arith, length-take n bytes); plain = h.text.plain };
-      more = elim h.whole [ inl e ↦ subst P (sym e) (header_begun mark strange (take n bytes) h.text) | inr e ↦ subst P (sym e) (header_returned mark strange (take n bytes) h.text) ];
+      more = elim h.whole [ inl e ↦ subst P (sym e) (header_begun mark (take n bytes) h.text) | inr e ↦ subst P (sym e) (header_returned mark (take n bytes) h.text) ];
     }
-with_mark mark strange bytes (headers.Text n) h =
+with_mark mark bytes (headers.Text n) h =
     let e : n + 3 ≡ suc (n + 2) = omega arith in
     record {
       text = h.text;
       within = let le : n + 2 ≤ length bytes = h.within in omega (arith, length-cons mark bytes);
       whole = ap (λ l. mark ∷ l) h.whole ∙ ap (λ k. mark ∷ (take n bytes ++ line_end ++ drop k (mark ∷ bytes))) (sym e);
     }
-with_mark mark strange bytes (headers.Broken rule at) h = elim h [
+with_mark mark bytes (headers.Broken rule at) h = elim h [
   | inl p ↦
       let whole : mark ∷ bytes ≡ mark ∷ take 65536 bytes ++ drop 65536 bytes = ap (λ l. mark ∷ l) (sym (take-append-drop 65536 bytes)) in
       let w : 65536 ≤ length bytes = p.2.within in
@@ -107,17 +109,17 @@ with_mark mark strange bytes (headers.Broken rule at) h = elim h [
       }
 ]
 
-pub after_mark : (mark strange : ℕ) (bytes : List ℕ) (r : Header) → 0 < length bytes → get_or bytes 0 0 ≡ mark → ReadsText (take (length bytes - 1) (drop 1 bytes)) r → Reads mark strange bytes r
-after_mark mark strange bytes r some first h =
+pub after_mark : (mark : ℕ) (bytes : List ℕ) (r : Header) → 0 < length bytes → get_or bytes 0 0 ≡ mark → ReadsText (take (length bytes - 1) (drop 1 bytes)) r → Reads mark bytes r
+after_mark mark bytes r some first h =
     let rest : take (length bytes - 1) (drop 1 bytes) ≡ drop 1 bytes = take_rest bytes 1 in
     let P : List ℕ → Type 0 = λ l. ReadsText l r in
-    let Q : List ℕ → Type 0 = λ l. Reads mark strange l r in
-    subst Q (sym (starts bytes mark some first)) (with_mark mark strange (drop 1 bytes) r (subst P rest h))
+    let Q : List ℕ → Type 0 = λ l. Reads mark l r in
+    subst Q (sym (starts bytes mark some first)) (with_mark mark (drop 1 bytes) r (subst P rest h))
 
-pub nothing_there : (mark strange : ℕ) (bytes : List ℕ) → length bytes ≡ 0 → IsOpenHeader mark strange bytes 0
-nothing_there mark strange [] e = record { scanned = record { within = omega arith; few = omega arith; plain = tt }; more = header_none mark strange }
-nothing_there mark strange (b ∷ bytes) e = absurd (omega arith)
+pub nothing_there : (mark : ℕ) (bytes : List ℕ) → length bytes ≡ 0 → IsOpenHeader mark bytes 0
+nothing_there mark [] e = record { scanned = record { within = omega arith; few = omega arith; plain = tt }; begun = inl refl; more = header_none }
+nothing_there mark (b ∷ bytes) e = absurd (omega arith)
 
-pub strange_mark : (mark strange : ℕ) (bytes : List ℕ) → 0 < length bytes → (get_or bytes 0 0 ≡ mark → ⊥) → IsNoHeader mark strange bytes strange 0
-strange_mark mark strange [] h ne = absurd (omega arith)
-strange_mark mark strange (b ∷ bytes) h ne = record { within = omega arith; fault = other_mark b bytes refl refl refl ne }
+pub other_there : (mark : ℕ) (bytes : List ℕ) → 0 < length bytes → (get_or bytes 0 0 ≡ mark → ⊥) → IsOther mark bytes
+other_there mark [] h ne = absurd (omega arith)
+other_there mark (b ∷ bytes) h ne = record { b = b; more = bytes; first = refl; other = ne }

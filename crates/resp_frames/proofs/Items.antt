@@ -1,25 +1,36 @@
 -- Items are read.
-use Rattle.std.proofs.Common.{◌≡◌, ℕ, zero, suc, ◌+◌, ◌<◌, ◌≤◌, List, [], ◌∷◌, ◌++◌, Option, Some, None, length, ap, sym, subst, ◌∙◌, refl, arith, length-append}
+use Rattle.std.proofs.Common.{◌≡◌, ℕ, zero, suc, ◌+◌, ◌<◌, ◌≤◌, List, [], ◌∷◌, ◌++◌, Option, Some, None, length, drop, ◌⊎◌, inl, inr, ap, sym, subst, ◌∙◌, refl, arith, length-append}
 use Rattle.std.specs.Prelude.{flat_map}
 use Rattle.std.specs.Fmt.{decimal}
 use Rattle.std.proofs.lemmas.List.{append_assoc}
 use Rattle.plain_world.specs.Words.{Words}
-use Rattle.resp_frames.specs.Frames.{header, bulk, IsText, Item, Asked, Passed, item_bytes, IsItem}
-use Rattle.resp_frames.specs.Faults.{LineFault, other_mark, too_long, no_line_feed, NumberFault, bad_number, BulkFault, length_line, length_number, no_return, no_feed, Begun, RequestFault, count_line, count_number, in_word}
+use Rattle.plain_world.specs.Spelling.{line_end}
+use Rattle.resp_frames.specs.Frames.{header, bulk, IsText, Item, Asked, Passed, Line, item_bytes, IsItem}
+use Rattle.resp_frames.specs.Faults.{LineFault, too_long, no_line_feed, NumberFault, bad_number, BulkFault, other_mark, length_line, length_number, no_return, no_feed, Begun, RequestFault, count_line, count_number, in_word, in_line}
 use Rattle.resp_frames.specs.Ends.{IsCut}
-use Rattle.resp_frames.specs.Reading.{Read, Took, Open, Wrong, read_on, read_header, read_count, read_bulk, read_bulks, read_words, read_item}
-use Rattle.resp_frames.proofs.Headers.{HeaderIs, header_again, header_is, header_none, line_first}
+use Rattle.resp_frames.specs.Reading.{Read, Took, Open, Wrong, read_on, read_header, read_count, read_bulk, read_bulks, read_words, read_array, read_line, read_item}
+use Rattle.resp_frames.proofs.Choices.{on_equal, by_equal}
+use Rattle.resp_frames.proofs.Headers.{HeaderIs, header_again, header_is, line_first, line_begins}
+use Rattle.resp_frames.proofs.Inlines.{InlineIs, line_again, inline_first, inline_is, inline_within, inline_stays}
 use Rattle.resp_frames.proofs.Numbers.{CountIs, count_is, count_again, passed_again, count_bad, not_count}
 use Rattle.resp_frames.proofs.Bulks.{decimal_text, bulk_first, BulksIs, bulks_again, bulks_open, bulks_wrong, bulks_is}
 
 count_text : (n : ℕ) → n ≤ 1048576 → IsText (decimal n)
 count_text n h = decimal_text n (omega arith)
 
-after_count : (text rest : List ℕ) (o : Option ℕ) → IsText text → read_count text ≡ o → read_item (header 42 text ++ rest) ≡ read_words (header 42 text ++ rest) text o rest
+-- behind the mark
+marked : (bytes more : List ℕ) → bytes ≡ 42 ∷ more → read_item bytes ≡ read_array bytes
 unfolding read_item
+marked bytes more e = ap read_item e ∙ on_equal 42 42 (read_array (42 ∷ more)) (read_line (42 ∷ more)) refl ∙ ap read_array (sym e)
+
+pub item_none : read_item [] ≡ Open
+unfolding read_item
+item_none = refl
+
+after_count : (text rest : List ℕ) (o : Option ℕ) → IsText text → read_count text ≡ o → read_item (header 42 text ++ rest) ≡ read_words (header 42 text ++ rest) text o rest
 after_count text rest o h e =
     let all = header 42 text ++ rest in
-    ap (λ x. read_on x (λ t more. read_words all t (read_count t) more)) (header_again 42 6 text rest h) ∙ ap (λ c. read_words all text c rest) e
+    marked all ((text ++ line_end) ++ rest) refl ∙ ap (λ x. read_on x (λ t more. read_words all t (read_count t) more)) (header_again 42 text rest h) ∙ ap (λ c. read_words all text c rest) e
 
 abbrev to_item : Read Words → Read Item
 to_item x = read_on x (λ words end. Took (Asked words) end)
@@ -38,6 +49,7 @@ item_again (Asked words) rest h =
     ap read_item (append_assoc (header 42 (decimal (length words))) (flat_map bulk words) rest)
     ∙ after_number (length words) (flat_map bulk words ++ rest) h.some h.few ∙ ap to_item (bulks_again words rest h.each)
 item_again (Passed text) rest h = after_count text rest (Some 0) h.1 (passed_again text h.0)
+item_again (Line text) rest h = line_again text rest h.0 h.1
 
 begun_some : (bytes : List ℕ) (n : ℕ) (words : Words) (rest : List ℕ) → Begun bytes n words rest → 0 < n
 begun_some bytes n words rest b = let due : length words < n = b.due in omega arith
@@ -49,20 +61,24 @@ after_begun bytes n words rest b = ap read_item b.whole ∙ after_number n (flat
 pub item_begun : (bytes : List ℕ) (n : ℕ) (words : Words) (rest : List ℕ) → Begun bytes n words rest → read_bulk rest ≡ Open → read_item bytes ≡ Open
 item_begun bytes n words rest b e = after_begun bytes n words rest b ∙ ap to_item (bulks_open n words rest b.due b.each e)
 
-pub item_counting : (bytes : List ℕ) → read_header 42 6 bytes ≡ Open → read_item bytes ≡ Open
-unfolding read_item
-item_counting bytes e = ap (λ x. read_on x (λ text rest. read_words bytes text (read_count text) rest)) e
+pub item_counting : (bytes : List ℕ) → (bytes ≡ []) ⊎ (bytes ≡ 42 ∷ drop 1 bytes) → read_header bytes ≡ Open → read_item bytes ≡ Open
+item_counting bytes begun e = elim begun [
+  | inl none ↦ ap read_item none ∙ item_none
+  | inr some ↦ marked bytes (drop 1 bytes) some ∙ ap (λ x. read_on x (λ text rest. read_words bytes text (read_count text) rest)) e
+]
 
 fault_is : (rule rule' : ℕ) (from from' : List ℕ) → rule ≡ rule' → from ≡ from' → (let w : Read Item = Wrong rule' from' in w) ≡ Wrong rule from
 fault_is rule rule' from from' e f = sym (ap (λ r. Wrong r from) e ∙ ap (Wrong rule') f)
 
 pub item_first : (bytes : List ℕ) (rule : ℕ) (from : List ℕ) → RequestFault bytes rule from → read_item bytes ≡ Wrong rule from
-unfolding read_item
-item_first bytes rule from (count_line h) = ap (λ x. read_on x (λ text rest. read_words bytes text (read_count text) rest)) (line_first 42 6 rule bytes from h)
+item_first bytes rule from (count_line h) =
+    let begins = line_begins 42 rule bytes from h in
+    marked bytes begins.0 begins.1 ∙ ap (λ x. read_on x (λ text rest. read_words bytes text (read_count text) rest)) (line_first 42 rule bytes from h)
 item_first bytes rule from (count_number (bad_number text more r f e h bad)) =
     ap read_item e ∙ after_count text more None h (count_bad text bad) ∙ fault_is rule 1 from (header 42 text ++ more) r (f ∙ e)
 item_first bytes rule from (in_word n words rest b h) =
     after_begun bytes n words rest b ∙ ap to_item (bulks_wrong n words rest rule from b.due b.each (bulk_first rest rule from h))
+item_first bytes rule from (in_line h) = inline_first bytes rule from h
 
 -- what the reading of an item tells
 abbrev pub ItemIs : List ℕ → Read Item → Type 0
@@ -87,17 +103,24 @@ words_is bytes text rest None is k h e = count_number (bad_number text rest refl
 words_is bytes text rest (Some zero) is k h e = ((k, h), e)
 words_is bytes text rest (Some (suc n)) is k h e = request_is bytes (suc n) rest (omega arith) k.0 (e ∙ ap (λ t. header 42 t ++ rest) k.1) (read_bulks (suc n) rest) (bulks_is (suc n) rest)
 
-then_item : (bytes : List ℕ) (x : Read (List ℕ)) → HeaderIs 42 6 bytes x → ItemIs bytes (read_on x (λ text rest. read_words bytes text (read_count text) rest))
+then_item : (bytes : List ℕ) (x : Read (List ℕ)) → HeaderIs 42 bytes x → ItemIs bytes (read_on x (λ text rest. read_words bytes text (read_count text) rest))
 then_item bytes (Took text rest) h = words_is bytes text rest (read_count text) refl (count_is text) h.0 h.1
 then_item bytes Open h = tt
 then_item bytes (Wrong rule from) h = count_line h
 
+line_item : (bytes : List ℕ) (x : Read Item) → InlineIs bytes x → ItemIs bytes x
+line_item bytes (Took x rest) h = h
+line_item bytes Open h = tt
+line_item bytes (Wrong rule from) h = in_line h
+
 pub item_is : (bytes : List ℕ) → ItemIs bytes (read_item bytes)
 unfolding read_item
-item_is bytes = then_item bytes (read_header 42 6 bytes) (header_is 42 6 bytes)
-
-pub item_none : read_item [] ≡ Open
-item_none = item_counting [] (header_none 42 6)
+item_is [] = tt
+item_is (b ∷ bytes) =
+    let Q : ℕ → Type 0 = λ c. ItemIs (c ∷ bytes) (read_array (c ∷ bytes)) in
+    by_equal (ItemIs (b ∷ bytes)) b 42 (read_array (b ∷ bytes)) (read_line (b ∷ bytes))
+    (λ e. subst Q (sym e) (then_item (42 ∷ bytes) (read_header (42 ∷ bytes)) (header_is 42 bytes)))
+    (λ ne. line_item (b ∷ bytes) (read_line (b ∷ bytes)) (inline_is (b ∷ bytes) ne))
 
 -- what can't be read yet is cut, unless it is nothing
 pub cut_from_open : (bytes : List ℕ) → read_item bytes ≡ Open → (bytes ≡ [] → ⊥) → IsCut bytes
@@ -108,10 +131,9 @@ cut_from_open bytes e some = record {
 }
 
 -- the place of a fault stands in the bytes
-line_within : (mark strange : ℕ) (bytes : List ℕ) (rule : ℕ) (from : List ℕ) → LineFault mark strange bytes rule from → length from ≤ length bytes
-line_within mark strange bytes rule from (other_mark b more r f e ne) = omega (arith, ap length f)
-line_within mark strange bytes rule from (too_long t more r f e p n) = omega (arith, ap length f)
-line_within mark strange bytes rule from (no_line_feed t more b r f e h ne) =
+line_within : (mark : ℕ) (bytes : List ℕ) (rule : ℕ) (from : List ℕ) → LineFault mark bytes rule from → length from ≤ length bytes
+line_within mark bytes rule from (too_long t more r f e p n) = omega (arith, ap length f)
+line_within mark bytes rule from (no_line_feed t more b r f e h ne) =
     let n : length bytes ≡ length (mark ∷ t ++ 13 ∷ from) = ap length e in
     let m : length (t ++ 13 ∷ from) ≡ length t + length (13 ∷ from) = length-append t (13 ∷ from) in
     omega arith
@@ -120,7 +142,8 @@ number_within : (mark wrong : ℕ) (IsGood : List ℕ → Type 0) (bytes : List 
 number_within mark wrong IsGood bytes rule from (bad_number t more r f e h bad) = omega (arith, ap length f)
 
 bulk_within : (bytes : List ℕ) (rule : ℕ) (from : List ℕ) → BulkFault bytes rule from → length from ≤ length bytes
-bulk_within bytes rule from (length_line h) = line_within 36 2 bytes rule from h
+bulk_within bytes rule from (other_mark b more r f e ne) = omega (arith, ap length f)
+bulk_within bytes rule from (length_line h) = line_within 36 bytes rule from h
 bulk_within bytes rule from (length_number h) = number_within 36 3 _ bytes rule from h
 bulk_within bytes rule from (no_return w more b r f e h ne) =
     let n : length bytes ≡ length (header 36 (decimal (length w)) ++ (w ++ from)) = ap length e in
@@ -130,7 +153,8 @@ bulk_within bytes rule from (no_feed w more b r f e h ne) =
     omega (arith, length-append (header 36 (decimal (length w))) (w ++ 13 ∷ from), length-append w (13 ∷ from))
 
 pub fault_within : (bytes : List ℕ) (rule : ℕ) (from : List ℕ) → RequestFault bytes rule from → length from ≤ length bytes
-fault_within bytes rule from (count_line h) = line_within 42 6 bytes rule from h
+fault_within bytes rule from (count_line h) = line_within 42 bytes rule from h
+fault_within bytes rule from (in_line h) = inline_within bytes rule from h
 fault_within bytes rule from (count_number h) = number_within 42 1 _ bytes rule from h
 fault_within bytes rule from (in_word n words rest b h) =
     let k : length from ≤ length rest = bulk_within rest rule from h in
@@ -139,11 +163,10 @@ fault_within bytes rule from (in_word n words rest b h) =
 
 -- a fault stays, whatever comes behind it
 
-line_stays : (mark strange : ℕ) (bytes : List ℕ) (rule : ℕ) (from back : List ℕ) → LineFault mark strange bytes rule from → LineFault mark strange (bytes ++ back) rule (from ++ back)
-line_stays mark strange bytes rule from back (other_mark b more r f e ne) = other_mark b (more ++ back) r (ap (λ l. l ++ back) f) (ap (λ l. l ++ back) e) ne
-line_stays mark strange bytes rule from back (too_long t more r f e p n) =
+line_stays : (mark : ℕ) (bytes : List ℕ) (rule : ℕ) (from back : List ℕ) → LineFault mark bytes rule from → LineFault mark (bytes ++ back) rule (from ++ back)
+line_stays mark bytes rule from back (too_long t more r f e p n) =
     too_long t (more ++ back) r (ap (λ l. l ++ back) f) (ap (λ l. l ++ back) e ∙ ap (λ l. mark ∷ l) (append_assoc t more back)) p n
-line_stays mark strange bytes rule from back (no_line_feed t more b r f e h ne) =
+line_stays mark bytes rule from back (no_line_feed t more b r f e h ne) =
     no_line_feed t (more ++ back) b r (ap (λ l. l ++ back) f) (ap (λ l. l ++ back) e ∙ ap (λ l. mark ∷ l) (append_assoc t (13 ∷ from) back)) h ne
 
 number_stays : (mark wrong : ℕ) (IsGood : List ℕ → Type 0) (bytes : List ℕ) (rule : ℕ) (from back : List ℕ) → NumberFault mark wrong IsGood bytes rule from → NumberFault mark wrong IsGood (bytes ++ back) rule (from ++ back)
@@ -151,7 +174,8 @@ number_stays mark wrong IsGood bytes rule from back (bad_number t more r f e h b
     bad_number t (more ++ back) r (ap (λ l. l ++ back) f) (ap (λ l. l ++ back) e ∙ append_assoc (header mark t) more back) h bad
 
 bulk_stays : (bytes : List ℕ) (rule : ℕ) (from back : List ℕ) → BulkFault bytes rule from → BulkFault (bytes ++ back) rule (from ++ back)
-bulk_stays bytes rule from back (length_line h) = length_line (line_stays 36 2 bytes rule from back h)
+bulk_stays bytes rule from back (other_mark b more r f e ne) = other_mark b (more ++ back) r (ap (λ l. l ++ back) f) (ap (λ l. l ++ back) e) ne
+bulk_stays bytes rule from back (length_line h) = length_line (line_stays 36 bytes rule from back h)
 bulk_stays bytes rule from back (length_number h) = length_number (number_stays 36 3 _ bytes rule from back h)
 bulk_stays bytes rule from back (no_return w more b r f e h ne) =
     let head = header 36 (decimal (length w)) in
@@ -171,6 +195,7 @@ begun_stays bytes n words rest back b =
     }
 
 pub fault_stays : (bytes : List ℕ) (rule : ℕ) (from back : List ℕ) → RequestFault bytes rule from → RequestFault (bytes ++ back) rule (from ++ back)
-fault_stays bytes rule from back (count_line h) = count_line (line_stays 42 6 bytes rule from back h)
+fault_stays bytes rule from back (count_line h) = count_line (line_stays 42 bytes rule from back h)
+fault_stays bytes rule from back (in_line h) = in_line (inline_stays bytes rule from back h)
 fault_stays bytes rule from back (count_number h) = count_number (number_stays 42 1 _ bytes rule from back h)
 fault_stays bytes rule from back (in_word n words rest b h) = in_word n words (rest ++ back) (begun_stays bytes n words rest back b) (bulk_stays rest rule from back h)

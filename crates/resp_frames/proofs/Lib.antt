@@ -4,10 +4,14 @@ pub mod Headers
 pub mod Numbers
 pub mod Digits
 pub mod Bulks
+pub mod Inlines
 pub mod Items
+pub mod Parts
 pub mod Streams
 pub mod HeaderSteps
 pub mod RequestSteps
+pub mod LineSteps
+pub mod BodySteps
 pub mod Putting
 pub mod Giving
 pub mod Feeds

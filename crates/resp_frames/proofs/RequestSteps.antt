@@ -3,19 +3,19 @@ use Rattle.std.proofs.Common.{◌≡◌, ℕ, ◌+◌, ◌-◌, ◌<◌, ◌≤�
 use Rattle.std.specs.Fmt.{decimal}
 use Rattle.std.proofs.lemmas.List.{drop-drop, take_rest}
 use Rattle.resp_frames.specs.Frames.{header}
-use Rattle.resp_frames.specs.Faults.{LineFault, bad_number, length_line, length_number, no_return, no_feed, count_line, count_number, in_word, IsCount}
+use Rattle.resp_frames.specs.Faults.{LineFault, bad_number, other_mark, length_line, length_number, no_return, no_feed, count_line, count_number, in_word, IsCount}
 use Rattle.resp_frames.specs.Reading.{read_body, read_bulk, Open}
-use Rattle.resp_frames.specs.HeaderRead.{text_of, IsHeader, IsOpenHeader, IsNoHeader}
+use Rattle.resp_frames.specs.HeaderRead.{text_of, IsHeader, IsOpenHeader, IsOther, IsNoHeader}
 use Rattle.resp_frames.specs.RequestRead.{words_at, StandsAtCount, StandsAtLength, StandsAtBody, IsNoBody, IsOpenRequest, IsBrokenAt}
-use Rattle.resp_frames.specs.declared.request.Span.{Span}
+use Rattle.resp_frames.specs.declared.span.Span.{Span}
 use Rattle.resp_frames.specs.declared.request.Due.TheVariants as due
 use Rattle.resp_frames.proofs.Bulks.{bulk_counting, after_length}
 use Rattle.resp_frames.proofs.Items.{item_begun, item_counting}
 
-pub open_count : (bytes : List ℕ) (scanned n : ℕ) (spans : List Span) → StandsAtCount bytes 0 scanned spans → IsOpenHeader 42 6 bytes n → IsOpenRequest bytes (record { read = 0; due = due.Count n }) spans
-open_count bytes scanned n spans s h = record { stands = record { start = refl; none = s.none; header = h.scanned }; more = item_counting bytes h.more }
+pub open_count : (bytes : List ℕ) (scanned n : ℕ) (spans : List Span) → StandsAtCount bytes 0 scanned spans → IsOpenHeader 42 bytes n → IsOpenRequest bytes (record { read = 0; due = due.Count n }) spans
+open_count bytes scanned n spans s h = record { stands = record { start = refl; none = s.none; header = h.scanned }; more = item_counting bytes h.begun h.more }
 
-pub broken_count : (bytes : List ℕ) (rule at : ℕ) → IsNoHeader 42 6 bytes rule at → IsBrokenAt bytes rule at
+pub broken_count : (bytes : List ℕ) (rule at : ℕ) → IsNoHeader 42 bytes rule at → IsBrokenAt bytes rule at
 broken_count bytes rule at h = record { within = h.within; fault = count_line h.fault }
 
 -- the text as the code cuts it
@@ -27,14 +27,14 @@ wrong_count bytes n h bad =
     let P : List ℕ → Type 0 = λ t. IsCount t → ⊥ in
     record { within = omega arith; fault = count_number (bad_number (text_of bytes n) (drop (n + 3) bytes) refl refl h.whole h.text (subst P (text_cut bytes n) bad)) }
 
-pub open_length : (bytes : List ℕ) (read words scanned n : ℕ) (spans : List Span) → StandsAtLength bytes read words scanned spans → IsOpenHeader 36 2 (take (length bytes - read) (drop read bytes)) n →
+pub open_length : (bytes : List ℕ) (read words scanned n : ℕ) (spans : List Span) → StandsAtLength bytes read words scanned spans → IsOpenHeader 36 (take (length bytes - read) (drop read bytes)) n →
     IsOpenRequest bytes (record { read = read; due = due.Length words n }) spans
 open_length bytes read words scanned n spans s h =
-    let P : List ℕ → Type 0 = λ l. IsOpenHeader 36 2 l n in
+    let P : List ℕ → Type 0 = λ l. IsOpenHeader 36 l n in
     let k = subst P (take_rest bytes read) h in
     record {
       stands = record { within = s.within; inside = s.inside; begun = s.begun; header = k.scanned };
-      more = item_begun bytes words (words_at bytes spans) (drop read bytes) s.begun (bulk_counting (drop read bytes) k.more);
+      more = item_begun bytes words (words_at bytes spans) (drop read bytes) s.begun (bulk_counting (drop read bytes) k.begun k.more);
     }
 
 -- a place in the rest of the bytes
@@ -44,14 +44,19 @@ place_within bytes read at low h = omega (arith, length-drop read bytes)
 place_from : (bytes : List ℕ) (read at : ℕ) → drop at (drop read bytes) ≡ drop (read + at) bytes
 place_from bytes read at = drop-drop at read bytes ∙ ap (λ k. drop k bytes) (omega arith)
 
-pub broken_length : (bytes : List ℕ) (read words scanned rule at : ℕ) (spans : List Span) → StandsAtLength bytes read words scanned spans → IsNoHeader 36 2 (take (length bytes - read) (drop read bytes)) rule at → IsBrokenAt bytes rule (read + at)
+pub broken_length : (bytes : List ℕ) (read words scanned rule at : ℕ) (spans : List Span) → StandsAtLength bytes read words scanned spans → IsNoHeader 36 (take (length bytes - read) (drop read bytes)) rule at → IsBrokenAt bytes rule (read + at)
 broken_length bytes read words scanned rule at spans s h =
-    let P : List ℕ → Type 0 = λ l. IsNoHeader 36 2 l rule at in
+    let P : List ℕ → Type 0 = λ l. IsNoHeader 36 l rule at in
     let k = subst P (take_rest bytes read) h in
     record {
       within = place_within bytes read at s.within k.within;
-      fault = in_word words (words_at bytes spans) (drop read bytes) s.begun (length_line (subst (λ f. LineFault 36 2 (drop read bytes) rule f) (place_from bytes read at) k.fault));
+      fault = in_word words (words_at bytes spans) (drop read bytes) s.begun (length_line (subst (λ f. LineFault 36 (drop read bytes) rule f) (place_from bytes read at) k.fault));
     }
+
+pub other_length : (bytes : List ℕ) (read words scanned : ℕ) (spans : List Span) → StandsAtLength bytes read words scanned spans → IsOther 36 (take (length bytes - read) (drop read bytes)) → IsBrokenAt bytes 2 read
+other_length bytes read words scanned spans s h =
+    let k = subst (IsOther 36) (take_rest bytes read) h in
+    record { within = s.within; fault = in_word words (words_at bytes spans) (drop read bytes) s.begun (other_mark k.b k.more refl refl k.first k.other) }
 
 pub bad_length : (bytes : List ℕ) (read words scanned n : ℕ) (spans : List Span) → StandsAtLength bytes read words scanned spans → IsHeader 36 (take (length bytes - read) (drop read bytes)) n →
     ((m : ℕ) → m ≤ 536870912 → take (n + 1 - 1) (drop 1 (take (length bytes - read) (drop read bytes))) ≡ decimal m → ⊥) → IsBrokenAt bytes 3 read

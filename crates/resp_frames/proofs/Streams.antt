@@ -5,7 +5,7 @@ use Rattle.std.specs.List.{AllByRecursion}
 use Rattle.std.proofs.lemmas.List.{append_assoc}
 use Rattle.std.proofs.lemmas.List.Concat.{flat_map-append}
 use Rattle.plain_world.specs.Words.{Words}
-use Rattle.resp_frames.specs.Frames.{Item, Asked, Passed, item_bytes, IsItem, asked, requests, Framed}
+use Rattle.resp_frames.specs.Frames.{Item, Asked, Passed, Line, item_bytes, IsItem, asked, requests, Framed}
 use Rattle.resp_frames.specs.Ends.{End, Whole, Cut, Fault, BreaksAt, EndsAs, Frames}
 use Rattle.resp_frames.specs.Reading.{Read, Took, Open, Wrong, read_item}
 use Rattle.resp_frames.proofs.Items.{item_again, item_first, item_is, item_none, ItemIs, cut_from_open, fault_within, fault_stays}
@@ -19,6 +19,7 @@ item_unique x y A B p q e =
 item_some : (x : Item) (A : List ℕ) → item_bytes x ++ A ≡ [] → ⊥
 item_some (Asked words) A e = cc
 item_some (Passed text) A e = cc
+item_some (Line text) A e = absurd (omega (arith, ap length e, length-append (text ++ 10 ∷ []) A, length-append text (10 ∷ [])))
 
 -- the end of a stream doesn't begin with an item
 no_item_left : (bytes : List ℕ) (x : Item) (A : List ℕ) (end : End) → IsItem x → EndsAs bytes (item_bytes x ++ A) end → ⊥
@@ -124,6 +125,7 @@ ends_here before bytes (Wrong rule from) e h no_more =
 item_long : (x : Item) → 0 < length (item_bytes x)
 item_long (Asked words) = omega arith
 item_long (Passed text) = omega arith
+item_long (Line text) = omega (arith, length-append text (10 ∷ []))
 
 read_next : (fuel before : ℕ) (bytes : List ℕ) → ((more : ℕ) (rest : List ℕ) → length rest ≤ fuel → Streamed more rest) → length bytes ≤ suc fuel → (x : Read Item) → read_item bytes ≡ x → ItemIs bytes x → Streamed before bytes
 read_next fuel before bytes again le (Took y rest) e h =

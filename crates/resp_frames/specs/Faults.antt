@@ -1,12 +1,12 @@
 -- The rules that a stream can break. A fault is the number of the rule, and the bytes from the place named on.
 -- 1: the number of words isn't canonical, or is above 1,048,576.  2: another byte stands where `$` is due.
--- 3: a length isn't canonical, is below 0 or above 536,870,912.  4: 65,537 bytes of a header hold no CR.
--- 5: CR isn't followed by LF, or a word by CR LF.  6: a request begins with another byte than `*`.
-use Rattle.std.specs.Prelude.{◌≡◌, ◌≢◌, ℕ, ◌<◌, ◌≤◌, ◌⊎◌, List, ◌∷◌, ◌++◌, length, flat_map}
+-- 3: a length isn't canonical, is below 0 or above 536,870,912.  4: 65,537 bytes of a header hold no CR, or of an inline request no LF.
+-- 5: CR isn't followed by LF, or a word by CR LF.  6: a whole inline request holds a quote.
+use Rattle.std.specs.Prelude.{◌≡◌, ◌≢◌, ℕ, ◌<◌, ◌≤◌, ◌⊎◌, List, ◌∷◌, ◌++◌, length, flat_map, true}
 use Rattle.std.specs.List.{AllByRecursion}
 use Rattle.std.specs.Fmt.{decimal}
 use Rattle.plain_world.specs.Words.{Words}
-use Rattle.resp_frames.specs.Frames.{header, bulk, IsWord, IsPlainText, IsText, IsNoCount}
+use Rattle.resp_frames.specs.Frames.{header, bulk, IsWord, IsWithout, IsPlainText, IsText, IsNoCount, IsInline, IsLine, is_quote, IsUnquoted}
 
 -- the number of a request's header: 0 or less, or so many words
 abbrev pub IsCount : List ℕ → Type 0
@@ -16,11 +16,10 @@ IsCount text = IsNoCount text ⊎ ((n : ℕ) × (n ≤ 1048576) × (text ≡ dec
 abbrev pub IsLength : List ℕ → Type 0
 IsLength text = (n : ℕ) × (n ≤ 536870912) × (text ≡ decimal n)
 
--- a header at the front of the bytes that is no line behind this mark: `strange` is the rule on its mark
-pub data LineFault (mark strange : ℕ) (bytes : List ℕ) (rule : ℕ) (from : List ℕ) : Type 0 where
-  other_mark : (b : ℕ) (more : List ℕ) → rule ≡ strange → from ≡ bytes → bytes ≡ b ∷ more → b ≢ mark → LineFault mark strange bytes rule from
-  too_long : (text more : List ℕ) → rule ≡ 4 → from ≡ bytes → bytes ≡ mark ∷ text ++ more → IsPlainText text → length text ≡ 65536 → LineFault mark strange bytes rule from
-  no_line_feed : (text more : List ℕ) (b : ℕ) → rule ≡ 5 → from ≡ b ∷ more → bytes ≡ mark ∷ text ++ 13 ∷ from → IsText text → b ≢ 10 → LineFault mark strange bytes rule from
+-- a header at the front of the bytes that is no line behind this mark
+pub data LineFault (mark : ℕ) (bytes : List ℕ) (rule : ℕ) (from : List ℕ) : Type 0 where
+  too_long : (text more : List ℕ) → rule ≡ 4 → from ≡ bytes → bytes ≡ mark ∷ text ++ more → IsPlainText text → length text ≡ 65536 → LineFault mark bytes rule from
+  no_line_feed : (text more : List ℕ) (b : ℕ) → rule ≡ 5 → from ≡ b ∷ more → bytes ≡ mark ∷ text ++ 13 ∷ from → IsText text → b ≢ 10 → LineFault mark bytes rule from
 
 -- a header at the front of the bytes whose number isn't one of these: `wrong` is the rule on its number
 pub data NumberFault (mark wrong : ℕ) (IsGood : List ℕ → Type 0) (bytes : List ℕ) (rule : ℕ) (from : List ℕ) : Type 0 where
@@ -28,7 +27,8 @@ pub data NumberFault (mark wrong : ℕ) (IsGood : List ℕ → Type 0) (bytes : 
 
 -- a fault in the bulk string at the front of the bytes
 pub data BulkFault (bytes : List ℕ) (rule : ℕ) (from : List ℕ) : Type 0 where
-  length_line : LineFault 36 2 bytes rule from → BulkFault bytes rule from
+  other_mark : (b : ℕ) (more : List ℕ) → rule ≡ 2 → from ≡ bytes → bytes ≡ b ∷ more → b ≢ 36 → BulkFault bytes rule from
+  length_line : LineFault 36 bytes rule from → BulkFault bytes rule from
   length_number : NumberFault 36 3 IsLength bytes rule from → BulkFault bytes rule from
   no_return : (word more : List ℕ) (b : ℕ) → rule ≡ 5 → from ≡ b ∷ more → bytes ≡ header 36 (decimal (length word)) ++ (word ++ from) → IsWord word → b ≢ 13 → BulkFault bytes rule from
   no_feed : (word more : List ℕ) (b : ℕ) → rule ≡ 5 → from ≡ b ∷ more → bytes ≡ header 36 (decimal (length word)) ++ (word ++ 13 ∷ from) → IsWord word → b ≢ 10 → BulkFault bytes rule from
@@ -40,8 +40,14 @@ pub record Begun (bytes : List ℕ) (n : ℕ) (words : Words) (rest : List ℕ) 
   pub due : length words < n
   pub each : AllByRecursion IsWord words
 
+-- a fault in the inline request at the front of the bytes
+pub data InlineFault (bytes : List ℕ) (rule : ℕ) (from : List ℕ) : Type 0 where
+  endless : (text more : List ℕ) → rule ≡ 4 → from ≡ bytes → bytes ≡ text ++ more → IsInline text → IsWithout 10 text → length text ≡ 65537 → InlineFault bytes rule from
+  quoted : (front back more : List ℕ) (quote_ : ℕ) → rule ≡ 6 → from ≡ quote_ ∷ back ++ 10 ∷ more → bytes ≡ front ++ from → IsLine (front ++ quote_ ∷ back) → IsUnquoted front → is_quote quote_ ≡ true → InlineFault bytes rule from
+
 -- a fault in the request at the front of the bytes
 pub data RequestFault (bytes : List ℕ) (rule : ℕ) (from : List ℕ) : Type 0 where
-  count_line : LineFault 42 6 bytes rule from → RequestFault bytes rule from
+  count_line : LineFault 42 bytes rule from → RequestFault bytes rule from
   count_number : NumberFault 42 1 IsCount bytes rule from → RequestFault bytes rule from
   in_word : (n : ℕ) (words : Words) (rest : List ℕ) → Begun bytes n words rest → BulkFault rest rule from → RequestFault bytes rule from
+  in_line : InlineFault bytes rule from → RequestFault bytes rule from

@@ -9,7 +9,7 @@ use Rattle.resp_frames.specs.declared.feeder.FrameFault.{FrameFault}
 use Rattle.resp_frames.specs.declared.feeder.FrameFault.TheVariants.{Protocol, Memory}
 use Rattle.resp_frames.specs.declared.feeder.Next.{Next}
 use Rattle.resp_frames.specs.declared.feeder.Next.TheVariants as next
-use Rattle.resp_frames.specs.declared.request.Span.{Span}
+use Rattle.resp_frames.specs.declared.span.Span.{Span}
 use Rattle.resp_frames.specs.declared.request.Progress.{Progress}
 
 -- how many bytes were given out or passed over, the bytes that were fed and not given out, and the request that was given out last

@@ -1,7 +1,9 @@
--- The frames of a stream of requests, on its whole bytes (RESP2, "Sending commands to a Redis server", "Arrays", "Bulk strings").
-use Rattle.std.specs.Prelude.{◌≡◌, ◌≢◌, ℕ, ◌<◌, ◌≤◌, ◌⊎◌, List, [], ◌∷◌, ◌++◌, length, flat_map, Bool, false, ◌&&◌, ◌==◌, nat_le, IsTrue}
+-- The frames of a stream of requests, on its whole bytes (RESP2, "Sending commands to a Redis server", "Arrays", "Bulk strings",
+-- "Inline commands").
+use Rattle.std.specs.Prelude.{◌≡◌, ◌≢◌, ⊤, ℕ, ◌≤◌, ◌⊎◌, List, [], ◌∷◌, ◌++◌, length, filter, flat_map, Bool, true, false, ◌&&◌, ◌||◌, ◌==◌, nat_le, IsTrue, if◌then◌else◌}
 use Rattle.std.specs.List.{AllByRecursion, list_all}
 use Rattle.std.specs.Fmt.{decimal}
+use Rattle.std.specs.Io.BufRead.{strip_last}
 use Rattle.plain_world.specs.Spelling.{line_end}
 use Rattle.plain_world.specs.Words.{Words}
 pub use Rattle.plain_world.specs.Words.{IsWord, IsRequest}
@@ -18,9 +20,13 @@ bulk word = header 36 (decimal (length word)) ++ (word ++ line_end)
 abbrev pub request_bytes : Words → List ℕ
 request_bytes words = header 42 (decimal (length words)) ++ flat_map bulk words
 
+-- the bytes don't have this one
+abbrev pub IsWithout : ℕ → List ℕ → Type 0
+IsWithout mark text = AllByRecursion (λ b. b ≢ mark) text
+
 -- no CR
 abbrev pub IsPlainText : List ℕ → Type 0
-IsPlainText text = AllByRecursion (λ b. b ≢ 13) text
+IsPlainText text = IsWithout 13 text
 
 -- the text of a header: no CR, and with its mark at most 65,536 bytes
 pub record IsText (text : List ℕ) : Type 0 where
@@ -44,22 +50,75 @@ is_negative (b ∷ ds) = b == 45 && is_positive ds
 abbrev pub IsNoCount : List ℕ → Type 0
 IsNoCount text = (text ≡ 48 ∷ []) ⊎ IsTrue (is_negative text)
 
--- what stands in a stream: a request, or a header that is passed over
+-- an inline request begins with another byte than `*`
+abbrev pub IsInline : List ℕ → Type 0
+IsInline [] = ⊤
+IsInline (b ∷ bytes) = b ≢ 42
+
+-- the line of an inline request, without its LF: at most 65,536 bytes
+pub record IsLine (text : List ℕ) : Type 0 where
+  pub inline : IsInline text
+  pub plain : IsWithout 10 text
+  pub short : length text ≤ 65536
+
+-- a double or a single quote
+abbrev pub is_quote : ℕ → Bool
+is_quote b = b == 34 || b == 39
+
+abbrev pub IsUnquoted : List ℕ → Type 0
+IsUnquoted text = AllByRecursion (λ b. is_quote b ≡ false) text
+
+-- a space or a tab
+abbrev pub is_blank : ℕ → Bool
+is_blank b = b == 32 || b == 9
+
+-- the byte in front of the first part
+abbrev pub with_byte : ℕ → Words → Words
+with_byte b [] = (b ∷ []) ∷ []
+with_byte b (part ∷ parts) = (b ∷ part) ∷ parts
+
+-- the parts before, between and behind the blanks
+unfoldable pub parts_of : List ℕ → Words
+parts_of [] = [] ∷ []
+parts_of (b ∷ bytes) = if is_blank b then [] ∷ parts_of bytes else with_byte b (parts_of bytes)
+
+abbrev pub has_bytes : List ℕ → Bool
+has_bytes [] = false
+has_bytes (b ∷ part) = true
+
+-- the words: the parts that have bytes
+abbrev pub words_of : List ℕ → Words
+words_of bytes = filter has_bytes (parts_of bytes)
+
+-- the words of a line, where one CR directly before the LF belongs to no word
+abbrev pub line_words : List ℕ → Words
+line_words text = words_of (strip_last 13 text)
+
+-- what stands in a stream: a request, a header that is passed over, or the line of an inline request
 pub data Item : Type 0 where
   Asked : Words → Item
   Passed : List ℕ → Item
+  Line : List ℕ → Item
 
 abbrev pub item_bytes : Item → List ℕ
 item_bytes (Asked words) = request_bytes words
 item_bytes (Passed text) = header 42 text
+item_bytes (Line text) = text ++ 10 ∷ []
 
 abbrev pub IsItem : Item → Type 0
 IsItem (Asked words) = IsRequest words
 IsItem (Passed text) = IsNoCount text × IsText text
+IsItem (Line text) = IsLine text × IsUnquoted text
+
+-- an inline request without words is passed over
+abbrev pub asked_inline : Words → List Words
+asked_inline [] = []
+asked_inline (word ∷ words) = (word ∷ words) ∷ []
 
 abbrev pub asked : Item → List Words
 asked (Asked words) = words ∷ []
 asked (Passed text) = []
+asked (Line text) = asked_inline (line_words text)
 
 -- the requests among the items
 abbrev pub requests : List Item → List Words

@@ -41,6 +41,7 @@ pub record IsNoLine (bytes : List ℕ) (at : ℕ) : Type 0 where
   pub other : b ≢ 10
 
 abbrev pub ReadsText : List ℕ → Header → Type 0
+ReadsText bytes headers.Other = ⊥
 ReadsText bytes (headers.Open n) = IsOpenText bytes n
 ReadsText bytes (headers.Text n) = IsWholeText bytes n
 ReadsText bytes (headers.Broken rule at) = ((rule ≡ 4) × (at ≡ 0) × IsEndless bytes) ⊎ ((rule ≡ 5) × IsNoLine bytes at)
@@ -55,17 +56,26 @@ pub record IsHeader (mark : ℕ) (bytes : List ℕ) (n : ℕ) : Type 0 where
   pub within : n + 3 ≤ length bytes
   pub whole : bytes ≡ header mark (text_of bytes n) ++ drop (n + 3) bytes
 
--- a header that isn't whole
-pub record IsOpenHeader (mark strange : ℕ) (bytes : List ℕ) (n : ℕ) : Type 0 where
+-- nothing, or a header that isn't whole
+pub record IsOpenHeader (mark : ℕ) (bytes : List ℕ) (n : ℕ) : Type 0 where
   pub scanned : IsScanned bytes n
-  pub more : read_header mark strange bytes ≡ Open
+  pub begun : (bytes ≡ []) ⊎ (bytes ≡ mark ∷ drop 1 bytes)
+  pub more : read_header bytes ≡ Open
+
+-- another byte than the mark
+pub record IsOther (mark : ℕ) (bytes : List ℕ) : Type 0 where
+  pub b : ℕ
+  pub more : List ℕ
+  pub first : bytes ≡ b ∷ more
+  pub other : b ≢ mark
 
 -- a header that is no line
-pub record IsNoHeader (mark strange : ℕ) (bytes : List ℕ) (rule at : ℕ) : Type 0 where
+pub record IsNoHeader (mark : ℕ) (bytes : List ℕ) (rule at : ℕ) : Type 0 where
   pub within : at ≤ length bytes
-  pub fault : LineFault mark strange bytes rule (drop at bytes)
+  pub fault : LineFault mark bytes rule (drop at bytes)
 
-abbrev pub Reads : ℕ → ℕ → List ℕ → Header → Type 0
-Reads mark strange bytes (headers.Open n) = IsOpenHeader mark strange bytes n
-Reads mark strange bytes (headers.Text n) = IsHeader mark bytes n
-Reads mark strange bytes (headers.Broken rule at) = IsNoHeader mark strange bytes rule at
+abbrev pub Reads : ℕ → List ℕ → Header → Type 0
+Reads mark bytes headers.Other = IsOther mark bytes
+Reads mark bytes (headers.Open n) = IsOpenHeader mark bytes n
+Reads mark bytes (headers.Text n) = IsHeader mark bytes n
+Reads mark bytes (headers.Broken rule at) = IsNoHeader mark bytes rule at

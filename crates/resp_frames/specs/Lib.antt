@@ -8,4 +8,5 @@ pub mod FaultLines
 pub mod Reading
 pub mod HeaderRead
 pub mod NumberRead
+pub mod LineRead
 pub mod RequestRead

@@ -1,9 +1,9 @@
 -- A reading of the frames from the front, by which their laws are shown. No public contract cites it.
-use Rattle.std.specs.Prelude.{ℕ, zero, suc, ◌==◌, List, [], ◌∷◌, take, drop, Option, Some, None, ◌&&◌, nat_le, bytes_eq, if◌then◌else◌}
+use Rattle.std.specs.Prelude.{ℕ, zero, suc, ◌==◌, List, [], ◌∷◌, ◌++◌, take, drop, Option, Some, None, ◌&&◌, nat_le, bytes_eq, if◌then◌else◌}
 use Rattle.std.specs.Fmt.{decimal}
 use Rattle.std.specs.Str.Parse.{digits_value}
 use Rattle.plain_world.specs.Words.{Words}
-use Rattle.resp_frames.specs.Frames.{Item, Asked, Passed, is_negative}
+use Rattle.resp_frames.specs.Frames.{Item, Asked, Passed, Line, is_quote, is_negative}
 
 -- what stands at the front of the bytes and what follows it; or that more bytes are due; or the fault
 pub data Read (A : Type 0) : Type 0 where
@@ -16,16 +16,16 @@ read_on (Took x rest) next = next x rest
 read_on Open next = Open
 read_on (Wrong rule from) next = Wrong rule from
 
--- the text up to the first CR, of fewer than so many bytes
+-- the text up to the first byte of this sort, of fewer than so many bytes
 abbrev pub with_front : ℕ → Read (List ℕ) → Read (List ℕ)
 with_front b (Took text rest) = Took (b ∷ text) rest
 with_front b Open = Open
 with_front b (Wrong rule from) = Wrong rule from
 
-unfoldable pub read_text : ℕ → List ℕ → Read (List ℕ)
-read_text zero bytes = Wrong 4 bytes
-read_text (suc k) [] = Open
-read_text (suc k) (b ∷ bytes) = if b == 13 then Took [] bytes else with_front b (read_text k bytes)
+unfoldable pub read_text : ℕ → ℕ → List ℕ → Read (List ℕ)
+read_text end zero bytes = Wrong 4 bytes
+read_text end (suc k) [] = Open
+read_text end (suc k) (b ∷ bytes) = if b == end then Took [] bytes else with_front b (read_text end k bytes)
 
 -- a header
 abbrev pub read_feed : List ℕ → Read (List ℕ) → Read (List ℕ)
@@ -34,9 +34,10 @@ read_feed all (Took text (b ∷ rest)) = if b == 10 then Took text rest else Wro
 read_feed all Open = Open
 read_feed all (Wrong rule from) = Wrong 4 all
 
-unfoldable pub read_header : ℕ → ℕ → List ℕ → Read (List ℕ)
-read_header mark strange [] = Open
-read_header mark strange (b ∷ bytes) = if b == mark then read_feed (b ∷ bytes) (read_text 65536 bytes) else Wrong strange (b ∷ bytes)
+-- (its mark isn't looked at)
+unfoldable pub read_header : List ℕ → Read (List ℕ)
+read_header [] = Open
+read_header (mark ∷ bytes) = read_feed (mark ∷ bytes) (read_text 13 65536 bytes)
 
 -- a canonical number up to a limit
 unfoldable pub read_number : ℕ → List ℕ → Option ℕ
@@ -63,19 +64,46 @@ abbrev pub read_word : List ℕ → Option ℕ → List ℕ → Read (List ℕ)
 read_word all None rest = Wrong 3 all
 read_word all (Some len) rest = read_body len rest
 
+abbrev pub read_marked : List ℕ → Read (List ℕ)
+read_marked bytes = read_on (read_header bytes) (λ text rest. read_word bytes (read_number 536870912 text) rest)
+
 unfoldable pub read_bulk : List ℕ → Read (List ℕ)
-read_bulk bytes = read_on (read_header 36 2 bytes) (λ text rest. read_word bytes (read_number 536870912 text) rest)
+read_bulk [] = Open
+read_bulk (b ∷ bytes) = if b == 36 then read_marked (b ∷ bytes) else Wrong 2 (b ∷ bytes)
 
 -- so many bulk strings
 unfoldable pub read_bulks : ℕ → List ℕ → Read Words
 read_bulks zero bytes = Took [] bytes
 read_bulks (suc n) bytes = read_on (read_bulk bytes) (λ word rest. read_on (read_bulks n rest) (λ words end. Took (word ∷ words) end))
 
--- an item
+-- a request of bulk strings
 abbrev pub read_words : List ℕ → List ℕ → Option ℕ → List ℕ → Read Item
 read_words all text None rest = Wrong 1 all
 read_words all text (Some zero) rest = Took (Passed text) rest
 read_words all text (Some (suc n)) rest = read_on (read_bulks (suc n) rest) (λ words end. Took (Asked words) end)
 
+abbrev pub read_array : List ℕ → Read Item
+read_array bytes = read_on (read_header bytes) (λ text rest. read_words bytes text (read_count text) rest)
+
+-- a line from its first quote on
+unfoldable pub from_quote : List ℕ → List ℕ
+from_quote [] = []
+from_quote (b ∷ text) = if is_quote b then b ∷ text else from_quote text
+
+-- an inline request
+abbrev pub read_quote : List ℕ → List ℕ → List ℕ → Read Item
+read_quote text [] rest = Took (Line text) rest
+read_quote text (b ∷ back) rest = Wrong 6 (b ∷ back ++ 10 ∷ rest)
+
+abbrev pub after_line : List ℕ → Read (List ℕ) → Read Item
+after_line all (Took text rest) = read_quote text (from_quote text) rest
+after_line all Open = Open
+after_line all (Wrong rule from) = Wrong 4 all
+
+unfoldable pub read_line : List ℕ → Read Item
+read_line bytes = after_line bytes (read_text 10 65537 bytes)
+
+-- an item
 unfoldable pub read_item : List ℕ → Read Item
-read_item bytes = read_on (read_header 42 6 bytes) (λ text rest. read_words bytes text (read_count text) rest)
+read_item [] = Open
+read_item (b ∷ bytes) = if b == 42 then read_array (b ∷ bytes) else read_line (b ∷ bytes)

@@ -1,14 +1,14 @@
 -- What the reading of a request tells.
-use Rattle.std.specs.Prelude.{◌≡◌, ◌≢◌, ◌==◌, ℕ, ◌+◌, ◌≤◌, ◌<◌, ◌⊎◌, List, [], ◌∷◌, ◌++◌, length, take, drop, map, if◌then◌else◌}
-use Rattle.std.specs.List.{AllByRecursion}
+use Rattle.std.specs.Prelude.{◌≡◌, ◌≢◌, ◌==◌, ℕ, ◌+◌, ◌≤◌, ◌<◌, ◌⊎◌, List, [], ◌∷◌, ◌++◌, length, take, drop, if◌then◌else◌}
 use Rattle.std.specs.Fmt.{decimal}
 use Rattle.plain_world.specs.Spelling.{line_end}
-use Rattle.plain_world.specs.Words.{Words}
-use Rattle.resp_frames.specs.Frames.{header, request_bytes, IsRequest, IsText, IsNoCount}
+use Rattle.resp_frames.specs.Frames.{header, IsRequest, Item, item_bytes, IsItem, asked}
 use Rattle.resp_frames.specs.Faults.{Begun, RequestFault}
 use Rattle.resp_frames.specs.Reading.{read_item, read_body, Open}
-use Rattle.resp_frames.specs.HeaderRead.{IsScanned}
-use Rattle.resp_frames.specs.declared.request.Span.{Span}
+use Rattle.resp_frames.specs.HeaderRead.{IsScanned, IsOther}
+use Rattle.resp_frames.specs.LineRead.{IsLineScanned}
+pub use Rattle.resp_frames.specs.LineRead.{word_at, words_at, AreWithin}
+use Rattle.resp_frames.specs.declared.span.Span.{Span}
 use Rattle.resp_frames.specs.declared.request.Due.{Due}
 use Rattle.resp_frames.specs.declared.request.Due.TheVariants as due
 use Rattle.resp_frames.specs.declared.request.Progress.{Progress}
@@ -19,22 +19,18 @@ use Rattle.resp_frames.specs.declared.request.Step.TheVariants as step
 use Rattle.resp_frames.specs.declared.request.Found.{Found}
 use Rattle.resp_frames.specs.declared.request.Found.TheVariants as found
 
--- the word in its place
-abbrev pub word_at : List ℕ → Span → List ℕ
-word_at bytes s = take s.len (drop s.start bytes)
-
-abbrev pub words_at : List ℕ → List Span → Words
-words_at bytes spans = map (word_at bytes) spans
-
--- the words stand within the bytes
-abbrev pub AreWithin : List ℕ → List Span → Type 0
-AreWithin bytes spans = AllByRecursion (λ s. s.start + s.len ≤ length bytes) spans
-
 -- the number of words is due
 pub record StandsAtCount (bytes : List ℕ) (read scanned : ℕ) (spans : List Span) : Type 0 where
   pub start : read ≡ 0
   pub none : spans ≡ []
   pub header : IsScanned bytes scanned
+
+-- the end of an inline request's line is due
+pub record StandsAtLine (bytes : List ℕ) (read scanned : ℕ) (spans : List Span) : Type 0 where
+  pub start : read ≡ 0
+  pub none : spans ≡ []
+  pub begun : IsOther 42 bytes
+  pub line : IsLineScanned bytes scanned
 
 -- the length of a word is due
 pub record StandsAtLength (bytes : List ℕ) (read words scanned : ℕ) (spans : List Span) : Type 0 where
@@ -55,6 +51,7 @@ pub record StandsAtBody (bytes : List ℕ) (read words len : ℕ) (spans : List 
 -- so far is a request read
 abbrev pub Stands : List ℕ → ℕ → List Span → Due → Type 0
 Stands bytes read spans (due.Count scanned) = StandsAtCount bytes read scanned spans
+Stands bytes read spans (due.Line scanned) = StandsAtLine bytes read scanned spans
 Stands bytes read spans (due.Length words scanned) = StandsAtLength bytes read words scanned spans
 Stands bytes read spans (due.Body words len) = StandsAtBody bytes read words len spans
 
@@ -88,17 +85,20 @@ pub record IsRequestAt (bytes : List ℕ) (end : ℕ) (spans : List Span) : Type
   pub within : end ≤ length bytes
   pub inside : AreWithin bytes spans
   pub sound : IsRequest (words_at bytes spans)
-  pub whole : bytes ≡ request_bytes (words_at bytes spans) ++ drop end bytes
+  pub item : Item
+  pub good : IsItem item
+  pub asks : asked item ≡ words_at bytes spans ∷ []
+  pub whole : bytes ≡ item_bytes item ++ drop end bytes
 
--- a header that is passed over
+-- a header or a line that is passed over
 pub record IsPassedAt (bytes : List ℕ) (end : ℕ) (spans : List Span) : Type 0 where
-  pub text : List ℕ
   pub some : 0 < end
   pub within : end ≤ length bytes
   pub none : spans ≡ []
-  pub count : IsNoCount text
-  pub plain : IsText text
-  pub whole : bytes ≡ header 42 text ++ drop end bytes
+  pub item : Item
+  pub good : IsItem item
+  pub asks : asked item ≡ []
+  pub whole : bytes ≡ item_bytes item ++ drop end bytes
 
 -- a rule is broken at this byte
 pub record IsBrokenAt (bytes : List ℕ) (rule at : ℕ) : Type 0 where

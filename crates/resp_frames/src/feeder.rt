@@ -5,7 +5,8 @@ ghost use Rattle.plain_world.specs.Words.{IsRequest};
 ghost use Rattle.resp_frames.specs.Feeding.{NextFound, NextIs, HasFed};
 ghost use Rattle.resp_frames.specs.RequestRead.{word_at, words_at, AreWithin, Stands};
 
-use crate::request::{Found, Progress, Span, Spans, read_request};
+use crate::request::{Found, Progress, read_request};
+use crate::span::{Span, Spans};
 use smallvec::SmallVec;
 use std::alloc::{AllocError, Global};
 use std::marker::Model;

@@ -1,7 +1,7 @@
 //! The header of a request or of a bulk string: a mark, a number, CR LF.
 
 ghost use Rattle.std.specs.Prelude.{◌≡◌, ◌≢◌, ◌<◌, ◌≤◌, ℕ, length, take, slice_index};
-ghost use Rattle.resp_frames.specs.Frames.{IsPlainText};
+ghost use Rattle.resp_frames.specs.Frames.{IsPlainText, IsWithout};
 ghost use Rattle.resp_frames.specs.HeaderRead.{Reads, ReadsText, IsScanned};
 
 // At most so many bytes stand before the CR of a header, its mark among them.
@@ -10,6 +10,8 @@ const LONGEST: usize = 65_536;
 /// What stands at the front of some bytes.
 #[derive(Clone, Copy)]
 pub enum Header {
+    /// The first byte is another one than the mark.
+    Other,
     /// A header that isn't whole. So many bytes of its text are there, and hold no CR.
     Open(usize),
     /// The text that follows the mark is so long.
@@ -18,19 +20,19 @@ pub enum Header {
     Broken(u8, usize),
 }
 
-// How many bytes stand before the first CR, up to the most that may. The first `scanned` hold none.
-fn before_return(bytes: &[u8], scanned: usize) -> usize
+/// How many bytes stand before the first `end`, up to `limit`. The first `scanned` are known to be others.
+pub fn before_end(bytes: &[u8], end: u8, limit: usize, scanned: usize) -> usize
     requires within { scanned ≤ length bytes.now }
-    requires few { scanned ≤ 65536 }
-    requires plain { IsPlainText (take scanned bytes.now) }
+    requires few { scanned ≤ limit }
+    requires plain { IsWithout end (take scanned bytes.now) }
     ensures within { result ≤ length bytes.now }
-    ensures few { result ≤ 65536 }
-    ensures plain { IsPlainText (take result bytes.now) }
-    ensures found { result < length bytes.now → result ≢ 65536 → slice_index bytes.now result ≡ 13 }
+    ensures few { result ≤ limit }
+    ensures plain { IsWithout end (take result bytes.now) }
+    ensures found { result < length bytes.now → result ≢ limit → slice_index bytes.now result ≡ end }
 {
-    let most = bytes.len().min(LONGEST);
+    let most = bytes.len().min(limit);
     for i in scanned..most {
-        if bytes[i] == b'\r' {
+        if bytes[i] == end {
             return i;
         }
     }
@@ -44,7 +46,7 @@ fn read_text(bytes: &[u8], scanned: usize) -> Header
     requires plain { IsPlainText (take scanned bytes.now) }
     ensures { ReadsText bytes.now result }
 {
-    let text = before_return(bytes, scanned);
+    let text = before_end(bytes, b'\r', LONGEST, scanned);
     if text == LONGEST {
         return Header::Broken(4, 0);
     }
@@ -57,17 +59,17 @@ fn read_text(bytes: &[u8], scanned: usize) -> Header
     Header::Text(text)
 }
 
-/// Reads the header at the front. Where the mark is another byte, that breaks the rule `strange`.
+/// Reads the header at the front, which begins with this mark.
 /// The first `scanned` bytes of its text are known to hold no CR, and aren't read again.
-pub fn read_header(bytes: &[u8], mark: u8, strange: u8, scanned: usize) -> Header
+pub fn read_header(bytes: &[u8], mark: u8, scanned: usize) -> Header
     requires { IsScanned bytes.now scanned }
-    ensures { Reads mark strange bytes.now result }
+    ensures { Reads mark bytes.now result }
 {
     if bytes.is_empty() {
         return Header::Open(0);
     }
     if bytes[0] != mark {
-        return Header::Broken(strange, 0);
+        return Header::Other;
     }
     read_text(&bytes[1..], scanned)
 }

@@ -5,8 +5,10 @@ mod fault_lines;
 mod feeder;
 mod header;
 mod laws;
+mod line;
 mod number;
 mod request;
+mod span;
 mod spelling;
 #[cfg(test)]
 mod tests;

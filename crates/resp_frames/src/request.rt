@@ -1,29 +1,22 @@
-//! A request: a header with a number of words, and so many bulk strings. It is read as far as its bytes have come,
-//! and later from there on.
+//! A request: a header with a number of words and so many bulk strings, or a line. It is read as far as its bytes have
+//! come, and later from there on.
 
 ghost use Rattle.std.specs.Prelude.{◌≡◌, ◌≤◌, IfOk};
-ghost use Rattle.resp_frames.specs.RequestRead.{Stands, StandsAtCount, StandsAtLength, StandsAtBody, ReadsBody, ReadsStep, ReadsRequest, step_after};
+ghost use Rattle.resp_frames.specs.RequestRead.{Stands, StandsAtCount, StandsAtLine, StandsAtLength, StandsAtBody, ReadsBody, ReadsStep, ReadsRequest, step_after};
 
 use crate::header::{Header, read_header};
+use crate::line::{Inline, push_words, read_line, without_return};
 use crate::number::{Count, read_count, small_number};
-use smallvec::SmallVec;
+use crate::span::{Span, Spans};
 use std::alloc::AllocError;
-
-/// Where a word stands in the bytes of its request.
-#[derive(Clone, Copy, Default)]
-pub struct Span {
-    pub start: usize,
-    pub len: usize,
-}
-
-/// The words of a request, of which most have a few.
-pub type Spans = SmallVec<Span, 8>;
 
 /// What is due next in a request.
 #[derive(Clone, Copy)]
 pub enum Due {
     /// The number of its words. So many bytes of that header's text hold no CR.
     Count(usize),
+    /// The end of an inline request's line. So many bytes of it hold no LF.
+    Line(usize),
     /// The length of a word, in a request of so many words. So many bytes of that header's text hold no CR.
     Length(usize, usize),
     /// The bytes of a word, in a request of so many words, and their length.
@@ -59,7 +52,7 @@ pub enum Step {
     Open(Progress),
     /// The request ends there.
     Request(usize),
-    /// A header that is passed over ends there.
+    /// A header or a line that is passed over ends there.
     Passed(usize),
     /// A rule is broken, at this byte.
     Broken(u8, usize),
@@ -72,30 +65,53 @@ pub enum Found {
     Open(Progress),
     /// A request that ends there.
     Request(usize),
-    /// A header that is passed over, which ends there.
+    /// A header or a line that is passed over, which ends there.
     Passed(usize),
     /// A rule is broken, at this byte.
     Broken(u8, usize),
 }
 
-// Reads the number of words.
-fn step_count(bytes: &[u8], scanned: usize, spans: &Spans) -> Step
-    requires { StandsAtCount bytes.now 0 scanned spans.now.items }
-    ensures { ReadsStep bytes.now 0 spans.now.items result }
+// Reads an inline request.
+fn step_line(bytes: &[u8], scanned: usize, spans: &mut Spans) -> Result<Step, AllocError>
+    requires { StandsAtLine bytes.now 0 scanned spans.old.items }
+    ensures { IfOk result (λ step. ReadsStep bytes.now 0 spans.new.items step) }
 {
-    match read_header(bytes, b'*', 6, scanned) {
-        Header::Open(text) => Step::Open(Progress {
+    match read_line(bytes, scanned) {
+        Inline::Open(text) => Ok(Step::Open(Progress {
+            read: 0,
+            due: Due::Line(text),
+        })),
+        Inline::Broken(rule, at) => Ok(Step::Broken(rule, at)),
+        Inline::Text(text) => {
+            push_words(without_return(&bytes[..text]), spans)?;
+            if spans.is_empty() {
+                Ok(Step::Passed(text + 1))
+            } else {
+                Ok(Step::Request(text + 1))
+            }
+        }
+    }
+}
+
+// Reads the number of words, or the line where the request is inline.
+fn step_count(bytes: &[u8], scanned: usize, spans: &mut Spans) -> Result<Step, AllocError>
+    requires { StandsAtCount bytes.now 0 scanned spans.old.items }
+    ensures { IfOk result (λ step. ReadsStep bytes.now 0 spans.new.items step) }
+{
+    match read_header(bytes, b'*', scanned) {
+        Header::Other => step_line(bytes, 0, spans),
+        Header::Open(text) => Ok(Step::Open(Progress {
             read: 0,
             due: Due::Count(text),
-        }),
-        Header::Broken(rule, at) => Step::Broken(rule, at),
+        })),
+        Header::Broken(rule, at) => Ok(Step::Broken(rule, at)),
         Header::Text(text) => match read_count(&bytes[1..text + 1]) {
-            Count::Wrong => Step::Broken(1, 0),
-            Count::Passed => Step::Passed(text + 3),
-            Count::Words(words) => Step::On(Progress {
+            Count::Wrong => Ok(Step::Broken(1, 0)),
+            Count::Passed => Ok(Step::Passed(text + 3)),
+            Count::Words(words) => Ok(Step::On(Progress {
                 read: text + 3,
                 due: Due::Length(words, 0),
-            }),
+            })),
         },
     }
 }
@@ -106,7 +122,8 @@ fn step_length(bytes: &[u8], read: usize, words: usize, scanned: usize, spans: &
     ensures { ReadsStep bytes.now read spans.now.items result }
 {
     let rest = &bytes[read..];
-    match read_header(rest, b'$', 2, scanned) {
+    match read_header(rest, b'$', scanned) {
+        Header::Other => Step::Broken(2, read),
         Header::Open(text) => Step::Open(Progress {
             read,
             due: Due::Length(words, text),
@@ -197,7 +214,8 @@ fn take_step(bytes: &[u8], progress: Progress, spans: &mut Spans) -> Result<Step
     ensures { IfOk result (λ step. ReadsStep bytes.now progress.read spans.new.items step) }
 {
     match progress.due {
-        Due::Count(scanned) => Ok(step_count(bytes, scanned, spans)),
+        Due::Count(scanned) => step_count(bytes, scanned, spans),
+        Due::Line(scanned) => step_line(bytes, scanned, spans),
         Due::Length(words, scanned) => {
             Ok(step_length(bytes, progress.read, words, scanned, spans))
         }

@@ -1,9 +1,10 @@
-//! Broken streams, each with its rule and the place named, worked out from the rules; and the feeder's small answers.
+//! Broken streams, each with its rule and the place named, worked out from the rules; the words of inline requests; and
+//! the feeder's small answers.
 
 ghost use Rattle.std.specs.Prelude.{◌≤◌, length};
 ghost use Rattle.resp_frames.specs.Feeding.{SameFed};
 
-use crate::{Feeder, FrameFault, put_all, put_fault, put_part};
+use crate::{Feeder, FrameFault, Request, put_all, put_fault, put_part};
 use outside::MemSink;
 use plain_world::{Part, Refusal};
 use std::alloc::{AllocError, Global};
@@ -28,8 +29,8 @@ const ROWS: [Row; 17] = [
     Row(b"*1x\r\r", 0, 5, 4),
     Row(b"*1\r\n$3\r\nFOOx", 0, 5, 11),
     Row(b"*1\r\n$3\r\nFOO\rx", 0, 5, 12),
-    Row(b"PING\r\n", 0, 6, 0),
-    Row(b"*1\r\n$3\r\nFOO\r\n\r\n", 1, 6, 13),
+    Row(b"GET \"a\"\n", 0, 6, 4),
+    Row(b"*1\r\n$3\r\nFOO\r\n\r\n'\n", 1, 6, 15),
 ];
 
 // Gives out what is whole, and says how many requests that were, and why the stream broke.
@@ -93,6 +94,182 @@ fn words_and_what_is_kept(rt: HostRuntime) -> Result<(), Fail> {
     assert_eq!(rt; request.word(1), b"".as_slice());
     assert_eq!(rt; feeder.next_request(), Ok(false));
     assert_eq!(rt; feeder.kept(), 10);
+    Ok(())
+}
+
+/// A stream, the words of its requests, each followed by a bar and the last of a request by a semicolon too, how many
+/// bytes are left, and the rule and the byte where it breaks.
+struct WordsRow(&'static [u8], &'static [u8], usize, Option<(u8, u64)>);
+
+const WORDS: [WordsRow; 20] = [
+    WordsRow(b"PING\r\n", b"PING|;", 0, None),
+    WordsRow(b"PING\nPING\n", b"PING|;PING|;", 0, None),
+    WordsRow(b"\n\r\n \t \n\t\r\n", b"", 0, None),
+    WordsRow(b"  SET\ta \t b\t\r\n", b"SET|a|b|;", 0, None),
+    // every CR but the one before LF is a byte of a word
+    WordsRow(b"SET a\rb \r\r\n", b"SET|a\rb|\r|;", 0, None),
+    WordsRow(b"\rGET \r \n", b"\rGET|\r|;", 0, None),
+    // nothing but spaces and tabs splits
+    WordsRow(b"a\x0bb\x0cc \0\xff\n", b"a\x0bb\x0cc|\0\xff|;", 0, None),
+    WordsRow(b" *1\r\n", b"*1|;", 0, None),
+    WordsRow(b"$4\r\nPING\r\n", b"$4|;PING|;", 0, None),
+    // between requests of bulk strings
+    WordsRow(
+        b"*1\r\n$4\r\nPING\r\nECHO a\n*1\r\n$4\r\nQUIT\r\nQUIT\n",
+        b"PING|;ECHO|a|;QUIT|;QUIT|;",
+        0,
+        None,
+    ),
+    WordsRow(b"*0\r\nPING\r\n\n*-1\r\n", b"PING|;", 0, None),
+    WordsRow(b"*1\r\n$3\r\n'\"\n\r\n", b"'\"\n|;", 0, None),
+    // cut
+    WordsRow(b"PING", b"", 4, None),
+    WordsRow(b"PING\nPING\r", b"PING|;", 5, None),
+    WordsRow(b"GET \"a\"", b"", 7, None),
+    // the first quote of a whole line
+    WordsRow(b"GET \"a\"\n", b"", 8, Some((6, 4))),
+    WordsRow(b"\nPING\nGET 'a\"'\r\nPING\n", b"PING|;", 15, Some((6, 10))),
+    WordsRow(b"\"\n", b"", 2, Some((6, 0))),
+    WordsRow(b"a \r'\n", b"", 5, Some((6, 3))),
+    WordsRow(b"PING\n*1\r\n'\n", b"PING|;", 6, Some((2, 9))),
+];
+
+// Adds the words of a request.
+fn say(request: &Request<'_>, said: &mut Vec<u8>) -> Result<(), AllocError> {
+    for index in 0..request.len() {
+        said.extend_from_slice(request.word(index))?;
+        said.push(b'|')?;
+    }
+    said.push(b';')?;
+    Ok(())
+}
+
+// Adds the words of what is whole, and says why the stream broke.
+fn gathered(feeder: &mut Feeder, said: &mut Vec<u8>) -> Result<Option<FrameFault>, AllocError>
+    ensures { SameFed feeder.old feeder.new }
+{
+    for _ in 0..100 {
+        match feeder.next_request() {
+            Ok(true) => say(&feeder.current(), said)?,
+            Ok(false) => return Ok(None),
+            Err(fault) => return Ok(Some(fault)),
+        }
+    }
+    Ok(None)
+}
+
+/// What is read of a stream.
+#[derive(Drop)]
+struct Outcome {
+    said: Vec<u8>,
+    kept: usize,
+    fault: Option<FrameFault>,
+}
+
+// Feeds the stream in two pieces.
+fn in_two(alloc: Global, stream: &[u8], first: usize) -> Result<Outcome, AllocError>
+    requires first { first ≤ length stream.now }
+    requires few { length stream.now ≤ 100000 }
+{
+    let mut feeder = Feeder::new(alloc);
+    let mut said = Vec::new(alloc);
+    feeder.feed(&stream[..first])?;
+    gathered(&mut feeder, &mut said)?;
+    feeder.feed(&stream[first..])?;
+    let fault = gathered(&mut feeder, &mut said)?;
+    Ok(Outcome {
+        said,
+        kept: feeder.kept(),
+        fault,
+    })
+}
+
+// Feeds the stream byte by byte.
+fn in_bytes(alloc: Global, stream: &[u8]) -> Result<Outcome, AllocError>
+    requires few { length stream.now ≤ 100000 }
+{
+    let mut feeder = Feeder::new(alloc);
+    let mut said = Vec::new(alloc);
+    let mut fault = None;
+    for i in 0..stream.len() {
+        feeder.feed(&stream[i..i + 1])?;
+        fault = gathered(&mut feeder, &mut said)?;
+    }
+    Ok(Outcome {
+        said,
+        kept: feeder.kept(),
+        fault,
+    })
+}
+
+#[test]
+fn inline_requests_and_their_words(rt: HostRuntime) -> Result<(), Fail> {
+    for WordsRow(stream, said, kept, broken) in &WORDS {
+        assert!(rt; stream.len() <= 1000);
+        let due = match broken {
+            Some((fault, at)) => Some(FrameFault::Protocol {
+                fault: *fault,
+                at: *at,
+            }),
+            None => None,
+        };
+        for first in 0..=stream.len() {
+            let read = in_two(rt.alloc(), stream, first)?;
+            assert_eq!(rt;
+                (read.said.as_slice(), read.kept, read.fault),
+                (*said, *kept, due)
+            );
+        }
+        let read = in_bytes(rt.alloc(), stream)?;
+        assert_eq!(rt;
+            (read.said.as_slice(), read.kept, read.fault),
+            (*said, *kept, due)
+        );
+    }
+    Ok(())
+}
+
+// A line of 65,536 bytes before its LF is taken, as one word or many; one byte more is too long, whatever it is.
+#[test]
+fn lines_of_the_longest(rt: HostRuntime) -> Result<(), Fail> {
+    for blank in [b'a', b' ', b'\t'] {
+        let mut line = Vec::new(rt.alloc());
+        let mut due = Vec::new(rt.alloc());
+        for _ in 0..32_768 {
+            line.extend_from_slice(&[b'a', blank])?;
+            due.extend_from_slice(if blank == b'a' { b"aa" } else { b"a|" })?;
+        }
+        line.push(b'\n')?;
+        due.extend_from_slice(if blank == b'a' {
+            b"|;".as_slice()
+        } else {
+            b";".as_slice()
+        })?;
+        for first in [0, 1, 65_535, 65_536, 65_537] {
+            assert!(rt; first <= line.len() && line.len() <= 100_000);
+            let read = in_two(rt.alloc(), line.as_slice(), first)?;
+            assert!(rt; read.said.as_slice() == due.as_slice());
+            assert_eq!(rt; (read.kept, read.fault), (0, None));
+        }
+    }
+    Ok(())
+}
+
+#[test]
+fn lines_that_are_too_long(rt: HostRuntime) -> Result<(), Fail> {
+    for last in [b"aa", b"a\n", b"'\n", b"\r\n"] {
+        let mut line = vec![in rt.alloc(); b'a'; 65_536]?;
+        line.extend_from_slice(last)?;
+        for first in [0, 1, 65_535, 65_536, 65_537, 65_538] {
+            assert!(rt; first <= line.len() && line.len() <= 100_000);
+            let read = in_two(rt.alloc(), line.as_slice(), first)?;
+            let due = FrameFault::Protocol { fault: 4, at: 0 };
+            assert_eq!(rt;
+                (read.said.as_slice(), read.kept, read.fault),
+                (b"".as_slice(), 65_538, Some(due))
+            );
+        }
+    }
     Ok(())
 }
 

@@ -59,7 +59,7 @@ impl Counting {
 /// An input, what is answered, how the serving ends, and how many requests are executed.
 struct Row(&'static [u8], &'static [u8], Ended, u64);
 
-const ROWS: [Row; 12] = [
+const ROWS: [Row; 14] = [
     Row(b"", b"", Ended::Whole, 0),
     Row(
         b"*1\r\n$1\r\na\r\n*2\r\n$1\r\na\r\n$0\r\n\r\n",
@@ -96,11 +96,19 @@ const ROWS: [Row; 12] = [
         0,
     ),
     Row(
-        b"*1\r\n$1\r\na\r\nPING\r\n",
-        b":1\r\n-ERR Protocol error: inline request not taken at byte 11\r\n",
-        Ended::Protocol { rule: 6, at: 11 },
+        b"*1\r\n$1\r\na\r\nGET 'a'\r\n",
+        b":1\r\n-ERR Protocol error: inline request not taken at byte 15\r\n",
+        Ended::Protocol { rule: 6, at: 15 },
         1,
     ),
+    // inline requests, of which those without words are passed over
+    Row(
+        b"a b\n\r\n \tQUIT now\r\na\n",
+        b":2\r\n:2\r\n",
+        Ended::Quit,
+        2,
+    ),
+    Row(b"a\nQUIT\r", b":1\r\n", Ended::Cut, 1),
     Row(b"*", b"", Ended::Cut, 0),
     Row(
         b"*1\r\n$1\r\na\r\n*1\r\n$4\r\nQUIT\r",

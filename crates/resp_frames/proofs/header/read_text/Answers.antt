@@ -3,10 +3,10 @@ use Rattle.resp_frames.proofs.header.read_text.Goals as goal
 
 pub returns-then-text-eq-LONGEST : goal.returns-then-text-eq-LONGEST
 returns-then-text-eq-LONGEST c =
-    let e = c.before_return-text.ensures in
-    endless c.args.bytes.now c.before_return-text.result (record { within = e.within; few = e.few; plain = e.plain; found = e.found }) c.if-text-eq-LONGEST.true
+    let e = c.before_end-text.ensures in
+    endless c.args.bytes.now c.before_end-text.result (record { within = e.within; few = e.few; plain = e.plain; found = e.found }) c.if-text-eq-LONGEST.true
 
 pub returns-then-bytes-text-ne10 : goal.returns-then-bytes-text-ne10
 returns-then-bytes-text-ne10 c =
-    let e = c.before_return-text.ensures in
-    no_line_end c.args.bytes.now c.before_return-text.result (record { within = e.within; few = e.few; plain = e.plain; found = e.found }) c.if-text-eq-LONGEST.false c.if-text-bytes.false c.if-bytes-text-ne10.true
+    let e = c.before_end-text.ensures in
+    no_line_end c.args.bytes.now c.before_end-text.result (record { within = e.within; few = e.few; plain = e.plain; found = e.found }) c.if-text-eq-LONGEST.false c.if-text-bytes.false c.if-bytes-text-ne10.true

@@ -1,4 +1,5 @@
 use Rattle.resp_frames.proofs.RequestSteps.{open_body, broken_body}
+use Rattle.resp_frames.proofs.BodySteps.{body_done}
 use Rattle.resp_frames.proofs.request.step_body.Goals as goal
 
 pub returns-in-Open : goal.returns-in-Open
@@ -6,3 +7,8 @@ returns-in-Open c = open_body c.args.bytes.now c.args.read c.args.words c.args.l
 
 pub returns-in-Broken : goal.returns-in-Broken
 returns-in-Broken c = broken_body c.args.bytes.now c.args.read c.args.words c.args.len c.in-Broken.at c.args.spans.now.items c.requires c.in-Broken.ensures
+
+pub returns-in_ok-push-in-Whole : goal.returns-in_ok-push-in-Whole
+returns-in_ok-push-in-Whole c =
+    body_done c.args.bytes.now c.args.read c.args.words c.args.len c.len.result c.args.spans.now.items c.push.new.self.items c.after_word.result c.requires c.in-Whole.ensures
+    c.in_ok-push-in-Whole.ensures.ok c.len.ensures.value c.after_word.ensures

@@ -1,4 +1,5 @@
 use Rattle.resp_frames.proofs.RequestSteps.{open_count, broken_count, wrong_count}
+use Rattle.resp_frames.proofs.BodySteps.{passed_header}
 use Rattle.resp_frames.proofs.request.step_count.Goals as goal
 
 pub returns-in-Open : goal.returns-in-Open
@@ -9,3 +10,6 @@ returns-in-Broken c = broken_count c.args.bytes.now c.in-Broken.rule c.in-Broken
 
 pub returns-in-Wrong : goal.returns-in-Wrong
 returns-in-Wrong c = wrong_count c.args.bytes.now c.in-Text.text c.in-Text.ensures c.in-Wrong.ensures
+
+pub returns-in-Passed : goal.returns-in-Passed
+returns-in-Passed c = passed_header c.args.bytes.now c.args.scanned c.in-Text.text c.args.spans.now.items c.requires c.in-Text.ensures c.in-Passed.ensures
