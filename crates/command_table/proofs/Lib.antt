@@ -1,4 +1,9 @@
 pub mod Tables
 pub mod Told
 pub mod Shapes
+pub mod FamilyRows
 pub mod StringRows
+pub mod KeyRows
+pub mod Names
+pub mod Chosen
+pub mod OwnWords

@@ -1,18 +1,15 @@
 -- The code's table against the rows of the definition.
-use Rattle.std.proofs.Common.{◌≡◌, ℕ, List, [], ◌∷◌, length, map, Bool, true, false, Result, Ok, Err, Option, Some, None, bytes_eq, refl, sym, ap, subst, ◌∙◌}
+use Rattle.std.proofs.Common.{◌≡◌, ◌≢◌, ℕ, ◌≤◌, arith, List, [], ◌∷◌, length, map, Bool, true, false, Err, Option, Some, None, bytes_eq, refl, sym, ap, subst, ◌∙◌}
 use Rattle.std.proofs.lemmas.List.{length-map}
-use Rattle.std.specs.Prelude.{if◌then◌else◌, ◌&&◌, ◌||◌, ◌==◌}
+use Rattle.std.specs.Prelude.{nat_le, if◌then◌else◌, ◌&&◌, ◌||◌, ◌==◌}
 use Rattle.std.specs.List.{AllByRecursion}
 use Rattle.std.specs.Char.{to_ascii_lowercase}
-use Rattle.std.proofs.lemmas.Bool.{eq-eqb}
+use Rattle.std.proofs.lemmas.Bool.{eq-eqb, ne_eqb, leb-true}
 use Rattle.std.proofs.lemmas.Slice.Eq.{bytes_eq-Decides}
 use Rattle.plain_world.specs.Words.{Words, in_lower_case}
-use Rattle.plain_model.specs.StringWords.{string_rows, Row as Definition}
-use Rattle.plain_model.specs.Shapes.{and_then}
-use Rattle.plain_model.specs.Meant.{string_command}
+use Rattle.plain_model.specs.Shapes.{Row as Definition}
+use Rattle.plain_model.specs.Meant.{rows as all_rows, read_by, meant}
 use Rattle.plain_model.specs.declared.command.Command.{Command}
-use Rattle.plain_model.specs.declared.command.Command.TheVariants.{Strings}
-use Rattle.plain_world.specs.declared.refusal.Refusal.{Refusal}
 use Rattle.plain_world.specs.declared.refusal.Refusal.TheVariants.{UnknownCommand}
 use Rattle.command_table.specs.declared.table.Row.{Row}
 use Rattle.command_table.specs.declared.table.Name.{Name}
@@ -24,9 +21,9 @@ abbrev IsNone : List ℕ → List (List ℕ) → Type 0
 IsNone lower ns = AllByRecursion (λ n. bytes_eq lower n ≡ false) ns
 
 -- a word that is no name means no command
-unknown : (rows : List Definition) (lower : List ℕ) (words : Words) (otherwise : Result Command Refusal) → IsNone lower (map (λ row. row.name) rows) → string_command rows lower words otherwise ≡ otherwise
-unknown [] lower words otherwise h = refl
-unknown (row ∷ rows) lower words otherwise h = ap (λ b. if b then and_then (row.read words) (λ command. Ok (Strings command)) else string_command rows lower words otherwise) h.0 ∙ unknown rows lower words otherwise h.1
+unknown : (rows : List (Definition Command)) (lower : List ℕ) (words : Words) → IsNone lower (map (λ row. row.name) rows) → read_by rows lower words ≡ Err UnknownCommand
+unknown [] lower words h = refl
+unknown (row ∷ rows) lower words h = ap (λ b. if b then row.read words else read_by rows lower words) h.0 ∙ unknown rows lower words h.1
 
 both : (a b : Bool) → (a && b) ≡ true → (a ≡ true) × (b ≡ true)
 both true b e = (refl, e)
@@ -77,7 +74,7 @@ finds_in (row ∷ rows) word h =
     ] refl
 
 finds_all : (rows : List Row) (word : List ℕ) (answer : Option (Name × Shape)) → covered (length (in_lower_case word)) names (map (λ row. in_lower_case row.0.now) rows) ≡ true → FindsIn rows (in_lower_case word) answer → Finds word answer
-finds_all rows word None covers h = λ words. unknown string_rows (in_lower_case word) words (Err UnknownCommand) (none_of_length (in_lower_case word) names _ h covers)
+finds_all rows word None covers h = λ words. unknown all_rows (in_lower_case word) words (none_of_length (in_lower_case word) names _ h covers)
 finds_all rows word (Some found) covers h = h
 
 each_row : (rows : List Row) → map told_by rows ≡ map (λ row. row_of row.1) rows → AllByRecursion IsRow rows
@@ -92,3 +89,24 @@ finds rows word answer table e =
     let lengths : length word ≡ length (in_lower_case word) = sym (length-map word to_ascii_lowercase) in
     let C : ℕ → Type 0 = λ n. covered n names (map (λ row. in_lower_case row.0.now) rows) ≡ true in
     subst (Finds word) (sym e) (finds_all rows word (found_in rows word) (subst C lengths table.whole) (finds_in rows word (each_row rows table.right)))
+
+-- all names have between 3 and 11 bytes
+abbrev are_between : List (List ℕ) → Bool
+are_between [] = true
+are_between (n ∷ ns) = nat_le 3 (length n) && (nat_le (length n) 11 && are_between ns)
+
+none_covered : (len : ℕ) → ((n : ℕ) → 3 ≤ n → n ≤ 11 → n ≢ len) → (ns : List (List ℕ)) → are_between ns ≡ true → covered len ns [] ≡ true
+none_covered len h [] e = refl
+none_covered len h (n ∷ ns) e =
+    let low = both (nat_le 3 (length n)) (nat_le (length n) 11 && are_between ns) e in
+    let high = both (nat_le (length n) 11) (are_between ns) low.1 in
+    let other : (length n == len) ≡ false = ne_eqb (length n) len (h (length n) (leb-true 3 (length n) low.0) (leb-true (length n) 11 high.0)) in
+    ap (λ b. (if b then false else true) && covered len ns []) other ∙ none_covered len h ns high.1
+
+-- a word with a length that no command's name has names none
+pub no_name : (word : List ℕ) → length word ≢ 3 → length word ≢ 4 → length word ≢ 5 → length word ≢ 6 → length word ≢ 7 → length word ≢ 8 → length word ≢ 9 → length word ≢ 10 → length word ≢ 11 → (words : Words) → meant (word ∷ words) ≡ Err UnknownCommand
+no_name word n3 n4 n5 n6 n7 n8 n9 n10 n11 words =
+    let lower = in_lower_case word in
+    let lengths : length lower ≡ length word = length-map word to_ascii_lowercase in
+    let others : (n : ℕ) → 3 ≤ n → n ≤ 11 → n ≢ length lower = λ n low high e. omega (arith, low, high, e, lengths, n3, n4, n5, n6, n7, n8, n9, n10, n11) in
+    unknown all_rows lower words (none_of_length lower names [] tt (none_covered (length lower) others names refl))

@@ -1,13 +1,19 @@
 //! What the words of a request ask for: a command, or why they are refused.
 #![tactic(auto)]
 
+mod connection;
 mod fault;
+mod key_options;
+mod keys;
+mod options;
 mod reading;
-mod set_options;
 mod strings;
 mod table;
 #[cfg(test)]
+mod test_lines;
+#[cfg(test)]
 mod tests;
+mod times;
 mod words;
 
 pub use fault::ReadingFault;

@@ -1,11 +1,13 @@
 //! A request as a command.
 
-ghost use Rattle.std.specs.Prelude.{◌≡◌, ◌∷◌, length, drop, IfOk, true};
+ghost use Rattle.std.specs.Prelude.{◌≡◌, ◌<◌, ◌∷◌, length, drop, IfOk, true};
 ghost use Rattle.plain_model.specs.Meant.{meant, IsAsked};
 ghost use Rattle.command_table.specs.Readings.{Reads};
 ghost use Rattle.command_table.specs.Rows.{fits, row_of};
 
 use crate::ReadingFault;
+use crate::connection::read_connection;
+use crate::keys::read_key;
 use crate::strings::read_string;
 use crate::table::{Name, find};
 use plain_model::{Command, Refusal};
@@ -14,11 +16,14 @@ use std::alloc::Global;
 
 // Turns the words behind a known name into its command. They are as many as its row takes.
 fn read_named(alloc: Global, name: Name, request: &Request<'_>) -> Result<Command, ReadingFault>
-    requires { fits (row_of name).1 (length (drop 1 request.now)) ≡ true }
+    requires some { 0 < length request.now }
+    requires shape { fits (row_of name).1 (length (drop 1 request.now)) ≡ true }
     ensures { Reads ((row_of name).0 ∷ drop 1 request.now) result }
 {
     match name {
         Name::Strings(name) => read_string(alloc, name, request).map(Command::Strings),
+        Name::Keys(name) => read_key(alloc, name, request).map(Command::Keys),
+        Name::Connection(name) => { read_connection(alloc, name, request).map(Command::Connection) }
     }
 }
 

@@ -3,17 +3,19 @@
 ghost use Rattle.std.specs.Prelude.{◌≡◌, ◌<◌, [], ◌∷◌, length, drop, true, ◌==◌, ◌||◌, ◌+◌, nat_le};
 ghost use Rattle.plain_model.specs.Meant.{meant};
 ghost use Rattle.plain_model.specs.Shapes.{Plain, Whole, Offset, and_then, chosen};
-ghost use Rattle.plain_model.specs.StringWords.{set_choices, set_of, set_range_of, decrease_of};
+ghost use Rattle.plain_model.specs.StringWords.{set_choices, no_set_choices, set_of, getex_choices, no_getex_choices, getex_of, set_range_of, decrease_of};
 ghost use Rattle.plain_world.specs.Words.{longest};
 ghost use Rattle.plain_model.specs.declared.command.Command.TheVariants as commands;
-ghost use Rattle.command_table.specs.Readings.{Tells, TellsAs, at, told_at, no_choices};
+ghost use Rattle.command_table.specs.Readings.{Tells, TellsAs, at, told_at};
 ghost use Rattle.command_table.specs.Rows.{fits, string_row};
 
 use crate::ReadingFault;
-use crate::set_options::{condition, read_options};
+use crate::options::read_options;
 use crate::table::StringName;
+use crate::times::{condition, no_getex_options, no_set_options};
 use crate::words::{
-    copied, key_and_number, key_and_numbers, key_and_value, number, offset, pairs, words,
+    copied, key_and_number, key_and_numbers, key_and_value, key_span_and_value, number, offset,
+    pairs, words,
 };
 use plain_model::{LONGEST, Refusal, SetOptions, StringCommand};
 use resp_frames::Request;
@@ -22,10 +24,10 @@ use std::alloc::Global;
 // SET: a key, a value and options.
 fn set(alloc: Global, request: &Request<'_>) -> Result<StringCommand, ReadingFault>
     requires { 2 < length request.now }
-    ensures { Tells (and_then (chosen set_choices no_choices 0 (drop 3 request.now)) (set_of (at request.now 1) (at request.now 2))) result }
+    ensures { Tells (and_then (chosen set_choices no_set_choices 0 (drop 3 request.now)) (set_of (at request.now 1) (at request.now 2))) result }
 {
-    let options = read_options(request)?;
-    if options.nx && options.xx {
+    let options = read_options(no_set_options(), request, 3)?;
+    if options.nx && options.xx || options.twice {
         return Err(ReadingFault::Refused(Refusal::Syntax));
     }
     let (key, value) = key_and_value(alloc, request)?;
@@ -35,8 +37,22 @@ fn set(alloc: Global, request: &Request<'_>) -> Result<StringCommand, ReadingFau
         SetOptions {
             condition: condition(options),
             get: options.get,
+            lifetime: options.lifetime,
         },
     ))
+}
+
+// GETEX: a key and options.
+fn get_ex(alloc: Global, request: &Request<'_>) -> Result<StringCommand, ReadingFault>
+    requires { 1 < length request.now }
+    ensures { Tells (and_then (chosen getex_choices no_getex_choices 0 (drop 2 request.now)) (getex_of (at request.now 1))) result }
+{
+    let options = read_options(no_getex_options(), request, 2)?;
+    if options.twice {
+        return Err(ReadingFault::Refused(Refusal::Syntax));
+    }
+    let key = copied(alloc, request, 1)?;
+    Ok(StringCommand::GetEx(key, options.renewal))
 }
 
 // Whether a piece that is put at this place ends within the greatest length. An empty one puts nothing.
@@ -88,10 +104,21 @@ pub fn read_string(
         StringName::SetNx => {
             key_and_value(alloc, request).map(|(key, value)| StringCommand::SetNx(key, value))
         }
+        StringName::SetEx => key_span_and_value(alloc, request).map(|(
+            key,
+            n,
+            value,
+        )| StringCommand::SetEx(key, n, value)),
+        StringName::PSetEx => key_span_and_value(alloc, request).map(|(
+            key,
+            n,
+            value,
+        )| StringCommand::PSetEx(key, n, value)),
         StringName::GetSet => {
             key_and_value(alloc, request).map(|(key, value)| StringCommand::GetSet(key, value))
         }
         StringName::GetDel => copied(alloc, request, 1).map(StringCommand::GetDel),
+        StringName::GetEx => get_ex(alloc, request),
         StringName::MGet => words(alloc, request, 1).map(StringCommand::MGet),
         StringName::MSet => pairs(alloc, request, 1).map(StringCommand::MSet),
         StringName::MSetNx => pairs(alloc, request, 1).map(StringCommand::MSetNx),

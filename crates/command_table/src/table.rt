@@ -4,11 +4,11 @@ ghost use Rattle.std.specs.Prelude.{◌≡◌, bytes_eq, length};
 ghost use Rattle.plain_world.specs.Words.{in_lower_case};
 ghost use Rattle.command_table.specs.Rows.{fits, found_in, Finds, IsTable};
 
-use self::Name::Strings;
-use self::Shape::{Choices, Fixed, Pairs, Words};
+use self::Name::{Connection, Keys, Strings};
+use self::Shape::{Any, Between, Choices, Fixed, Pairs, Words};
 use self::StringName::{
-    Append, Decr, DecrBy, Get, GetDel, GetRange, GetSet, Incr, IncrBy, MGet, MSet, MSetNx, Set,
-    SetNx, SetRange, StrLen,
+    Append, Decr, DecrBy, Get, GetDel, GetEx, GetRange, GetSet, Incr, IncrBy, MGet, MSet, MSetNx,
+    PSetEx, Set, SetEx, SetNx, SetRange, StrLen,
 };
 use crate::words::is_word;
 
@@ -23,6 +23,10 @@ pub enum Shape {
     Pairs(usize),
     /// So many, and then options.
     Choices(usize),
+    /// At least so many, and at most so many.
+    Between(usize, usize),
+    /// Any.
+    Any,
 }
 
 /// Which command on strings.
@@ -31,8 +35,11 @@ pub enum StringName {
     Get,
     Set,
     SetNx,
+    SetEx,
+    PSetEx,
     GetSet,
     GetDel,
+    GetEx,
     MGet,
     MSet,
     MSetNx,
@@ -46,43 +53,126 @@ pub enum StringName {
     DecrBy,
 }
 
+/// Which command on keys.
+#[derive(Clone, Copy)]
+pub enum KeyName {
+    Del,
+    Unlink,
+    Exists,
+    Touch,
+    TypeOf,
+    Expire,
+    PExpire,
+    ExpireAt,
+    PExpireAt,
+    Ttl,
+    PTtl,
+    ExpireTime,
+    PExpireTime,
+    Persist,
+    Rename,
+    RenameNx,
+    CopyKey,
+    MoveKey,
+    RandomKey,
+    Object,
+}
+
+/// Which command on the connection or the server.
+#[derive(Clone, Copy)]
+pub enum ConnectionName {
+    Ping,
+    Echo,
+    Quit,
+    Select,
+    DbSize,
+    FlushDb,
+    FlushAll,
+}
+
 /// Which command, by its family.
 #[derive(Clone, Copy)]
 pub enum Name {
     Strings(StringName),
+    Keys(KeyName),
+    Connection(ConnectionName),
 }
 
 /// A command's name in lower case, which command that is, and its shape.
 pub struct Row(&'static [u8], Name, Shape);
 
-const OF_3: [Row; 2] = [
+const OF_3: [Row; 4] = [
     Row(b"get", Strings(Get), Fixed(1)),
     Row(b"set", Strings(Set), Choices(2)),
+    Row(b"del", Keys(KeyName::Del), Words(0)),
+    Row(b"ttl", Keys(KeyName::Ttl), Fixed(1)),
 ];
 
-const OF_4: [Row; 4] = [
+const OF_4: [Row; 11] = [
     Row(b"mget", Strings(MGet), Words(0)),
     Row(b"mset", Strings(MSet), Pairs(0)),
     Row(b"incr", Strings(Incr), Fixed(1)),
     Row(b"decr", Strings(Decr), Fixed(1)),
+    Row(b"type", Keys(KeyName::TypeOf), Fixed(1)),
+    Row(b"pttl", Keys(KeyName::PTtl), Fixed(1)),
+    Row(b"copy", Keys(KeyName::CopyKey), Choices(2)),
+    Row(b"move", Keys(KeyName::MoveKey), Fixed(2)),
+    Row(b"ping", Connection(ConnectionName::Ping), Between(0, 1)),
+    Row(b"echo", Connection(ConnectionName::Echo), Fixed(1)),
+    Row(b"quit", Connection(ConnectionName::Quit), Any),
 ];
 
-const OF_5: [Row; 1] = [Row(b"setnx", Strings(SetNx), Fixed(2))];
+const OF_5: [Row; 4] = [
+    Row(b"setnx", Strings(SetNx), Fixed(2)),
+    Row(b"setex", Strings(SetEx), Fixed(3)),
+    Row(b"getex", Strings(GetEx), Choices(1)),
+    Row(b"touch", Keys(KeyName::Touch), Words(0)),
+];
 
-const OF_6: [Row; 7] = [
+const OF_6: [Row; 15] = [
     Row(b"getset", Strings(GetSet), Fixed(2)),
     Row(b"getdel", Strings(GetDel), Fixed(1)),
+    Row(b"psetex", Strings(PSetEx), Fixed(3)),
     Row(b"msetnx", Strings(MSetNx), Pairs(0)),
     Row(b"append", Strings(Append), Fixed(2)),
     Row(b"strlen", Strings(StrLen), Fixed(1)),
     Row(b"incrby", Strings(IncrBy), Fixed(2)),
     Row(b"decrby", Strings(DecrBy), Fixed(2)),
+    Row(b"exists", Keys(KeyName::Exists), Words(0)),
+    Row(b"expire", Keys(KeyName::Expire), Choices(2)),
+    Row(b"unlink", Keys(KeyName::Unlink), Words(0)),
+    Row(b"rename", Keys(KeyName::Rename), Fixed(2)),
+    Row(b"object", Keys(KeyName::Object), Fixed(2)),
+    Row(b"select", Connection(ConnectionName::Select), Fixed(1)),
+    Row(b"dbsize", Connection(ConnectionName::DbSize), Fixed(0)),
 ];
 
-const OF_8: [Row; 2] = [
+const OF_7: [Row; 3] = [
+    Row(b"pexpire", Keys(KeyName::PExpire), Choices(2)),
+    Row(b"persist", Keys(KeyName::Persist), Fixed(1)),
+    Row(b"flushdb", Connection(ConnectionName::FlushDb), Choices(0)),
+];
+
+const OF_8: [Row; 5] = [
     Row(b"getrange", Strings(GetRange), Fixed(3)),
     Row(b"setrange", Strings(SetRange), Fixed(3)),
+    Row(b"expireat", Keys(KeyName::ExpireAt), Choices(2)),
+    Row(b"renamenx", Keys(KeyName::RenameNx), Fixed(2)),
+    Row(
+        b"flushall",
+        Connection(ConnectionName::FlushAll),
+        Choices(0),
+    ),
 ];
+
+const OF_9: [Row; 2] = [
+    Row(b"pexpireat", Keys(KeyName::PExpireAt), Choices(2)),
+    Row(b"randomkey", Keys(KeyName::RandomKey), Fixed(0)),
+];
+
+const OF_10: [Row; 1] = [Row(b"expiretime", Keys(KeyName::ExpireTime), Fixed(1))];
+
+const OF_11: [Row; 1] = [Row(b"pexpiretime", Keys(KeyName::PExpireTime), Fixed(1))];
 
 impl Shape {
     /// Whether so many words fit it.
@@ -94,6 +184,8 @@ impl Shape {
             Shape::Words(first) => words > first,
             Shape::Pairs(first) => words > first && (words - first) % 2 == 0,
             Shape::Choices(first) => words >= first,
+            Shape::Between(least, most) => least <= words && words <= most,
+            Shape::Any => true,
         }
     }
 }
@@ -127,7 +219,11 @@ pub fn find(word: &[u8]) -> Option<(Name, Shape)>
         4 => look_up(&OF_4, word),
         5 => look_up(&OF_5, word),
         6 => look_up(&OF_6, word),
+        7 => look_up(&OF_7, word),
         8 => look_up(&OF_8, word),
+        9 => look_up(&OF_9, word),
+        10 => look_up(&OF_10, word),
+        11 => look_up(&OF_11, word),
         _ => None,
     }
 }

@@ -2,7 +2,7 @@
 
 ghost use Rattle.std.specs.Prelude.{◌≡◌, ◌<◌, ◌≤◌, [], ◌∷◌, length, drop, bytes_eq, Ok};
 ghost use Rattle.plain_world.specs.Words.{in_lower_case};
-ghost use Rattle.plain_model.specs.Shapes.{Plain, Whole, Offset, told};
+ghost use Rattle.plain_model.specs.Shapes.{Plain, Whole, Offset, Span, Database, told};
 ghost use Rattle.plain_model.specs.StringWords.{pairs_of};
 ghost use Rattle.command_table.specs.Readings.{Tells, TellsAs, at, told_at};
 
@@ -53,6 +53,30 @@ pub fn offset(request: &Request<'_>, index: usize) -> Result<u64, ReadingFault>
     }
 }
 
+/// A word as such a number above 0, which is a time.
+pub fn span(request: &Request<'_>, index: usize) -> Result<i64, ReadingFault>
+    requires { index < length request.now }
+    ensures { Tells (told Span (at request.now index)) result }
+{
+    let n = number(request, index)?;
+    if n > 0 {
+        return Ok(n);
+    }
+    Err(ReadingFault::Refused(Refusal::InvalidExpireTime))
+}
+
+/// A word as such a number from 0 to 15, which is a database.
+pub fn database(request: &Request<'_>, index: usize) -> Result<usize, ReadingFault>
+    requires { index < length request.now }
+    ensures { Tells (told Database (at request.now index)) result }
+{
+    let n = number(request, index)?;
+    match usize::try_from(n) {
+        Ok(db) if db < 16 => Ok(db),
+        _ => Err(ReadingFault::Refused(Refusal::DatabaseOutOfRange)),
+    }
+}
+
 /// A key and a value.
 pub fn key_and_value(alloc: Global, request: &Request<'_>) -> Result<(Bytes, Bytes), ReadingFault>
     requires { 2 < length request.now }
@@ -71,6 +95,33 @@ pub fn key_and_number(alloc: Global, request: &Request<'_>) -> Result<(Bytes, i6
     let n = number(request, 2)?;
     let key = copied(alloc, request, 1)?;
     Ok((key, n))
+}
+
+/// A key, a time above 0 and a value.
+pub fn key_span_and_value(
+    alloc: Global,
+    request: &Request<'_>,
+) -> Result<(Bytes, i64, Bytes), ReadingFault>
+    requires { 3 < length request.now }
+    ensures { TellsAs (λ a. (a.0, (a.1, (a.2, tt)))) (told_at (Plain ∷ Span ∷ Plain ∷ []) request.now 1) result }
+{
+    let n = span(request, 2)?;
+    let key = copied(alloc, request, 1)?;
+    let value = copied(alloc, request, 3)?;
+    Ok((key, n, value))
+}
+
+/// A key and a database.
+pub fn key_and_database(
+    alloc: Global,
+    request: &Request<'_>,
+) -> Result<(Bytes, usize), ReadingFault>
+    requires { 2 < length request.now }
+    ensures { TellsAs (λ a. (a.0, (a.1, tt))) (told_at (Plain ∷ Database ∷ []) request.now 1) result }
+{
+    let db = database(request, 2)?;
+    let key = copied(alloc, request, 1)?;
+    Ok((key, db))
 }
 
 /// A key and two numbers.

@@ -1,0 +1,63 @@
+//! Options behind a command's first words, read one by one.
+
+ghost use Rattle.std.specs.Prelude.{◌≡◌, ◌<◌, ◌≤◌, ◌+◌, List, length, drop};
+ghost use Rattle.plain_world.specs.Words.{in_lower_case};
+ghost use Rattle.plain_model.specs.Shapes.{Span, Database, Choice, choice_of, choose, chosen};
+ghost use Rattle.command_table.specs.Readings.{Tells, at, own_word};
+
+use crate::ReadingFault;
+use crate::words::{database, span};
+use plain_model::Refusal;
+use resp_frames::Request;
+
+/// What the options of a command say, so far as they are read.
+pub trait Options: Copy {
+    /// The options.
+    ghost choices: { List (Choice Self) };
+
+    /// Reads the option at a place: what they say with it, and how many words behind it are its own.
+    fn with_option(self, request: &Request<'_>, index: usize) -> Result<(Self, usize), ReadingFault>
+        requires { index < length request.now }
+        ensures { Tells (choose self (choice_of choices (in_lower_case (at request.now index))) (drop (index + 1) request.now)) result };
+}
+
+/// Reads the options from a place on.
+pub fn read_options<O: Options>(
+    none: O,
+    request: &Request<'_>,
+    from: usize,
+) -> Result<O, ReadingFault>
+    requires { from ≤ length request.now }
+    ensures { Tells (chosen O.choices none 0 (drop from request.now)) result }
+{
+    let mut options = none;
+    let mut index = from;
+    while index < request.len() {
+        let (next, own) = options.with_option(request, index)?;
+        options = next;
+        index = index + 1 + own;
+    }
+    Ok(options)
+}
+
+/// The one word of the option at a place, which is a time above 0.
+pub fn own_span(request: &Request<'_>, index: usize) -> Result<i64, ReadingFault>
+    requires { index < length request.now }
+    ensures { Tells (own_word Span (drop (index + 1) request.now)) result }
+{
+    if request.len() - index < 2 {
+        return Err(ReadingFault::Refused(Refusal::Syntax));
+    }
+    span(request, index + 1)
+}
+
+/// The one word of the option at a place, which is a database.
+pub fn own_database(request: &Request<'_>, index: usize) -> Result<usize, ReadingFault>
+    requires { index < length request.now }
+    ensures { Tells (own_word Database (drop (index + 1) request.now)) result }
+{
+    if request.len() - index < 2 {
+        return Err(ReadingFault::Refused(Refusal::Syntax));
+    }
+    database(request, index + 1)
+}
