@@ -4,9 +4,9 @@ use Rattle.blocks.specs.declared.BlockRef.{BlockRef}
 use Rattle.blocks.specs.Blocks.{Blocks, Changes}
 use Rattle.string_object.specs.declared.text.Text.{Text}
 use Rattle.string_object.specs.Text.{text_bytes, text_refs}
-use Rattle.plain_world.specs.Worlds.{Str, Entry, look, put}
+use Rattle.plain_world.specs.Worlds.{Str, Entry, look, put, live, deadline_of}
 use Rattle.plain_world.specs.Worlds as model
-use Rattle.plain_model.specs.StringSteps.{change, deadline_of}
+use Rattle.plain_model.specs.StringSteps.{change}
 use Rattle.plain_model.specs.declared.ctx.Ctx.{Ctx}
 use Rattle.keyspace.specs.declared.value.Value.TheVariants as values
 use Rattle.keyspace.specs.Calls.{Lifted}
@@ -15,7 +15,7 @@ use Rattle.keyspace.specs.Databases.{Bases, means}
 use Rattle.keyspace.specs.Sound.{IsIntact, Sound, SoundBeside}
 use Rattle.keyspace.specs.Calls.{Lifts, IsPlace, AreParts}
 use Rattle.keyspace.specs.Commands.{seen}
-use Rattle.keyspace.proofs.Uses.{Live-means, Lower-intact, Lower-sound, Lower-means}
+use Rattle.keyspace.proofs.Uses.{Lower-intact, Lower-sound, Lower-means}
 use Rattle.cmd_values.specs.Found.{Becomes}
 
 -- the string of a value, and of what stands at a key
@@ -49,6 +49,6 @@ module _ (at : Ctx) (old mid : Bases) (m own after : Blocks) (key : List ℕ) (l
         let world = Lower-means old mid m after at.db at.moment key lifted lowered [] lifts sound changes refl refl new clause in
         let deadline : lifts.deadline ≡ deadline_of (look (seen at old m) key) = sym (ap deadline_of lifts.stands) in
         let was : text_bytes own text ≡ bytes = ap (λ b. text_bytes b text) same ∙ ap (λ v. value_string (value_of m v)) (sym is) ∙ sym (ap string_of lifts.stands) ∙ ap string_of there.stands in
-        Live-means at.db new later at.moment ∙ ap (means at.db new) stays ∙ world
+        ap (λ b. live (means at.db new b) at.moment) stays ∙ world
         ∙ ap (λ d. put (seen at old m) key (record { value = Str (text_bytes after changed); deadline = d })) deadline
         ∙ ap (λ b. change (seen at old m) key b) (e ∙ ap next was)

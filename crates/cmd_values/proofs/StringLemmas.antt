@@ -3,14 +3,16 @@ use Rattle.std.proofs.Common.{◌≡◌, ℕ, ◌<◌, ◌≤◌, refl, length-a
 use Rattle.blocks.specs.Blocks.{Blocks, Changes}
 use Rattle.string_object.specs.declared.text.Text.{Text}
 use Rattle.string_object.specs.Text.{text_bytes, text_refs}
-use Rattle.plain_world.specs.Worlds.{World, Value, Str, Entry, look, put, remove}
+use Rattle.plain_world.specs.Worlds.{World, Value, Str, Entry, look, put, remove, live, stand, deadline_of}
 use Rattle.plain_world.specs.Parts.{following, AreReplies, IsReply}
 use Rattle.plain_model.specs.Steps.{may}
 use Rattle.plain_model.specs.declared.command.Command.{Command}
 use Rattle.plain_model.specs.declared.command.Command.TheVariants.{Strings}
 use Rattle.plain_model.specs.declared.command.StringCommand.{StringCommand}
 use Rattle.plain_world.specs.declared.reply.Part.{Part}
-use Rattle.plain_world.specs.declared.reply.Part.TheVariants.{Refused, Number, Bulk, Array}
+use Rattle.plain_world.specs.declared.reply.Part.TheVariants.{Refused, Number, Bulk, Array, Null}
+use Rattle.plain_model.specs.declared.command.Condition.{Condition}
+use Rattle.std.specs.Prelude.{Bool}
 use Rattle.plain_model.specs.StringSteps.{string_outcome, on_string, or_null, string_part, string_or_null, replace}
 use Rattle.keyspace.proofs.Running.{outcome_is, unchanged}
 use Rattle.plain_model.specs.declared.ctx.Ctx.{Ctx}
@@ -31,12 +33,16 @@ use Rattle.plain_model.specs.Meant.{IsAsked}
 use Rattle.std.specs.Prelude.{is_some}
 use Rattle.int_text.proofs.NumberOf.{reads_number_of, fits_to, no_fit}
 use Rattle.plain_model.specs.Outcomes.{Outcome, tells, refused}
-use Rattle.plain_model.specs.StringSteps.{or_empty, append, set_range, change, written_over, deadline_of, plain, counted, count, count_on, number_at}
+use Rattle.plain_model.specs.StringSteps.{or_empty, append, set_range, change, written_over, plain, counted as count_to, count, count_on, number_at, set, set_outcome, allows, ok}
 use Rattle.plain_world.specs.Words.{longest}
-use Rattle.plain_world.specs.declared.refusal.Refusal.TheVariants.{ValueOutOfRange, Overflow, NotAnInteger}
+use Rattle.plain_world.specs.declared.refusal.Refusal.TheVariants.{ValueOutOfRange, Overflow, NotAnInteger, InvalidExpireTime}
+use Rattle.int_text.specs.Decimal.{is_i64}
+use Rattle.plain_model.specs.declared.times.Time.{Time}
+use Rattle.plain_model.specs.Deadlines.{due, with_due}
 use Rattle.cmd_values.proofs.Ranges.{written_length}
-use Rattle.keyspace.proofs.Uses.{Live-means, Put-means, Look-put, Put-twice, No-deadline}
-use Rattle.cmd_values.specs.Found.{GivesIn, Gives, FoundText, IsThere, Becomes, IsBefore, OldValue, NumberAt, values_at}
+use Rattle.plain_world.proofs.Lives.{live_put_in_time, live_remove}
+use Rattle.keyspace.proofs.Uses.{Put-means, Look-put, Put-twice}
+use Rattle.cmd_values.specs.Found.{GivesIn, Gives, FoundText, IsThere, Becomes, IsBefore, OldValue, NumberAt, IsSetReply, values_at}
 
 -- what a command gives is a step of the model
 pub step_of : {E : Type 0} (seed moment : ℕ) (old new : World) (command : Command) (own same : StringCommand) (result : Result (List Part) E)
@@ -59,15 +65,34 @@ old_some world blocks key text bytes (Ok reply) found same is = record {
 }
 old_some world blocks key text bytes (Err x) found same is = tt
 
+-- the old value is the reply, and this world is left
+pub old_value_then : (old new : World) (key : List ℕ) (reply : List Part) (left : World) → OldValue old key reply → new ≡ left → on_string old (look old key) (λ before. leaves (or_null before ∷ []) left) ≡ leaves reply new
+old_value_then old new key reply left o is =
+    o.is (λ before. leaves (or_null before ∷ []) left) ∙ ap (λ r. leaves r left) (sym o.reply_is) ∙ ap (leaves reply) (sym is)
+
+-- the old value is the reply, and the world stays
+pub old_value_told : {E : Type 0} (old : World) (key : List ℕ) (result : Result (List Part) E) → IfOk result (λ reply. OldValue old key reply) → IfOk result (λ reply. on_string old (look old key) (λ before. tells (or_null before ∷ []) old) ≡ leaves reply old)
+old_value_told old key (Ok reply) o = old_value_then old old key reply old o refl
+old_value_told old key (Err x) o = tt
+
+-- a deadline that 64 bits with a sign hold
+pub due_fits : (old : World) (moment : ℕ) (time : Time) (n : ℤ) (answer : ℤ → Outcome) → n ≡ due moment time → FitsSigned w64 n → with_due old moment time answer ≡ answer n
+due_fits old moment time n answer is fits =
+    ap (λ d. if is_i64 d then answer d else refused InvalidExpireTime old) (sym is)
+    ∙ ap (λ b. if b then answer n else refused InvalidExpireTime old) (fits_to n fits)
+
+pub due_refused : (old : World) (moment : ℕ) (time : Time) (answer : ℤ → Outcome) → ¬ (FitsSigned w64 (due moment time)) → with_due old moment time answer ≡ refused InvalidExpireTime old
+due_refused old moment time answer large = ap (λ b. if b then answer (due moment time) else refused InvalidExpireTime old) (no_fit (due moment time) large)
+
 -- a string that was made is put at a key
-pub replaced : {E : Type 0} (at : Ctx) (bases : Bases) (m after : Blocks) (text : Text) (sound : Sound bases m) (p : Changes m after [] (text_refs text)) (new : Bases) (later : Blocks) (key value : List ℕ)
+pub replaced : {E : Type 0} (at : Ctx) (bases : Bases) (m after : Blocks) (text : Text) (sound : Sound bases m) (p : Changes m after [] (text_refs text)) (new : Bases) (later : Blocks) (key value : List ℕ) (deadline : Option ℕ)
     → text_bytes after text ≡ value → (result : Result (Unit {0}) E)
-    → OnOk result (means at.db new later ≡ put (means at.db bases after) key (record { value = Str (text_bytes after text); deadline = None }))
-    → OnOk result (seen at new later ≡ replace (seen at bases m) key value)
-replaced at bases m after text sound p new later key value is (Ok u) h =
-    Live-means at.db new later at.moment ∙ Put-means bases m after (values.Text text) sound p new later at.db at.moment key _ h
-    ∙ ap (λ b. replace (seen at bases m) key b) is
-replaced at bases m after text sound p new later key value is (Err x) h = tt
+    → OnOk result (means at.db new later ≡ put (means at.db bases after) key (record { value = Str (text_bytes after text); deadline = deadline }))
+    → OnOk result (seen at new later ≡ stand (seen at bases m) at.moment key (record { value = Str value; deadline = deadline }))
+replaced at bases m after text sound p new later key value deadline is (Ok u) h =
+    Put-means bases m after (values.Text text) sound p new later at.db at.moment key _ h
+    ∙ ap (λ b. stand (seen at bases m) at.moment key (record { value = Str b; deadline = deadline })) is
+replaced at bases m after text sound p new later key value deadline is (Err x) h = tt
 
 none_in : (value : Value) (n : ℕ) → n + following (string_part value) ≡ n
 none_in (Str bytes) n = omega arith
@@ -96,7 +121,7 @@ pub removed : (at : Ctx) (bases new : Bases) (m later : Blocks) (key : List ℕ)
     → OldValue (seen at bases m) key reply → means at.db new later ≡ without (means at.db bases m) key
     → string_outcome at.moment (seen at bases m) (strings.GetDel key) ≡ leaves reply (seen at new later)
 removed at bases new m later key reply old h =
-    let world : seen at new later ≡ remove (seen at bases m) key = Live-means at.db new later at.moment ∙ h ∙ ap (λ w. remove w key) (sym (Live-means at.db bases m at.moment)) in
+    let world : seen at new later ≡ remove (seen at bases m) key = ap (λ w. live w at.moment) h ∙ live_remove (means at.db bases m) at.moment key in
     old.is (λ before. leaves (or_null before ∷ []) (remove (seen at bases m) key))
     ∙ ap (λ r. leaves r (remove (seen at bases m) key)) (sym old.reply_is) ∙ ap (leaves reply) (sym world)
 
@@ -159,16 +184,17 @@ on_ok : {A E P : Type 0} (result : Result A E) → P → OnOk result P
 on_ok (Ok a) h = h
 on_ok (Err e) h = tt
 
--- the text of a number is written, with the deadline that was there: none has one yet
-pub number_written : {A E : Type 0} (at : Ctx) (bases new : Bases) (m later : Blocks) (key : List ℕ) (n : ℤ) (result : Result A E)
-    → means at.db new later ≡ put (means at.db bases m) key (plain (canonical n)) → OnOk result (seen at new later ≡ change (seen at bases m) key (canonical n))
-number_written at bases new m later key n result h =
-    let none : (o : Option Entry) → ((e : Entry) → o ≡ Some e → e.deadline ≡ None) → deadline_of o ≡ None = λ o. elim o as (λ p. ((e : Entry) → p ≡ Some e → e.deadline ≡ None) → deadline_of p ≡ None) [
-      | None ↦ λ f. refl
-      | Some e ↦ λ f. f e refl
-    ] in
-    on_ok result (Live-means at.db new later at.moment ∙ h ∙ ap (λ w. put w key (plain (canonical n))) (sym (Live-means at.db bases m at.moment))
-    ∙ ap (λ d. put (seen at bases m) key (record { value = Str (canonical n); deadline = d })) (sym (none (look (seen at bases m) key) (No-deadline at.db bases m at.moment key))))
+-- the text of a number is put where nothing stood
+pub number_put : {E : Type 0} (at : Ctx) (bases new : Bases) (m later : Blocks) (key : List ℕ) (n : ℤ) (result : Result (Unit {0}) E)
+    → look (seen at bases m) key ≡ None → OnOk result (means at.db new later ≡ put (means at.db bases m) key (plain (canonical n))) → OnOk result (seen at new later ≡ change (seen at bases m) key (canonical n))
+number_put at bases new m later key n (Ok u) none h =
+    ap (λ w. live w at.moment) h ∙ live_put_in_time (means at.db bases m) at.moment key (plain (canonical n)) refl
+    ∙ ap (λ d. put (seen at bases m) key (record { value = Str (canonical n); deadline = d })) (sym (ap deadline_of none))
+number_put at bases new m later key n (Err e) none h = tt
+
+-- the string that was there is a number now, and keeps its deadline
+pub number_lowered : {A E : Type 0} (old new : World) (key text : List ℕ) (n : ℤ) (result : Result A E) (deadline : Option ℕ) → look old key ≡ Some (record { value = Str text; deadline = deadline }) → Becomes old key (λ _. canonical n) new → OnOk result (new ≡ change old key (canonical n))
+number_lowered old new key text n result deadline stands becomes = on_ok result (becomes text (record { deadline = deadline; stands = stands }))
 
 -- the number at a key, from the text there
 pub number_read : (world : World) (blocks : Blocks) (key : List ℕ) (text : Text) (answer : Option ℤ) → FoundText world blocks key text → Reads (text_bytes blocks text) answer → NumberAt world key answer
@@ -179,11 +205,26 @@ number_read world blocks key text answer found reads = record {
 }
 
 -- a count that fits
-pub counted_on : (old : World) (key : List ℕ) (n : ℤ) → FitsSigned w64 n → counted old key n ≡ leaves (Number n ∷ []) (change old key (canonical n))
+pub counted_on : (old : World) (key : List ℕ) (n : ℤ) → FitsSigned w64 n → count_to old key n ≡ leaves (Number n ∷ []) (change old key (canonical n))
 counted_on old key n fits = ap (λ b. if b then leaves (Number n ∷ []) (change old key (canonical n)) else refused Overflow old) (fits_to n fits)
 
-pub not_counted : (old : World) (key : List ℕ) (n : ℤ) → ¬ (FitsSigned w64 n) → counted old key n ≡ refused Overflow old
+pub not_counted : (old : World) (key : List ℕ) (n : ℤ) → ¬ (FitsSigned w64 n) → count_to old key n ≡ refused Overflow old
 not_counted old key n large = ap (λ b. if b then leaves (Number n ∷ []) (change old key (canonical n)) else refused Overflow old) (no_fit n large)
+
+-- a number is counted on, and the new one is written
+pub counted : {E : Type 0} (old new : World) (key : List ℕ) (n m : ℤ) (next : ℤ → ℤ) (result : Result (List Part) E) → NumberAt old key (Some n) → FitsSigned w64 m → m ≡ next n → IfOk result (λ reply. reply ≡ Number m ∷ []) → OnOk result (new ≡ change old key (canonical m)) → IfOk result (λ reply. count old key next ≡ leaves reply new)
+counted old new key n m next (Ok reply) at fits is told world =
+    at.is (λ before. count_on old key next (number_at before)) ∙ ap (count_on old key next) at.number_is ∙ ap (count_to old key) (sym is) ∙ counted_on old key m fits
+    ∙ ap (λ r. leaves r (change old key (canonical m))) (sym told) ∙ ap (leaves reply) (sym world)
+counted old new key n m next (Err x) at fits is told world = tt
+
+-- what SET answers and leaves
+pub set_given : (old new : World) (moment : ℕ) (key : List ℕ) (entry : Entry) (condition : Condition) (get written : Bool) (reply : List Part) → written ≡ allows condition (is_some (look old key)) → IsSetReply old key get written reply
+    → new ≡ (if written then stand old moment key entry else old) → set_outcome old moment key entry condition get ≡ leaves reply new
+set_given old new moment key entry condition true written reply is told world =
+    old_value_then old new key reply (set old moment key entry condition) told (world ∙ ap (λ b. if b then stand old moment key entry else old) is)
+set_given old new moment key entry condition false written reply is told world =
+    sym (ap (λ b. leaves ((if b then ok else Null) ∷ []) (if b then stand old moment key entry else old)) is) ∙ ap (λ r. leaves r (if written then stand old moment key entry else old)) (sym told) ∙ ap (leaves reply) (sym world)
 
 -- no number stands at the key
 pub not_number : {E : Type 0} (old : World) (key : List ℕ) (next : ℤ → ℤ) (result : Result (List Part) E) → NumberAt old key None → IfOk result (λ reply. reply ≡ Refused NotAnInteger ∷ [])

@@ -4,11 +4,13 @@ use Rattle.blocks.specs.Blocks.{Blocks, Owned}
 use Rattle.string_object.specs.declared.text.Text.{Text}
 use Rattle.string_object.specs.Text.{text_bytes, text_refs}
 use Rattle.plain_world.specs.Worlds.{Str, World, look}
-use Rattle.plain_model.specs.Outcomes.{Outcome, leaves}
+use Rattle.plain_model.specs.Outcomes.{Outcome, leaves, refused}
 use Rattle.plain_model.specs.declared.ctx.Ctx.{Ctx}
 use Rattle.keyspace.specs.Databases.{Keyspace}
 use Rattle.keyspace.specs.Commands.{sight}
-use Rattle.plain_model.specs.StringSteps.{string_outcome, on_string, or_null, string_or_null, number_at, change, ok}
+use Rattle.plain_model.specs.StringSteps.{string_outcome, on_string, or_null, string_or_null, number_at, change, ok, with_lifetime}
+use Rattle.plain_model.specs.declared.times.Lifetime.{Lifetime}
+use Rattle.plain_world.specs.declared.refusal.Refusal.TheVariants.{InvalidExpireTime}
 use Rattle.plain_model.specs.declared.command.StringCommand.{StringCommand}
 use Rattle.plain_world.specs.declared.reply.Part.{Part}
 use Rattle.plain_world.specs.declared.reply.Part.TheVariants.{Null}
@@ -42,6 +44,15 @@ pub record OldValue (world : World) (key : List ℕ) (reply : List Part) : Type 
   pub before : Option (List ℕ)
   pub is : IsBefore world key before
   pub reply_is : reply ≡ or_null before ∷ []
+
+-- what is made of a deadline that was decided on; of one that 64 bits with a sign don't hold, the refusal
+abbrev pub decided : World → Option (Option ℕ) → (Option ℕ → Outcome) → Outcome
+decided old None answer = refused InvalidExpireTime old
+decided old (Some deadline) answer = answer deadline
+
+-- whatever is made of the deadline that SET gives is made of this one
+abbrev pub IsLifetime : World → ℕ → List ℕ → Lifetime → Option (Option ℕ) → Type 0
+IsLifetime old moment key lifetime deadline = (answer : Option ℕ → Outcome) → with_lifetime old moment key lifetime answer ≡ decided old deadline answer
 
 -- the number that the string at the key is, where it is one
 pub record NumberAt (world : World) (key : List ℕ) (number : Option ℤ) : Type 0 where

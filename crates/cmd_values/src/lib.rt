@@ -8,6 +8,6 @@
 mod strings;
 
 pub use strings::{
-    append, decr, decrby, get, getdel, getrange, getset, incr, incrby, mget, mset, msetnx,
-    run_strings, set, setnx, setrange, strlen,
+    append, decr, decrby, get, getdel, getex, getrange, getset, incr, incrby, mget, mset, msetnx,
+    psetex, run_strings, set, setex, setnx, setrange, strlen,
 };

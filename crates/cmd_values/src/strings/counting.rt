@@ -1,6 +1,7 @@
 //! Commands that count on a string that is a number.
 
-ghost use Rattle.std.specs.Prelude.{◌≡◌, ◌<◌, List, ℕ, ℤ, [], ◌∷◌, IfOk, OnOk};
+ghost use Rattle.std.specs.Prelude.{◌≡◌, ◌<◌, List, ℕ, ℤ, [], ◌∷◌, None, IfOk, OnOk};
+ghost use Rattle.plain_world.specs.Worlds.{look};
 ghost use Rattle.int_text.specs.Decimal.{canonical};
 ghost use Rattle.plain_model.specs.StringSteps.{change};
 ghost use Rattle.plain_world.specs.declared.reply.Part.TheVariants as parts;
@@ -10,7 +11,7 @@ ghost use Rattle.cmd_values.specs.Found.{Gives, NumberAt};
 
 use crate::strings::look::text_at;
 use blocks::BlockStore;
-use keyspace::{Keyspace, Value};
+use keyspace::{Keyspace, Lifted, Value};
 use plain_model::{Ctx, Memory, Refusal, Reply};
 use string_object::Text;
 
@@ -28,7 +29,22 @@ fn number_at<B: BlockStore>(keyspace: &Keyspace<B>, at: &Ctx, key: &[u8]) -> Opt
     }
 }
 
-// Lets the text of a number stand at a key, and answers the number.
+// Lets the text of a number stand at a key where nothing stands yet.
+fn put_number<B: BlockStore>(
+    keyspace: &mut Keyspace<B>,
+    at: &Ctx,
+    key: &[u8],
+    n: i64,
+) -> Result<(), Memory>
+    requires ready { Ready B.blocks keyspace.old at.now }
+    requires none { look (sight B.blocks keyspace.old at.now) key.now ≡ None }
+    ensures world { OnOk result (sight B.blocks keyspace.new at.now ≡ change (sight B.blocks keyspace.old at.now) key.now (canonical n)) }
+    ensures held { Held B.blocks B.step keyspace.old keyspace.new }
+{
+    keyspace.put(at.db, key, Value::Text(Text::Number(n)), None)
+}
+
+// Lets the text of a number stand at a key, with the deadline that is there, and answers the number.
 fn write_number<B: BlockStore>(
     keyspace: &mut Keyspace<B>,
     at: &Ctx,
@@ -40,10 +56,20 @@ fn write_number<B: BlockStore>(
     ensures world { OnOk result (sight B.blocks keyspace.new at.now ≡ change (sight B.blocks keyspace.old at.now) key.now (canonical n)) }
     ensures held { Held B.blocks B.step keyspace.old keyspace.new }
 {
-    let value = Value::Text(Text::Number(n));
-    match keyspace.put(at.db, key, value, None) {
-        Ok(()) => Reply::number(keyspace.alloc(), n),
-        Err(error) => Err(error),
+    let alloc = keyspace.alloc();
+    match keyspace.lift(at.db, key, at.moment) {
+        None => {
+            put_number(keyspace, at, key, n)?;
+            Reply::number(alloc, n)
+        }
+        Some(lifted) => {
+            let Lifted { db, item, value } = lifted;
+            let mut text = value.into_text();
+            text.set_number(&mut keyspace.store, n);
+            let value = Value::Text(text);
+            keyspace.lower(Lifted { db, item, value });
+            Reply::number(alloc, n)
+        }
     }
 }
 

@@ -2,34 +2,42 @@
 
 ghost use Rattle.std.specs.Prelude.{◌≡◌, ◌<◌};
 ghost use Rattle.plain_model.specs.Meant.{IsAsked};
+ghost use Rattle.plain_model.specs.declared.command.Command.TheVariants.{Strings};
 ghost use Rattle.keyspace.specs.Commands.{Ready, Runs};
 
 use crate::strings::changing::{append, setrange};
 use crate::strings::counting::{decr, decrby, incr, incrby};
-use crate::strings::look::own;
+use crate::strings::lasting::{getex, psetex, setex};
 use crate::strings::reading::{get, getrange, mget, strlen};
 use crate::strings::writing::{getdel, getset, mset, msetnx, set, setnx};
 use blocks::BlockStore;
 use keyspace::Keyspace;
-use plain_model::{Command, Ctx, Memory, Reply, StringCommand};
+use plain_model::{Ctx, Memory, Reply, StringCommand};
 
 /// Runs a command on strings by its own function.
 #[tactic(auto, using(keyspace::proofs::Serving::nothing, keyspace::proofs::Running::same_settings))]
 pub fn run_strings<B: BlockStore>(
     keyspace: &mut Keyspace<B>,
     at: &Ctx,
-    command: &Command,
+    command: &StringCommand,
 ) -> Result<Reply, Memory>
     requires ready { Ready B.blocks keyspace.old at.now }
-    requires asked { IsAsked command.now }
-    ensures { Runs B.blocks B.step keyspace.old keyspace.new at.now command.now result }
+    requires asked { IsAsked (Strings command.now) }
+    ensures { Runs B.blocks B.step keyspace.old keyspace.new at.now (Strings command.now) result }
 {
-    match own(command) {
+    match command {
         StringCommand::Get(key) => get(keyspace, at, key.as_slice()),
         StringCommand::Set(key, value, options) => {
             set(keyspace, at, key.as_slice(), value.as_slice(), *options)
         }
         StringCommand::SetNx(key, value) => setnx(keyspace, at, key.as_slice(), value.as_slice()),
+        StringCommand::SetEx(key, n, value) => {
+            setex(keyspace, at, key.as_slice(), *n, value.as_slice())
+        }
+        StringCommand::PSetEx(key, n, value) => {
+            psetex(keyspace, at, key.as_slice(), *n, value.as_slice())
+        }
+        StringCommand::GetEx(key, renewal) => getex(keyspace, at, key.as_slice(), *renewal),
         StringCommand::GetSet(key, value) => getset(keyspace, at, key.as_slice(), value.as_slice()),
         StringCommand::GetDel(key) => getdel(keyspace, at, key.as_slice()),
         StringCommand::MGet(keys) => mget(keyspace, at, keys.as_slice()),

@@ -2,7 +2,6 @@
 
 ghost use Rattle.std.specs.Prelude.{◌≡◌, ◌<◌, ◌^◌, [], ◌∷◌, pos, None, IfOk, IfSome, IfNone, length};
 ghost use Rattle.plain_world.specs.Worlds.{look};
-ghost use Rattle.plain_model.specs.declared.command.Command.TheVariants.{Strings};
 ghost use Rattle.plain_world.specs.declared.reply.Part.TheVariants as parts;
 ghost use Rattle.string_object.specs.Text.{text_bytes, text_refs};
 ghost use Rattle.blocks.specs.Blocks.{Owned};
@@ -11,18 +10,9 @@ ghost use Rattle.cmd_values.specs.Found.{FoundText, HasLength, OldValue};
 
 use blocks::BlockStore;
 use keyspace::{Keyspace, Value};
-use plain_model::{Bytes, Command, Ctx, Memory, Reply, StringCommand};
+use plain_model::{Bytes, Ctx, Memory, Reply};
 use std::alloc::Global;
 use string_object::Text;
-
-/// The command on strings that a command is.
-pub fn own(command: &Command) -> &StringCommand
-    ensures { command.now ≡ Strings result.now }
-{
-    match command {
-        Command::Strings(own) => own,
-    }
-}
 
 /// The string at a key, where there is one.
 pub fn text_at<'a, B: BlockStore>(

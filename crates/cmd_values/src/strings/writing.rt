@@ -1,18 +1,39 @@
 //! Commands that write strings whole.
 
-ghost use Rattle.std.specs.Prelude.{◌≡◌, ◌<◌, ◌≤◌, List, ℕ, Bool, IfOk, OnOk, is_some};
-ghost use Rattle.plain_world.specs.Worlds.{look};
-ghost use Rattle.plain_model.specs.StringSteps.{replace, replace_all, any_there, allows};
+ghost use Rattle.std.specs.Prelude.{◌≡◌, ◌<◌, ◌≤◌, List, ℕ, Bool, IfOk, OnOk, IfSome, is_some};
+ghost use Rattle.plain_world.specs.Worlds.{Str, look, stand};
+ghost use Rattle.held.specs.Calls.{IsDeadline};
+ghost use Rattle.plain_model.specs.Outcomes.{leaves};
+ghost use Rattle.plain_model.specs.StringSteps.{replace, replace_all, any_there, allows, set_outcome};
 ghost use Rattle.plain_model.specs.declared.command.Condition.{Condition};
 ghost use Rattle.plain_model.specs.declared.command.StringCommand.TheVariants as strings;
 ghost use Rattle.keyspace.specs.Commands.{Ready, Held, Kept, sight};
-ghost use Rattle.cmd_values.specs.Found.{Gives, IsSetReply};
+ghost use Rattle.cmd_values.specs.Found.{Gives, IsSetReply, IsLifetime};
 
+use crate::strings::lasting::from_zero;
 use crate::strings::look::old_value;
 use blocks::BlockStore;
-use keyspace::{Keyspace, Value};
-use plain_model::{Bytes, Condition, Ctx, Line, Memory, Reply, SetOptions};
+use keyspace::{Keyspace, Value, deadline_at};
+use plain_model::{Bytes, Condition, Ctx, Lifetime, Line, Memory, Refusal, Reply, SetOptions};
 use string_object::Text;
+
+/// Lets a string stand at a key, with this deadline in milliseconds or without one; by one that is past already nothing
+/// stands there.
+pub fn put_lasting<B: BlockStore>(
+    keyspace: &mut Keyspace<B>,
+    at: &Ctx,
+    key: &[u8],
+    value: &[u8],
+    deadline: Option<u64>,
+) -> Result<(), Memory>
+    requires ready { Ready B.blocks keyspace.old at.now }
+    requires latest { IsDeadline deadline }
+    ensures world { OnOk result (sight B.blocks keyspace.new at.now ≡ stand (sight B.blocks keyspace.old at.now) at.now.moment key.now (record { value = Str value.now; deadline = deadline })) }
+    ensures held { Held B.blocks B.step keyspace.old keyspace.new }
+{
+    let text = Text::make(&mut keyspace.store, value)?;
+    keyspace.put(at.db, key, Value::Text(text), deadline)
+}
 
 /// Lets a string stand at a key, without a deadline.
 pub fn put_string<B: BlockStore>(
@@ -25,8 +46,7 @@ pub fn put_string<B: BlockStore>(
     ensures world { OnOk result (sight B.blocks keyspace.new at.now ≡ replace (sight B.blocks keyspace.old at.now) key.now value.now) }
     ensures held { Held B.blocks B.step keyspace.old keyspace.new }
 {
-    let text = Text::make(&mut keyspace.store, value)?;
-    keyspace.put(at.db, key, Value::Text(text), None)
+    put_lasting(keyspace, at, key, value, None)
 }
 
 // Whether something stands at a key.
@@ -69,7 +89,52 @@ fn set_reply<B: BlockStore>(
     Reply::null(keyspace.alloc())
 }
 
-/// `SET key value [NX or XX] [GET]`: OK, or null where nothing is written; with GET the old value or null.
+// The deadline that SET gives, or none. `None` where 64 bits with a sign don't hold it.
+fn lifetime_at<B: BlockStore>(
+    keyspace: &Keyspace<B>,
+    at: &Ctx,
+    key: &[u8],
+    lifetime: Lifetime,
+) -> Option<Option<u64>>
+    requires ready { Ready B.blocks keyspace.now at.now }
+    ensures is { IsLifetime (sight B.blocks keyspace.now at.now) at.now.moment key.now lifetime result }
+    ensures latest { IfSome result (λ deadline. IsDeadline deadline) }
+{
+    match lifetime {
+        Lifetime::Forever => Some(None),
+        Lifetime::Kept => Some(deadline_at(keyspace, at, key)),
+        Lifetime::Until(time) => match time.due(at.moment) {
+            None => None,
+            Some(due) => Some(Some(from_zero(due))),
+        },
+    }
+}
+
+// SET with the deadline that it gives.
+#[tactic(auto, using(keyspace::proofs::Serving::nothing))]
+fn set_lasting<B: BlockStore>(
+    keyspace: &mut Keyspace<B>,
+    at: &Ctx,
+    key: &[u8],
+    value: &[u8],
+    options: SetOptions,
+    deadline: Option<u64>,
+) -> Result<Reply, Memory>
+    requires ready { Ready B.blocks keyspace.old at.now }
+    requires latest { IsDeadline deadline }
+    ensures gives { IfOk result (λ reply. set_outcome (sight B.blocks keyspace.old at.now) at.now.moment key.now (record { value = Str value.now; deadline = deadline }) options.condition options.get ≡ leaves reply (sight B.blocks keyspace.new at.now)) }
+    ensures kept { Kept B.blocks B.step keyspace.old keyspace.new result }
+{
+    let written = writes(keyspace, at, key, options.condition);
+    let reply = set_reply(keyspace, at, key, options.get, written)?;
+    if written {
+        put_lasting(keyspace, at, key, value, deadline)?;
+    }
+    Ok(reply)
+}
+
+/// `SET key value [NX or XX] [GET] [EX s, PX ms, EXAT s, PXAT ms or KEEPTTL]`: OK, or null where nothing is written; with
+/// GET the old value or null.
 #[tactic(auto, using(keyspace::proofs::Serving::nothing))]
 pub fn set<B: BlockStore>(
     keyspace: &mut Keyspace<B>,
@@ -82,12 +147,10 @@ pub fn set<B: BlockStore>(
     ensures gives { Gives B.blocks keyspace.old keyspace.new at.now (strings.Set key.now value.now options) result }
     ensures kept { Kept B.blocks B.step keyspace.old keyspace.new result }
 {
-    let written = writes(keyspace, at, key, options.condition);
-    let reply = set_reply(keyspace, at, key, options.get, written)?;
-    if written {
-        put_string(keyspace, at, key, value)?;
+    match lifetime_at(keyspace, at, key, options.lifetime) {
+        None => Reply::refused(keyspace.alloc(), Refusal::InvalidExpireTime),
+        Some(deadline) => set_lasting(keyspace, at, key, value, options, deadline),
     }
-    Ok(reply)
 }
 
 /// `SETNX key value`: 1, or 0 where something stands at the key already, whatever its type.

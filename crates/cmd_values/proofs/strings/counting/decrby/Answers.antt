@@ -1,8 +1,8 @@
-use Rattle.std.specs.Prelude.{◌-ℤ◌}
+use Rattle.std.specs.Prelude.{FitsSigned, ◌-ℤ◌}
 use Rattle.std.specs.Int.{w64}
 use Rattle.std.proofs.lemmas.Int.{to_z-of_z}
 use Rattle.keyspace.specs.Commands.{seen}
-use Rattle.cmd_values.proofs.StringLemmas.{not_number, overflowed}
+use Rattle.cmd_values.proofs.StringLemmas.{not_number, overflowed, counted}
 use Rattle.cmd_values.proofs.strings.counting.decrby.Goals as goal
 
 pub returns-in-None-clause-gives : goal.returns-in-None-clause-gives
@@ -14,3 +14,11 @@ returns-in-None-checked_sub-clause-gives g c =
     let typed = rw c.in-Some.is at c.number_at.type_inv in
     let large = rw (to_z-of_z w64 c.in-Some.n (record { sfits = typed.1.1.1.1.0.1 }), to_z-of_z w64 c.args.by c.ranges.by) at c.in-None-checked_sub.ensures in
     overflowed (seen c.args.at.now c.args.keyspace.now.bases (g.B.BlockStore.blocks c.args.keyspace.now.store)) c.args.key.now c.in-Some.n (λ n. n -ℤ c.args.by) c.refused-in-None-checked_sub.result c.in-Some.ensures large c.refused-in-None-checked_sub.ensures
+
+pub returns-in-Some-checked_sub-clause-gives : goal.returns-in-Some-checked_sub-clause-gives
+returns-in-Some-checked_sub-clause-gives g c =
+    let typed = rw c.in-Some.is at c.number_at.type_inv in
+    let next_typed = rw c.in-Some-checked_sub.is at c.checked_sub.type_inv in
+    let fits : FitsSigned w64 c.in-Some-checked_sub.next = record { sfits = next_typed.1.1.1.1.0.1 } in
+    let next = rw (to_z-of_z w64 c.in-Some.n (record { sfits = typed.1.1.1.1.0.1 }), to_z-of_z w64 c.args.by c.ranges.by) at c.in-Some-checked_sub.ensures in
+    counted (seen c.args.at.now c.args.keyspace.now.bases (g.B.BlockStore.blocks c.args.keyspace.now.store)) (seen c.args.at.now c.write_number.new.keyspace.bases (g.B.BlockStore.blocks c.write_number.new.keyspace.store)) c.args.key.now c.in-Some.n c.in-Some-checked_sub.next (λ n. n -ℤ c.args.by) c.write_number.result c.in-Some.ensures fits next.1 (rw (to_z-of_z w64 c.in-Some-checked_sub.next fits) at c.write_number.ensures.reply) (rw (to_z-of_z w64 c.in-Some-checked_sub.next fits) at c.write_number.ensures.world)

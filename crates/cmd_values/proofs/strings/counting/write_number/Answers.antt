@@ -1,15 +1,31 @@
-use Rattle.std.proofs.Common.{[], arith}
+use Rattle.std.proofs.Common.{rules, [], Some, ap, ◌∙◌}
+use Rattle.keyspace.specs.Values.{value_of}
 use Rattle.std.specs.Int.{w64}
 use Rattle.std.proofs.lemmas.Int.{to_z-of_z}
-use Rattle.cmd_values.proofs.StringLemmas.{number_written}
+use Rattle.int_text.specs.Decimal.{canonical}
+use Rattle.cmd_values.proofs.Lowering.{text_intact, text_sound, text_becomes}
+use Rattle.cmd_values.proofs.StringLemmas.{number_lowered}
+use Rattle.keyspace.specs.Commands.{sight}
 use Rattle.cmd_values.proofs.strings.counting.write_number.Goals as goal
 
-pub returns-in-Ok-clause-held : goal.returns-in-Ok-clause-held
-returns-in-Ok-clause-held g c = record { sound = c.put.ensures.sound [] [] c.requires.ready.sound (λ r. omega arith); served = c.put.ensures.served; settings = c.put.ensures.settings }
+pub lower-requires-clause-intact : goal.lower-requires-clause-intact
+lower-requires-clause-intact g c =
+    text_intact c.args.at.now _ _ _ _ _ c.args.key.now c.in-Some.lifted c.into_text-text.result c.set_number.new.self c.into_text-text.ensures (ap g.B.BlockStore.blocks c.in-Some.ensures.store)
+    c.in-Some.ensures.lifts (c.in-Some.ensures.sound [] c.requires.ready.sound) c.set_number.ensures.changes
 
-pub returns-in-Err-clause-held : goal.returns-in-Err-clause-held
-returns-in-Err-clause-held g c = record { sound = c.put.ensures.sound [] [] c.requires.ready.sound (λ r. omega arith); served = c.put.ensures.served; settings = c.put.ensures.settings }
+pub returns-in-Some-clause-held : goal.returns-in-Some-clause-held
+returns-in-Some-clause-held g c = record {
+  sound =
+      text_sound c.args.at.now _ _ _ _ _ c.args.key.now c.in-Some.lifted c.into_text-text.result c.set_number.new.self c.into_text-text.ensures (ap g.B.BlockStore.blocks c.in-Some.ensures.store)
+      c.in-Some.ensures.lifts (c.in-Some.ensures.sound [] c.requires.ready.sound) c.set_number.ensures.changes _ _ (ap g.B.BlockStore.blocks c.lower.ensures.store) c.lower.ensures.sound;
+  served = search rules;
+  settings = search rules;
+}
 
-pub returns-in-Ok-clause-world : goal.returns-in-Ok-clause-world
-returns-in-Ok-clause-world g c =
-    number_written c.args.at.now c.args.keyspace.now.bases c.put.new.self.bases _ _ c.args.key.now c.args.n c.number.result (rw (to_z-of_z w64 c.args.n c.ranges.n) at c.in-Ok.ensures.means)
+pub returns-in-Some-clause-world : goal.returns-in-Some-clause-world
+returns-in-Some-clause-world g c =
+    number_lowered (sight g.B.BlockStore.blocks c.args.keyspace.now c.args.at.now) (sight g.B.BlockStore.blocks c.lower.new.self c.args.at.now) c.args.key.now _ c.args.n c.number-in-Some.result c.in-Some.ensures.lifts.deadline
+    (c.in-Some.ensures.lifts.stands ∙ ap (λ v. Some (record { value = value_of (g.B.BlockStore.blocks c.args.keyspace.now.store) v; deadline = c.in-Some.ensures.lifts.deadline })) c.into_text-text.ensures)
+    (text_becomes c.args.at.now c.args.keyspace.now.bases c.lift.new.self.bases _ _ _ c.args.key.now c.in-Some.lifted c.into_text-text.result c.set_number.new.self c.into_text-text.ensures (ap g.B.BlockStore.blocks c.in-Some.ensures.store)
+    c.in-Some.ensures.lifts (c.in-Some.ensures.sound [] c.requires.ready.sound) c.set_number.ensures.changes c.lower.new.self.bases _ (ap g.B.BlockStore.blocks c.lower.ensures.store) c.lower.ensures.means
+    (λ bytes. canonical c.args.n) (rw (to_z-of_z w64 c.args.n c.ranges.n) at c.set_number.ensures.bytes))

@@ -1,0 +1,20 @@
+use Rattle.std.proofs.Common.{◌∙◌}
+use Rattle.std.specs.Prelude.{ℤ, [], ◌∷◌, FitsSigned}
+use Rattle.std.specs.Int.{w64}
+use Rattle.std.proofs.lemmas.Int.{to_z-of_z}
+use Rattle.plain_world.specs.Worlds.{look}
+use Rattle.plain_model.specs.Outcomes.{Outcome, leaves}
+use Rattle.plain_model.specs.StringSteps.{on_string, or_null}
+use Rattle.plain_model.specs.Deadlines.{expire}
+use Rattle.keyspace.specs.Commands.{sight}
+use Rattle.cmd_values.proofs.StringLemmas.{old_value_then, due_fits}
+use Rattle.cmd_values.proofs.strings.lasting.get_until.Goals as goal
+
+pub returns-in_ok-expire-in-Some-clause-gives : goal.returns-in_ok-expire-in-Some-clause-gives
+returns-in_ok-expire-in-Some-clause-gives g c =
+    let old = (sight g.B.BlockStore.blocks c.args.keyspace.now c.args.at.now) in
+    let answer : ℤ → Outcome = λ deadline. on_string old (look old c.args.key.now) (λ before. leaves (or_null before ∷ []) (expire old c.args.at.now.moment c.args.key.now deadline (look old c.args.key.now))) in
+    let typed = rw c.in-Some.is at c.due.type_inv in
+    let fits : FitsSigned w64 c.in-Some.due = record { sfits = typed.1.1.1.1.0.1 } in
+    due_fits (sight g.B.BlockStore.blocks c.args.keyspace.now c.args.at.now) c.args.at.now.moment c.args.time c.in-Some.due answer c.in-Some.ensures.some fits
+    ∙ old_value_then (sight g.B.BlockStore.blocks c.args.keyspace.now c.args.at.now) (sight g.B.BlockStore.blocks c.expire.new.keyspace c.args.at.now) c.args.key.now c.in_ok-reply-in-Some.reply _ c.in_ok-reply-in-Some.ensures (rw (to_z-of_z w64 c.in-Some.due fits) at c.in_ok-expire-in-Some.ensures.world)
