@@ -1,0 +1,87 @@
+-- Commands on keys as steps of the model.
+use Rattle.std.proofs.Common.{◌≡◌, ◌<◌, ℕ, List, [], ◌∷◌, Option, Some, None, true, Result, Ok, Err, IfOk, refl, sym, ap, ◌∙◌, subst}
+use Rattle.std.specs.Prelude.{ℤ, is_some}
+use Rattle.plain_world.specs.Worlds.{World, Entry, live, look, in_time, deadline_of}
+use Rattle.plain_world.specs.declared.reply.Part.{Part}
+use Rattle.plain_world.specs.declared.reply.Part.TheVariants.{Number}
+use Rattle.plain_world.proofs.Lives.{was_in_time}
+use Rattle.plain_model.specs.Outcomes.{IsRefusal, leaves, tells}
+use Rattle.plain_model.specs.KeySteps.{deadline_told, time_told}
+use Rattle.plain_model.specs.Meant.{IsAsked}
+use Rattle.plain_model.proofs.Asked.{IsOneOf16, FitsKeys, command_fits}
+use Rattle.plain_model.specs.declared.ctx.Ctx.{Ctx}
+use Rattle.plain_model.specs.declared.keys.KeyCommand.{KeyCommand}
+use Rattle.plain_model.specs.declared.keys.KeyCommand.TheVariants as keys
+use Rattle.plain_model.specs.declared.keys.CopyOptions.{CopyOptions}
+use Rattle.plain_model.specs.declared.connection.ConnectionCommand.{ConnectionCommand}
+use Rattle.plain_model.specs.ConnectionSteps.{connection_outcome, may_connection}
+use Rattle.plain_model.specs.declared.command.Command.TheVariants.{Keys, Connection}
+use Rattle.blocks.specs.Blocks.{Blocks}
+use Rattle.keyspace.specs.Databases.{Keyspace}
+use Rattle.keyspace.specs.Commands.{Ready, Kept, Runs, sight}
+use Rattle.keyspace.proofs.Running.{outcome_is, unchanged}
+use Rattle.cmd_keys.specs.declared.keys.look.Timeless.{Timeless}
+use Rattle.cmd_keys.specs.Found.{Serves, Tells, IsDatabase, IsDeadlineAt, told_of}
+
+-- what stands at a key of the live world, and its deadline
+pub record StandsUntil (world : World) (moment : ℕ) (key : List ℕ) (deadline : Option ℕ) : Type 0 where
+  pub entry : Entry
+  pub stands : look (live world moment) key ≡ Some entry
+  pub same : entry.deadline ≡ deadline
+  pub late : in_time moment deadline ≡ true
+
+pub some_entry : (o : Option Entry) → is_some o ≡ true → (e : Entry) × (o ≡ Some e)
+some_entry None there = cc
+some_entry (Some e) there = (e, refl)
+
+pub stands_until : (world : World) (moment : ℕ) (key : List ℕ) (deadline : Option ℕ) → is_some (look (live world moment) key) ≡ true → deadline ≡ deadline_of (look world key) → StandsUntil world moment key deadline
+stands_until world moment key deadline there is =
+    let found = some_entry (look (live world moment) key) there in
+    let was = was_in_time world moment key found.0 found.1 in
+    let same : found.0.deadline ≡ deadline = sym (is ∙ ap deadline_of was.0) in
+    record { entry = found.0; stands = found.1; same = same; late = sym (ap (in_time moment) same) ∙ was.1 }
+
+-- whatever is told of it
+pub told_there : (world : World) (moment : ℕ) (key : List ℕ) (deadline : Option ℕ) → StandsUntil world moment key deadline → (tell : ℕ → ℕ) → time_told tell (look (live world moment) key) ≡ deadline_told tell deadline
+told_there world moment key deadline stands tell = ap (time_told tell) stands.stands ∙ ap (deadline_told tell) stands.same
+
+-- what is told of a deadline is told
+pub time_answered : {E : Type 0} (old : World) (key : List ℕ) (tell : ℕ → ℕ) (deadline : Result ℕ Timeless) (told : ℤ) (result : Result (List Part) E)
+    → IsDeadlineAt old key deadline → told_of tell deadline ≡ told → IfOk result (λ reply. reply ≡ Number told ∷ [])
+    → IfOk result (λ reply. tells (Number (time_told tell (look old key)) ∷ []) old ≡ leaves reply old)
+time_answered old key tell deadline told (Ok reply) at same is = ap (λ n. tells (Number n ∷ []) old) (at tell ∙ same) ∙ ap (λ r. leaves r old) (sym is)
+time_answered old key tell deadline told (Err x) at same is = tt
+
+-- a number is no refusal
+pub number_calm : {E : Type 0} (n : ℤ) (result : Result (List Part) E) → IfOk result (λ reply. reply ≡ Number n ∷ []) → IfOk result (λ reply. IsRefusal reply → ⊥)
+number_calm n (Ok reply) is = λ refused. subst IsRefusal is refused
+number_calm n (Err x) is = tt
+
+-- ---- what a command function says is what running the command means
+
+pub fits_keys : (command : KeyCommand) → IsAsked (Keys command) → FitsKeys command
+fits_keys command asked = command_fits asked.words (Keys command) asked.means
+
+-- the database of COPY and of MOVE
+pub asked_copy : (command : KeyCommand) (from to : List ℕ) (options : CopyOptions) → IsAsked (Keys command) → command ≡ keys.Copy from to options → IsDatabase options.db
+asked_copy command from to options asked is = one_of options.db (subst FitsKeys is (fits_keys command asked))
+  where
+    one_of : (db : Option ℕ) → IsOneOf16 db → IsDatabase db
+    one_of None h = tt
+    one_of (Some number) h = h
+
+pub asked_move : (command : KeyCommand) (key : List ℕ) (number : ℕ) → IsAsked (Keys command) → command ≡ keys.MoveKey key number → number < 16
+asked_move command key number asked is = subst FitsKeys is (fits_keys command asked)
+
+-- a command on the connection or the server ran
+pub served_connection : {S E : Type 0} (blocks : S → Blocks) (step : S → S → Type 0) (old new : Keyspace S) (at : Ctx) (command same : ConnectionCommand) (result : Result (List Part) E)
+    → command ≡ same → Serves blocks old new at same result → Kept blocks step old new result → Runs blocks step old new at (Connection command) result
+served_connection blocks step old new at command same (Ok reply) is given kept =
+    record { answers = subst (λ c. may_connection (sight blocks old at) at.moment c reply (sight blocks new at)) (sym is) (outcome_is (connection_outcome at.moment (sight blocks old at) same) reply (sight blocks new at) given); kept = kept }
+served_connection blocks step old new at command same (Err x) is given kept = record { answers = tt; kept = kept }
+
+-- one that tells the same in every world
+pub told_connection : {S E : Type 0} (blocks : S → Blocks) (step : S → S → Type 0) (keyspace : Keyspace S) (at : Ctx) (command same : ConnectionCommand) (result : Result (List Part) E)
+    → command ≡ same → Tells same result → Ready blocks keyspace at → Runs blocks step keyspace keyspace at (Connection command) result
+told_connection blocks step keyspace at command same result is told ready =
+    served_connection blocks step keyspace keyspace at command same result is (told at.moment (sight blocks keyspace at)) (unchanged blocks step keyspace result ready.sound)

@@ -1,0 +1,4 @@
+pub mod Moving
+pub mod Copying
+pub mod KeyLemmas
+pub mod Emptying

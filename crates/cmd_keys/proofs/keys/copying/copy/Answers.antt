@@ -1,0 +1,17 @@
+use Rattle.std.proofs.Common.{refl, sym}
+use Rattle.keyspace.specs.Commands.{seen}
+use Rattle.cmd_keys.proofs.Copying.{copy_done, copy_stopped}
+use Rattle.cmd_keys.proofs.keys.copying.copy.Goals as goal
+
+pub returns-then-is_taken-clause-gives : goal.returns-then-is_taken-clause-gives
+returns-then-is_taken-clause-gives g c =
+    let world = seen c.args.at.now c.args.keyspace.now.bases (g.B.BlockStore.blocks c.args.keyspace.now.store) in
+    copy_stopped world c.args.from.now c.args.to.now c.args.options c.number_of-number.result (c.number_of-number.ensures.number world refl) c.count_reply-then-is_taken.result
+    (sym c.if-is_same_place.ensures) (sym c.if-not-is_there.ensures) (sym c.if-is_taken.ensures) c.count_reply-then-is_taken.ensures
+
+pub returns-clause-gives : goal.returns-clause-gives
+returns-clause-gives g c =
+    let blocks = g.B.BlockStore.blocks in
+    let world = seen c.args.at.now c.args.keyspace.now.bases (blocks c.args.keyspace.now.store) in
+    copy_done world c.args.from.now c.args.to.now c.args.options c.number_of-number.result (c.number_of-number.ensures.number world refl) (seen c.args.at.now c.copy_to.new.keyspace.bases (blocks c.copy_to.new.keyspace.store)) c.count_reply-2.result
+    (sym c.if-is_same_place.ensures) (sym c.if-not-is_there.ensures) (sym c.if-is_taken.ensures) c.in_ok-copy_to.ensures.world c.count_reply-2.ensures

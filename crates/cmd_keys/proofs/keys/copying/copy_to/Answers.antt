@@ -1,0 +1,22 @@
+use Rattle.std.proofs.Common.{[], ap, arith, ◌∙◌}
+use Rattle.blocks.proofs.Serve.{Served-then}
+use Rattle.plain_world.specs.Worlds.{deadline_of}
+use Rattle.keyspace.specs.Values.{value_refs}
+use Rattle.keyspace.proofs.Calls.{settings_then}
+use Rattle.cmd_keys.proofs.Copying.{copied_put, on_ok_so}
+use Rattle.cmd_keys.proofs.keys.copying.copy_to.Goals as goal
+
+pub returns-in-Ok-clause-world : goal.returns-in-Ok-clause-world
+returns-in-Ok-clause-world g c =
+    let blocks = g.B.BlockStore.blocks in
+    on_ok_so c.put.result (λ clause entry stands.
+    copied_put c.args.at.now c.args.keyspace.now.bases c.copy_value.new.keyspace.bases c.put.new.self.bases (blocks c.args.keyspace.now.store) (blocks c.copy_value.new.keyspace.store) (blocks c.put.new.self.store)
+    c.args.number c.args.to.now c.args.from.now c.in-Ok.value c.deadline_at-deadline.result entry stands c.copy_value.ensures.world (c.in-Ok.ensures.value entry stands)
+    (c.deadline_at-deadline.ensures.value ∙ ap deadline_of stands) clause) c.put.ensures.means
+
+pub returns-in-Ok-clause-held : goal.returns-in-Ok-clause-held
+returns-in-Ok-clause-held g c = record {
+  sound = c.put.ensures.sound (value_refs c.in-Ok.value) [] c.in-Ok.ensures.sound (λ r. omega arith);
+  served = Served-then _ _ _ c.copy_value.ensures.served c.put.ensures.served;
+  settings = settings_then c.args.keyspace.now.bases c.copy_value.new.keyspace.bases c.put.new.self.bases c.copy_value.ensures.settings c.put.ensures.settings;
+}

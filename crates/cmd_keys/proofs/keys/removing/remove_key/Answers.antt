@@ -1,0 +1,17 @@
+use Rattle.std.proofs.Common.{[], ap, ◌∙◌}
+use Rattle.plain_world.specs.Worlds.{live}
+use Rattle.plain_world.proofs.Lives.{live_remove}
+use Rattle.keyspace.specs.Databases.{means}
+use Rattle.cmd_keys.proofs.keys.removing.remove_key.Goals as goal
+
+pub returns-clause-world : goal.returns-clause-world
+returns-clause-world g c =
+    let at = c.args.at.now in
+    ap (λ w. live w at.moment) c.drop_key.ensures.means ∙ live_remove (means at.db c.args.keyspace.now.bases (g.B.BlockStore.blocks c.args.keyspace.now.store)) at.moment c.args.key.now
+
+pub returns-clause-held : goal.returns-clause-held
+returns-clause-held g c = record {
+  sound = c.drop_key.ensures.sound [] c.requires.ready.sound;
+  served = c.drop_key.ensures.served;
+  settings = c.drop_key.ensures.settings;
+}

@@ -1,0 +1,111 @@
+//! Commands on the connection and on the server as a whole.
+
+ghost use Rattle.std.specs.Prelude.{◌≡◌, ◌<◌};
+ghost use Rattle.std.specs.FinMap.{len};
+ghost use Rattle.plain_world.specs.Worlds.{no_keys, with_base};
+ghost use Rattle.plain_model.specs.declared.connection.ConnectionCommand.TheVariants as commands;
+ghost use Rattle.keyspace.specs.Commands.{Ready, Held, Kept, sight};
+ghost use Rattle.cmd_keys.specs.Found.{Serves, Tells};
+ghost use Rattle.cmd_keys.specs.Emptied.{IsEmpty};
+
+use blocks::BlockStore;
+use keyspace::Keyspace;
+use plain_model::{Bytes, Ctx, Line, Memory, Reply};
+use std::alloc::{AllocError, Global};
+
+// How many databases there are.
+const DATABASES: usize = 16;
+
+/// `PING [text]`: PONG, or the text.
+pub fn ping(alloc: Global, text: &Option<Bytes>) -> Result<Reply, Memory>
+    ensures { Tells (commands.Ping text.now) result }
+{
+    match text {
+        None => Reply::simple(alloc, Line::pong()),
+        Some(text) => Reply::bulk(alloc, Bytes::new(alloc, text.as_slice())?),
+    }
+}
+
+/// `ECHO text`: the text.
+pub fn echo(alloc: Global, text: &[u8]) -> Result<Reply, Memory>
+    ensures { Tells (commands.Echo text.now) result }
+{
+    Reply::bulk(alloc, Bytes::new(alloc, text)?)
+}
+
+// Removes all keys of the selected database.
+fn clear_selected<B: BlockStore>(keyspace: &mut Keyspace<B>, at: &Ctx)
+    requires ready { Ready B.blocks keyspace.old at.now }
+    ensures world { sight B.blocks keyspace.new at.now ≡ with_base (sight B.blocks keyspace.old at.now) no_keys }
+    ensures held { Held B.blocks B.step keyspace.old keyspace.new }
+{
+    keyspace.clear(at.db);
+}
+
+/// `QUIT`: OK. Whoever holds the connection closes it.
+pub fn quit(alloc: Global) -> Result<Reply, Memory>
+    ensures { Tells commands.Quit result }
+{
+    Reply::simple(alloc, Line::ok())
+}
+
+/// `FLUSHDB [ASYNC or SYNC]`: OK; the selected database has no key afterwards.
+#[tactic(auto, using(keyspace::proofs::Serving::nothing))]
+pub fn flushdb<B: BlockStore>(keyspace: &mut Keyspace<B>, at: &Ctx) -> Result<Reply, Memory>
+    requires ready { Ready B.blocks keyspace.old at.now }
+    ensures gives { Serves B.blocks keyspace.old keyspace.new at.now commands.FlushDb result }
+    ensures kept { Kept B.blocks B.step keyspace.old keyspace.new result }
+{
+    clear_selected(keyspace, at);
+    Reply::simple(keyspace.alloc(), Line::ok())
+}
+
+// Removes all keys of all databases.
+#[tactic(auto, using(keyspace::proofs::Serving::nothing, keyspace::proofs::Serving::both))]
+fn clear_all<B: BlockStore>(keyspace: &mut Keyspace<B>, at: &Ctx)
+    requires ready { Ready B.blocks keyspace.old at.now }
+    ensures world { IsEmpty (sight B.blocks keyspace.new at.now) at.now.db }
+    ensures held { Held B.blocks B.step keyspace.old keyspace.new }
+{
+    let _ = at;
+    for db in 0..DATABASES {
+        keyspace.clear(db);
+    }
+}
+
+/// `FLUSHALL [ASYNC or SYNC]`: OK; no database has a key afterwards.
+#[tactic(auto, using(keyspace::proofs::Serving::nothing))]
+pub fn flushall<B: BlockStore>(keyspace: &mut Keyspace<B>, at: &Ctx) -> Result<Reply, Memory>
+    requires ready { Ready B.blocks keyspace.old at.now }
+    ensures gives { Serves B.blocks keyspace.old keyspace.new at.now commands.FlushAll result }
+    ensures kept { Kept B.blocks B.step keyspace.old keyspace.new result }
+{
+    clear_all(keyspace, at);
+    Reply::simple(keyspace.alloc(), Line::ok())
+}
+
+// Removes the keys of the selected database that are gone, and counts the others.
+fn count_live<B: BlockStore>(keyspace: &mut Keyspace<B>, at: &Ctx) -> u64
+    requires ready { Ready B.blocks keyspace.old at.now }
+    ensures count { result ≡ len ((sight B.blocks keyspace.old at.now).bases at.now.db) }
+    ensures world { sight B.blocks keyspace.new at.now ≡ sight B.blocks keyspace.old at.now }
+    ensures held { Held B.blocks B.step keyspace.old keyspace.new }
+{
+    let _ = keyspace.purge(at.db, at.moment);
+    keyspace.count(at.db)
+}
+
+/// `DBSIZE`: the number of keys that are there. Those that are gone are removed first.
+#[tactic(auto, using(keyspace::proofs::Serving::nothing))]
+pub fn dbsize<B: BlockStore>(keyspace: &mut Keyspace<B>, at: &Ctx) -> Result<Reply, Memory>
+    requires ready { Ready B.blocks keyspace.old at.now }
+    ensures gives { Serves B.blocks keyspace.old keyspace.new at.now commands.DbSize result }
+    ensures kept { Kept B.blocks B.step keyspace.old keyspace.new result }
+{
+    let count = count_live(keyspace, at);
+    match i64::try_from(count) {
+        Ok(count) => Reply::number(keyspace.alloc(), count),
+        // So many keys stand in no memory.
+        Err(_) => Err(AllocError),
+    }
+}

@@ -1,0 +1,127 @@
+//! The command that copies keys.
+
+ghost use Rattle.std.specs.Prelude.{◌≡◌, ◌<◌, ◌==◌, ◌&&◌, not, bytes_eq, Some, IfOk, OnOk, OnErr, is_some, true};
+ghost use Rattle.plain_world.specs.Worlds.{Entry, World, look, put_in};
+ghost use Rattle.plain_model.specs.KeySteps.{or_selected};
+ghost use Rattle.plain_model.specs.declared.keys.KeyCommand.TheVariants as commands;
+ghost use Rattle.blocks.specs.Blocks.{Served};
+ghost use Rattle.keyspace.specs.Values.{value_of, value_refs};
+ghost use Rattle.keyspace.specs.Databases.{means, SameSettings};
+ghost use Rattle.keyspace.specs.Sound.{Sound, SoundBeside};
+ghost use Rattle.keyspace.specs.Commands.{Ready, Held, Kept, sight};
+ghost use Rattle.cmd_keys.specs.Found.{Gives, IsDatabase};
+
+use crate::keys::look::{count_reply, is_there};
+use blocks::BlockStore;
+use keyspace::{Keyspace, Value, deadline_at};
+use plain_model::{CopyOptions, Ctx, Memory, Refusal, Reply};
+
+// Another value that means what stands at a key.
+fn copy_value<B: BlockStore>(
+    keyspace: &mut Keyspace<B>,
+    at: &Ctx,
+    key: &[u8],
+) -> Result<Value, Memory>
+    requires ready { Ready B.blocks keyspace.old at.now }
+    requires there { is_some (look (sight B.blocks keyspace.old at.now) key.now) ≡ true }
+    ensures world { means at.now.db keyspace.new.bases (B.blocks keyspace.new.store) ≡ means at.now.db keyspace.old.bases (B.blocks keyspace.old.store) }
+    ensures value { IfOk result (λ value. (entry : Entry) → look (sight B.blocks keyspace.old at.now) key.now ≡ Some entry → value_of (B.blocks keyspace.new.store) value ≡ entry.value) }
+    ensures sound { IfOk result (λ value. SoundBeside keyspace.new.bases (B.blocks keyspace.new.store) (value_refs value)) }
+    ensures err { OnErr result (Sound keyspace.new.bases (B.blocks keyspace.new.store)) }
+    ensures served { Served B.step keyspace.old.store keyspace.new.store }
+    ensures settings { SameSettings keyspace.old.bases keyspace.new.bases }
+{
+    let Some(lifted) = keyspace.lift(at.db, key, at.moment) else {
+        unreachable!();
+    };
+    let copied = lifted.value.copy(&mut keyspace.store);
+    keyspace.lower(lifted);
+    match copied {
+        Ok(value) => Ok(value),
+        Err(error) => Err(error),
+    }
+}
+
+// What stands at a key is copied to a key of a database, with its deadline.
+fn copy_to<B: BlockStore>(
+    keyspace: &mut Keyspace<B>,
+    at: &Ctx,
+    from: &[u8],
+    number: usize,
+    to: &[u8],
+) -> Result<(), Memory>
+    requires ready { Ready B.blocks keyspace.old at.now }
+    requires there { is_some (look (sight B.blocks keyspace.old at.now) from.now) ≡ true }
+    requires number { number < 16 }
+    ensures world { OnOk result ((entry : Entry) → look (sight B.blocks keyspace.old at.now) from.now ≡ Some entry → sight B.blocks keyspace.new at.now ≡ put_in (sight B.blocks keyspace.old at.now) number to.now entry) }
+    ensures held { Held B.blocks B.step keyspace.old keyspace.new }
+{
+    let deadline = deadline_at(keyspace, at, from);
+    match copy_value(keyspace, at, from) {
+        Err(error) => Err(error),
+        Ok(value) => keyspace.put(number, to, value, deadline),
+    }
+}
+
+// The database that is copied to.
+fn number_of(at: &Ctx, db: Option<usize>) -> usize
+    requires selected { at.now.db < 16 }
+    requires other { IsDatabase db }
+    ensures number { (world : World) → world.selected ≡ at.now.db → or_selected world db ≡ result }
+    ensures within { result < 16 }
+{
+    match db {
+        None => at.db,
+        Some(number) => number,
+    }
+}
+
+// Whether both keys are one key of one database.
+fn is_same_place(at: &Ctx, number: usize, from: &[u8], to: &[u8]) -> bool
+    ensures { result ≡ ((number == at.now.db) && bytes_eq from.now to.now) }
+{
+    number == at.db && from == to
+}
+
+// Whether something stands at a key that isn't to be replaced.
+fn is_taken<B: BlockStore>(keyspace: &Keyspace<B>, at: &Ctx, key: &[u8], replace: bool) -> bool
+    requires ready { Ready B.blocks keyspace.now at.now }
+    ensures { result ≡ (is_some (look (sight B.blocks keyspace.now at.now) key.now) && not replace) }
+{
+    let there = is_there(keyspace, at, key);
+    there && !replace
+}
+
+/// `COPY from to [DB db] [REPLACE]`: 1, or 0 where nothing stands at the first key, or something at the other one that isn't
+/// to be replaced. The keys or the databases have to differ.
+#[tactic(auto, using(keyspace::proofs::Serving::nothing))]
+pub fn copy<B: BlockStore>(
+    keyspace: &mut Keyspace<B>,
+    at: &Ctx,
+    from: &[u8],
+    to: &[u8],
+    options: CopyOptions,
+) -> Result<Reply, Memory>
+    requires ready { Ready B.blocks keyspace.old at.now }
+    requires database { IsDatabase options.db }
+    ensures gives { Gives B.blocks keyspace.old keyspace.new at.now (commands.Copy from.now to.now options) result }
+    ensures kept { Kept B.blocks B.step keyspace.old keyspace.new result }
+{
+    let alloc = keyspace.alloc();
+    let number = number_of(at, options.db);
+    if is_same_place(at, number, from, to) {
+        return Reply::refused(alloc, Refusal::SameSourceAndDestination);
+    }
+    if !is_there(keyspace, at, from) {
+        return count_reply(alloc, 0);
+    }
+    let other = Ctx {
+        db: number,
+        moment: at.moment,
+    };
+    if is_taken(keyspace, &other, to, options.replace) {
+        return count_reply(alloc, 0);
+    }
+    copy_to(keyspace, at, from, number, to)?;
+    count_reply(alloc, 1)
+}

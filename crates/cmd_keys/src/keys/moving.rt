@@ -1,0 +1,146 @@
+//! Commands that move keys, and the one that picks some key.
+
+ghost use Rattle.std.specs.Prelude.{◌≡◌, ◌<◌, Some, IfOk, OnOk, bytes_eq, false};
+ghost use Rattle.plain_world.specs.Worlds.{Entry, look, put_in, remove};
+ghost use Rattle.plain_model.specs.KeySteps as model;
+ghost use Rattle.plain_model.specs.KeySteps.{IsSomeKey};
+ghost use Rattle.plain_model.specs.declared.keys.KeyCommand.TheVariants as commands;
+ghost use Rattle.cmd_keys.specs.Found.{Gives};
+ghost use Rattle.keyspace.specs.Commands.{Ready, Held, Kept, sight};
+
+use crate::keys::look::{count_reply, is_there};
+use blocks::BlockStore;
+use keyspace::Keyspace;
+use plain_model::{Bytes, Ctx, Line, Memory, Refusal, Reply};
+use rand_core::utils::NextWord;
+use rand_pcg::Pcg32;
+
+/// `RANDOMKEY`: some key that is there, or null where none is.
+pub fn randomkey<B: BlockStore>(
+    keyspace: &Keyspace<B>,
+    at: &Ctx,
+    dice: &mut Pcg32,
+) -> Result<Reply, Memory>
+    requires ready { Ready B.blocks keyspace.now at.now }
+    ensures { IfOk result (λ reply. IsSomeKey (sight B.blocks keyspace.now at.now) reply) }
+{
+    let alloc = keyspace.alloc();
+    let start = dice.next_word() as usize;
+    match keyspace.pick(at.db, start, at.moment) {
+        None => Reply::null(alloc),
+        Some(key) => Reply::bulk(alloc, Bytes::new(alloc, key)?),
+    }
+}
+
+// What stands at a key moves to another one, of the same database or of another.
+fn move_to<B: BlockStore>(
+    keyspace: &mut Keyspace<B>,
+    at: &Ctx,
+    from: &[u8],
+    number: usize,
+    to: &[u8],
+) -> Result<(), Memory>
+    requires ready { Ready B.blocks keyspace.old at.now }
+    requires number { number < 16 }
+    requires apart { (at.now.db ≡ number) × (from.now ≡ to.now) → ⊥ }
+    ensures world { OnOk result ((entry : Entry) → look (sight B.blocks keyspace.old at.now) from.now ≡ Some entry → sight B.blocks keyspace.new at.now ≡ put_in (remove (sight B.blocks keyspace.old at.now) from.now) number to.now entry) }
+    ensures held { Held B.blocks B.step keyspace.old keyspace.new }
+{
+    match keyspace.rename(at.db, from, number, to) {
+        Ok(_) => Ok(()),
+        Err(error) => Err(error),
+    }
+}
+
+// What stands at a key moves to another key of the database; the same key changes nothing.
+#[tactic(auto, using(keyspace::proofs::Serving::nothing))]
+fn rename_key<B: BlockStore>(
+    keyspace: &mut Keyspace<B>,
+    at: &Ctx,
+    from: &[u8],
+    to: &[u8],
+) -> Result<(), Memory>
+    requires ready { Ready B.blocks keyspace.old at.now }
+    ensures world { OnOk result ((entry : Entry) → look (sight B.blocks keyspace.old at.now) from.now ≡ Some entry → sight B.blocks keyspace.new at.now ≡ model.rename (sight B.blocks keyspace.old at.now) from.now to.now entry) }
+    ensures held { Held B.blocks B.step keyspace.old keyspace.new }
+{
+    if from == to {
+        return Ok(());
+    }
+    move_to(keyspace, at, from, at.db, to)
+}
+
+/// `RENAME from to`: OK; what stood at the new key is replaced. An error where nothing stands at the old one.
+#[tactic(auto, using(keyspace::proofs::Serving::nothing))]
+pub fn rename<B: BlockStore>(
+    keyspace: &mut Keyspace<B>,
+    at: &Ctx,
+    from: &[u8],
+    to: &[u8],
+) -> Result<Reply, Memory>
+    requires ready { Ready B.blocks keyspace.old at.now }
+    ensures gives { Gives B.blocks keyspace.old keyspace.new at.now (commands.Rename from.now to.now) result }
+    ensures kept { Kept B.blocks B.step keyspace.old keyspace.new result }
+{
+    let alloc = keyspace.alloc();
+    if !is_there(keyspace, at, from) {
+        return Reply::refused(alloc, Refusal::NoSuchKey);
+    }
+    rename_key(keyspace, at, from, to)?;
+    Reply::simple(alloc, Line::ok())
+}
+
+/// `RENAMENX from to`: 1, or 0 where something stands at the new key. An error where nothing stands at the old one.
+#[tactic(auto, using(keyspace::proofs::Serving::nothing))]
+pub fn renamenx<B: BlockStore>(
+    keyspace: &mut Keyspace<B>,
+    at: &Ctx,
+    from: &[u8],
+    to: &[u8],
+) -> Result<Reply, Memory>
+    requires ready { Ready B.blocks keyspace.old at.now }
+    ensures gives { Gives B.blocks keyspace.old keyspace.new at.now (commands.RenameNx from.now to.now) result }
+    ensures kept { Kept B.blocks B.step keyspace.old keyspace.new result }
+{
+    let alloc = keyspace.alloc();
+    if !is_there(keyspace, at, from) {
+        return Reply::refused(alloc, Refusal::NoSuchKey);
+    }
+    if is_there(keyspace, at, to) {
+        return count_reply(alloc, 0);
+    }
+    rename_key(keyspace, at, from, to)?;
+    count_reply(alloc, 1)
+}
+
+/// `MOVE key db`: 1, or 0 where nothing stands at the key or something stands at it in the other database. The databases
+/// have to differ.
+#[tactic(auto, using(keyspace::proofs::Serving::nothing))]
+pub fn move_key<B: BlockStore>(
+    keyspace: &mut Keyspace<B>,
+    at: &Ctx,
+    key: &[u8],
+    number: usize,
+) -> Result<Reply, Memory>
+    requires ready { Ready B.blocks keyspace.old at.now }
+    requires number { number < 16 }
+    ensures gives { Gives B.blocks keyspace.old keyspace.new at.now (commands.MoveKey key.now number) result }
+    ensures kept { Kept B.blocks B.step keyspace.old keyspace.new result }
+{
+    let alloc = keyspace.alloc();
+    if number == at.db {
+        return Reply::refused(alloc, Refusal::SameSourceAndDestination);
+    }
+    if !is_there(keyspace, at, key) {
+        return count_reply(alloc, 0);
+    }
+    let other = Ctx {
+        db: number,
+        moment: at.moment,
+    };
+    if is_there(keyspace, &other, key) {
+        return count_reply(alloc, 0);
+    }
+    move_to(keyspace, at, key, number, key)?;
+    count_reply(alloc, 1)
+}
