@@ -4,11 +4,12 @@ use Rattle.std.proofs.lemmas.Bool.{cases_eq, cases_lt, eq-eqb, ne_eqb, cond-true
 use Rattle.std.proofs.lemmas.List.{get_or_past}
 use Rattle.blocks.specs.Blocks.{Blocks}
 use Rattle.plain_world.specs.Worlds.{World, new_world, no_keys}
-use Rattle.keyspace.specs.Table.{map_of, no_table}
-use Rattle.keyspace.specs.Databases.{Bases, entry_of, means}
+use Rattle.held.specs.Databases.{base_means, no_base}
+use Rattle.held.proofs.Calls.{no_base_means}
+use Rattle.keyspace.specs.Values.{value_of}
+use Rattle.keyspace.specs.Databases.{Bases, means}
 use Rattle.keyspace.specs.Sound.{IsArranged}
 use Rattle.keyspace.specs.Worlds.{emptied}
-use Rattle.keyspace.proofs.Tables.{map_of-empty}
 
 -- one more has no key
 pub next_cleared : (old new : Bases) (m after : Blocks) (db : ℕ) → means db new after ≡ emptied (means db old m) → ((k : ℕ) → k < db → (means 0 old m).bases k ≡ no_keys) → (k : ℕ) → k < db + 1 → (means 0 new after).bases k ≡ no_keys
@@ -26,5 +27,5 @@ all_cleared bases m arranged cleared = λ i. record { bases = λ k. each k i; se
     each : (k : ℕ) → (means 0 bases m).bases k ≡ no_keys
     each k = elim (cases_lt k 16) [
       | inl below ↦ cleared k below
-      | inr past ↦ ap (map_of m (entry_of m)) (get_or_past bases.tables k (no_table 0) (omega (arith, past, arranged.sixteen))) ∙ map_of-empty m (entry_of m) (no_table 0) refl
+      | inr past ↦ ap (base_means value_of m) (get_or_past bases.bases k (no_base 0) (omega (arith, past, arranged.sixteen))) ∙ no_base_means value_of m 0
     ]

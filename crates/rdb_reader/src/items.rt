@@ -67,7 +67,7 @@ fn read_item<B: BlockStore>(
     };
     match item.meaning {
         Meaning::End => Ok(Read::End),
-        Meaning::Key { name, value } => match put_key(keyspace, &name, &value, moment) {
+        Meaning::Key { name, value } => match put_key(keyspace, &name, &value) {
             Ok(true) => Ok(Read::Key(item.next)),
             Ok(false) => Err(LoadFault::Refused {
                 kind: LoadKind::DuplicateKey,

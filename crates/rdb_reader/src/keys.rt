@@ -58,22 +58,20 @@ fn put_value<B: BlockStore>(
     keyspace.put(0, name, made, None)
 }
 
-// Whether something stands at a key of database 0 at the moment, in milliseconds.
-fn is_there<B: BlockStore>(keyspace: &Keyspace<B>, name: &[u8], moment: u64) -> bool
+// Whether something stands at a key of database 0: no deadline is past at moment 0.
+fn is_there<B: BlockStore>(keyspace: &Keyspace<B>, name: &[u8]) -> bool
     requires sound { Sound keyspace.now.bases (B.blocks keyspace.now.store) }
     ensures { result ≡ is_some (look (means 0 keyspace.now.bases (B.blocks keyspace.now.store)) name.now) }
 {
-    keyspace.look(0, name, moment).is_some()
+    keyspace.look(0, name, 0).is_some()
 }
 
-/// Puts a key of the file with its value into database 0, and says whether it wasn't there at the moment, in milliseconds;
-/// where it was, nothing changes.
+/// Puts a key of the file with its value into database 0, and says whether it wasn't there; where it was, nothing changes.
 #[tactic(auto, using(keyspace::proofs::Serving::nothing, keyspace::proofs::Serving::both))]
 pub fn put_key<B: BlockStore>(
     keyspace: &mut Keyspace<B>,
     name: &Chunk<'_>,
     value: &FileValue<'_>,
-    moment: u64,
 ) -> Result<bool, Memory>
     requires sound { Sound keyspace.old.bases (B.blocks keyspace.old.store) }
     ensures puts { IfOk result (λ fresh. Puts (means 0 keyspace.old.bases (B.blocks keyspace.old.store)) (means 0 keyspace.new.bases (B.blocks keyspace.new.store)) (text_of name.now) (value_of value.now) fresh) }
@@ -83,7 +81,7 @@ pub fn put_key<B: BlockStore>(
 {
     let mut buffer = Buffer::new();
     let name = text(name, &mut buffer);
-    if is_there(keyspace, name, moment) {
+    if is_there(keyspace, name) {
         return Ok(false);
     }
     put_value(keyspace, name, value)?;

@@ -1,0 +1,46 @@
+-- The world of a file is live at the moment of loading: a key whose deadline is past is passed over.
+use Rattle.std.proofs.Common.{◌≡◌, ℕ, Bool, true, false, cond, List, [], ◌∷◌, Option, Some, None, Ok, Err, Result, refl, sym, ap, ◌∙◌, subst}
+use Rattle.plain_world.specs.Worlds.{World, Entry, new_world, in_time, live, put}
+use Rattle.plain_world.proofs.Lives.{live_none, live_put_in_time}
+use Rattle.rdb_grammar.specs.Items.{Item, Passed, Deadline, Database, End, Key}
+use Rattle.rdb_grammar.specs.Files.{State, new_state, with_key, after, file_world, Items, IsFile}
+use Rattle.rdb_reader.specs.declared.fault.LoadFault.{LoadFault}
+use Rattle.rdb_reader.specs.declared.fault.LoadFault.TheVariants as faults
+use Rattle.rdb_reader.specs.declared.loading.Loaded.{Loaded}
+use Rattle.rdb_reader.specs.Loads.{Loads, LoadsFile}
+use Rattle.outside.specs.Files.{Files}
+
+pub new_live : (moment : ℕ) → live new_world moment ≡ new_world
+new_live moment = λ i. record { bases = λ number. live_none moment i; selected = 0 }
+
+module _ (moment : ℕ) where
+  key_live : (state : State) (entry : Entry) (name : List ℕ) (late : Bool) → in_time moment entry.deadline ≡ late → live state.world moment ≡ state.world
+      → live (cond late (put state.world name entry) state.world) moment ≡ cond late (put state.world name entry) state.world
+  key_live state entry name true late is = live_put_in_time state.world moment name entry late ∙ ap (λ w. put w name entry) is
+  key_live state entry name false late is = is
+
+  after_live : (state : State) (x : Item) → live state.world moment ≡ state.world → live (after moment state x).world moment ≡ (after moment state x).world
+  after_live state Passed is = is
+  after_live state (Deadline n) is = is
+  after_live state (Database n) is = λ i. record { bases = (is i).bases; selected = n }
+  after_live state End is = is
+  after_live state (Key name value) is = key_live state (record { value = value; deadline = state.deadline }) name (in_time moment state.deadline) refl is
+
+  items_live : (bytes : List ℕ) (items : List Item) (at : ℕ) (old : State) (to : ℕ) (new : State) → Items bytes moment items at old to new → live old.world moment ≡ old.world → live new.world moment ≡ new.world
+  unfolding Items
+  items_live bytes [] at old to new h is = subst (λ (s : State). live s.world moment ≡ s.world) (sym h.1) is
+  items_live bytes (x ∷ xs) at old to new h is = items_live bytes xs h.0 (after moment old x) to new h.3 (after_live old x is)
+
+  pub file_live : (bytes : List ℕ) (world : World) → IsFile bytes moment world → live world moment ≡ world
+  file_live bytes world f =
+      let reached = f.reached in
+      let all : live f.state.world moment ≡ f.state.world = items_live bytes reached.items reached.first new_state _ f.state reached.itemised (new_live moment) in
+      subst (λ w. live w moment ≡ w) (sym f.means) (λ i. record { bases = (all i).bases; selected = 0 })
+
+  -- what is loaded is live
+  pub loads_live : (files : Files) (name : List ℕ) (limit : ℕ) (world : World) (result : Result Loaded LoadFault) → Loads files name limit moment world result → Loads files name limit moment (live world moment) result
+  loads_live files name limit world (Ok loaded) l = subst (λ w. LoadsFile files name limit moment w loaded) (sym (file_live l.bytes world l.file)) l
+  loads_live files name limit world (Err (faults.Refused what at)) l = (l.0, ap (λ w. live w moment) l.1 ∙ new_live moment)
+  loads_live files name limit world (Err faults.Host) l = ap (λ w. live w moment) l ∙ new_live moment
+  loads_live files name limit world (Err faults.Limit) l = (l.0, ap (λ w. live w moment) l.1 ∙ new_live moment)
+  loads_live files name limit world (Err faults.Memory) l = ap (λ w. live w moment) l ∙ new_live moment
