@@ -1,61 +1,98 @@
 -- Requests as steps of the model.
-use Rattle.std.proofs.Common.{◌≡◌, ℕ, List, [], ◌∷◌, Result, Ok, Err, IfOk, max, false, refl, sym, ap, subst, ◌∙◌}
-use Rattle.std.specs.Prelude.{MatchResult}
+use Rattle.std.proofs.Common.{◌≡◌, ◌<◌, ◌≤◌, ℕ, Bool, arith, List, [], ◌∷◌, Result, Ok, Err, IfOk, max, false, refl, sym, ap, subst, ◌∙◌}
+use Rattle.std.specs.Prelude.{MatchResult, codes}
 use Rattle.blocks.specs.Blocks.{Blocks, Served, no_step}
 use Rattle.plain_world.specs.Words.{Words}
 use Rattle.plain_world.specs.Worlds.{World, live}
-use Rattle.plain_model.specs.Meant.{meant}
+use Rattle.plain_model.specs.Meant.{meant, IsAsked, is_quit}
+use Rattle.plain_model.specs.Meant.{quits as quits_of}
+use Rattle.plain_model.specs.Outcomes.{IsRefusal}
+use Rattle.plain_model.proofs.Asked.{FitsCommand, command_fits}
+use Rattle.plain_model.specs.declared.command.Command.TheVariants.{Connection}
+use Rattle.plain_model.specs.declared.connection.ConnectionCommand.TheVariants.{Select}
+use Rattle.plain_world.proofs.Lives.{live_later}
 use Rattle.plain_model.specs.Steps.{may, step}
 use Rattle.plain_model.specs.declared.command.Command.{Command}
 use Rattle.plain_model.specs.declared.ctx.Ctx.{Ctx}
 use Rattle.plain_world.specs.declared.refusal.Refusal.{Refusal}
 use Rattle.plain_world.specs.declared.reply.Part.{Part}
-use Rattle.plain_world.specs.declared.reply.Part.TheVariants.{Refused}
+use Rattle.plain_world.specs.declared.reply.Part.TheVariants.{Refused, Simple}
 use Rattle.keyspace.specs.Databases.{Bases, means}
 use Rattle.keyspace.specs.Databases.{Keyspace}
 use Rattle.keyspace.specs.Commands.{sight, Ready, Runs}
 use Rattle.keyspace.specs.Sound.{Sound}
-use Rattle.keyspace.proofs.Running.{same_settings, unchanged}
-use Rattle.keyspace.proofs.Uses.{Live-means}
-use Rattle.redis_core.specs.Engines.{State, world_of, Stays, Keeps, Executes, Answers}
+use Rattle.keyspace.proofs.Running.{same_settings}
+use Rattle.redis_core.specs.declared.answering.Answered.{Answered}
+use Rattle.redis_core.specs.Engines.{State, world_of, Keeps, Executes, Stands, Leads, Answers}
 
 module _ (at : Ctx) (words : Words) where
   -- what a request may be answered, from what its words mean
   abbrev leads : ℕ → World → Result Command Refusal → List Part → World → Type 0
   leads seed old m reply new = MatchResult m (λ command. may seed (live old at.moment) at.moment command reply new) (λ refusal. (reply ≡ Refused refusal ∷ []) × (new ≡ live old at.moment))
 
-  step_is : {E : Type 0} (seed : ℕ) (old new : World) (command : Command) (result : Result (List Part) E) → meant words ≡ Ok command
-      → IfOk result (λ reply. may seed (live old at.moment) at.moment command reply new) → IfOk result (λ reply. step seed old at.moment words reply new)
-  step_is seed old new command (Ok reply) e h = subst (λ m. leads seed old m reply new) (sym e) h
-  step_is seed old new command (Err x) e h = tt
+module _ {S E : Type 0} (blocks : S → Blocks) (step_of : S → S → Type 0) (at : Ctx) where
+  -- a command that selects no database ran
+  pub family_leads : (old new : Keyspace S) (command : Command) (reply : List Part) (quit : Bool) → at.db < 16 → quit ≡ is_quit command → Runs {E = E} blocks step_of old new at command (Ok reply) → Leads {E = E} blocks step_of old new at command (Ok (record { reply = reply; selected = at.db; quit = quit }))
+  family_leads old new command reply quit within is r = record {
+    answers = r.answers;
+    quits = is;
+    stands = record { within = within; refused = λ refused. (r.kept.refusals refused, refl); sound = r.kept.sound; served = r.kept.served; settings = r.kept.settings };
+  }
 
-  refusal_is : {E : Type 0} (seed : ℕ) (old : World) (refusal : Refusal) (result : Result (List Part) E) → meant words ≡ Err refusal
-      → IfOk result (λ reply. reply ≡ Refused refusal ∷ []) → IfOk result (λ reply. step seed old at.moment words reply (live old at.moment))
-  refusal_is seed old refusal (Ok reply) e h = subst (λ m. leads seed old m reply (live old at.moment)) (sym e) (h, refl)
-  refusal_is seed old refusal (Err x) e h = tt
+  pub family_fails : (old new : Keyspace S) (command : Command) (e : E) → Runs blocks step_of old new at command (Err e) → Leads blocks step_of old new at command (Err e)
+  family_fails old new command e r = record {
+    answers = tt;
+    quits = tt;
+    stands = record { within = tt; refused = tt; sound = r.kept.sound; served = r.kept.served; settings = r.kept.settings };
+  }
+
+  -- nothing changed
+  pub stays : (keyspace : Keyspace S) (result : Result Answered E) → Sound keyspace.bases (blocks keyspace.store) → IfOk result (λ answered. answered.selected < 16) → IfOk result (λ answered. IsRefusal answered.reply → answered.selected ≡ at.db) → Stands blocks step_of keyspace keyspace at result
+  stays keyspace (Ok answered) sound within same = record { within = within; refused = λ r. (refl, same r); sound = sound; served = no_step; settings = same_settings keyspace.bases }
+  stays keyspace (Err e) sound within same = record { within = tt; refused = tt; sound = sound; served = no_step; settings = same_settings keyspace.bases }
+
+  -- SELECT
+  pub select_leads : (keyspace : Keyspace S) (command : Command) (number : ℕ) (reply : List Part) → Ready blocks keyspace at → IsAsked command → command ≡ Connection (Select number) → reply ≡ Simple (codes "OK") ∷ [] → Leads {E = E} blocks step_of keyspace keyspace at command (Ok (record { reply = reply; selected = number; quit = false }))
+  select_leads keyspace command number reply ready asked is told = record {
+    answers = subst (λ c. may keyspace.bases.seed (sight blocks keyspace at) at.moment c reply (live (means number keyspace.bases (blocks keyspace.store)) at.moment)) (sym is) (told, refl);
+    quits = sym (ap is_quit is);
+    stands = stays keyspace (Ok (record { reply = reply; selected = number; quit = false })) ready.sound (subst FitsCommand is (command_fits asked.words command asked.means)) (λ r. absurd (subst IsRefusal told r));
+  }
+
+  pub select_fails : (keyspace : Keyspace S) (command : Command) (e : E) → Ready blocks keyspace at → Leads blocks step_of keyspace keyspace at command (Err e)
+  select_fails keyspace command e ready = record { answers = tt; quits = tt; stands = stays keyspace (Err e) ready.sound tt tt }
 
 module _ {S E : Type 0} (blocks : S → Blocks) (step_of : S → S → Type 0) (at : Ctx) (words : Words) where
   -- the command of a request ran
-  pub ran : (old new : Keyspace S) (command : Command) (result : Result (List Part) E) → meant words ≡ Ok command
-      → Runs blocks step_of old new at command result → Answers blocks step_of old new at words result
-  ran old new command result e r = record { answers = step_is at words old.bases.seed (means at.db old.bases (blocks old.store)) (sight blocks new at) command result e r.answers; kept = r.kept }
+  pub ran : (old new : Keyspace S) (command : Command) (result : Result Answered E) → meant words ≡ Ok command
+      → Leads blocks step_of old new at command result → Answers blocks step_of old new at words result
+  ran old new command (Ok answered) e r = record {
+    answers = subst (λ m. leads at words old.bases.seed (means at.db old.bases (blocks old.store)) m answered.reply (live (means answered.selected new.bases (blocks new.store)) at.moment)) (sym e) r.answers;
+    quits = r.quits ∙ sym (ap quits_of e);
+    stands = r.stands;
+  }
+  ran old new command (Err x) e r = record { answers = tt; quits = tt; stands = r.stands }
 
   -- the words of a request are refused
-  pub refused : (keyspace : Keyspace S) (refusal : Refusal) (result : Result (List Part) E) → Ready blocks keyspace at → meant words ≡ Err refusal
-      → IfOk result (λ reply. reply ≡ Refused refusal ∷ []) → Answers blocks step_of keyspace keyspace at words result
-  refused keyspace refusal result ready e h =
-      record { answers = refusal_is at words keyspace.bases.seed (means at.db keyspace.bases (blocks keyspace.store)) refusal result e h; kept = unchanged blocks step_of keyspace result ready.sound }
+  pub refused : (keyspace : Keyspace S) (refusal : Refusal) (reply : List Part) → Ready blocks keyspace at → meant words ≡ Err refusal
+      → reply ≡ Refused refusal ∷ [] → Answers {E = E} blocks step_of keyspace keyspace at words (Ok (record { reply = reply; selected = at.db; quit = false }))
+  refused keyspace refusal reply ready e told = record {
+    answers = subst (λ m. leads at words keyspace.bases.seed (means at.db keyspace.bases (blocks keyspace.store)) m reply (live (means at.db keyspace.bases (blocks keyspace.store)) at.moment)) (sym e) (told, refl);
+    quits = sym (ap quits_of e);
+    stands = stays blocks step_of at keyspace (Ok (record { reply = reply; selected = at.db; quit = false })) ready.sound ready.db (λ r. refl);
+  }
 
   -- memory was refused before anything changed
   pub not_read : (keyspace : Keyspace S) (e : E) → Ready blocks keyspace at → Answers blocks step_of keyspace keyspace at words (Err e)
-  not_read keyspace e ready = record { answers = tt; kept = unchanged blocks step_of keyspace (Err e) ready.sound }
+  not_read keyspace e ready = record { answers = tt; quits = tt; stands = stays blocks step_of at keyspace (Err e) ready.sound tt tt }
 
--- a step from what the keyspace means is one from the world that the engine holds: nothing is gone yet
-from_held : {S : Type 0} (blocks : S → Blocks) (engine inside : State S) (last : ℕ) → inside ≡ record engine { last = last } → (moment : ℕ) (words : Words) (reply : List Part) (new : World)
+-- a step from what the keyspace means is one from the world that the engine holds: what is gone then is gone now
+from_held : {S : Type 0} (blocks : S → Blocks) (engine inside : State S) (last : ℕ) → inside ≡ record engine { last = last } → (moment : ℕ) → engine.last ≤ moment → (words : Words) (reply : List Part) (new : World)
     → step inside.bases.seed (means inside.selected inside.bases (blocks inside.store)) moment words reply new → step engine.bases.seed (world_of blocks engine) moment words reply new
-from_held blocks engine inside last e moment words reply new s =
-    subst (λ x. step x.bases.seed (live (means x.selected x.bases (blocks x.store)) engine.last) moment words reply new) e
-    (subst (λ w. step inside.bases.seed w moment words reply new) (sym (Live-means inside.selected inside.bases (blocks inside.store) engine.last)) s)
+from_held blocks engine inside last e moment later words reply new s =
+    let same : live (means engine.selected engine.bases (blocks engine.store)) moment ≡ live (world_of blocks engine) moment = sym (live_later (means engine.selected engine.bases (blocks engine.store)) engine.last moment later) in
+    subst (λ w. MatchResult (meant words) (λ command. may engine.bases.seed w moment command reply new) (λ refusal. (reply ≡ Refused refusal ∷ []) × (new ≡ w))) same
+    (subst (λ x. step x.bases.seed (means x.selected x.bases (blocks x.store)) moment words reply new) e s)
 
 -- an engine that used a moment and did nothing more
 pub observed_keeps : {S : Type 0} (blocks : S → Blocks) (step_of : S → S → Type 0) (engine inside : State S) (last : ℕ) → inside ≡ record engine { last = last } → Sound inside.bases (blocks inside.store) → Keeps blocks step_of engine inside
@@ -66,21 +103,22 @@ observed_keeps blocks step_of engine inside last e sound = record {
 }
 
 -- an engine answers as its keyspace does, at the moment that it used
-pub executes : {S E : Type 0} (blocks : S → Blocks) (step_of : S → S → Type 0) (engine inside : State S) (moment : ℕ) (words : Words) (reply : List Part) (bases : Bases) (store : S)
+pub executes : {S E : Type 0} (blocks : S → Blocks) (step_of : S → S → Type 0) (engine inside : State S) (moment : ℕ) (words : Words) (answered : Answered) (bases : Bases) (store : S)
     → inside ≡ record engine { last = max engine.last moment } → inside.is_spent ≡ false
-    → Answers {E = E} blocks step_of (record { bases = inside.bases; store = inside.store }) (record { bases = bases; store = store }) (record { db = inside.selected; moment = inside.last }) words (Ok reply)
-    → Executes blocks step_of moment engine words reply (record inside { bases = bases; store = store })
-executes {S = S} blocks step_of engine inside moment words reply bases store e alive a =
-    let new : State S = record inside { bases = bases; store = store } in
-    let served : Served step_of inside.store store = a.kept.served in
+    → Answers {E = E} blocks step_of (record { bases = inside.bases; store = inside.store }) (record { bases = bases; store = store }) (record { db = inside.selected; moment = inside.last }) words (Ok answered)
+    → Executes blocks step_of moment engine words answered.reply (record inside { bases = bases; store = store; selected = answered.selected })
+executes {S = S} blocks step_of engine inside moment words answered bases store e alive a =
+    let new : State S = record inside { bases = bases; store = store; selected = answered.selected } in
+    let served : Served step_of inside.store store = a.stands.served in
+    let late : inside.last ≡ max engine.last moment = ap (λ x. x.last) e in
     record {
-      may = from_held blocks engine inside (max engine.last moment) e inside.last words reply (world_of blocks new) a.answers;
-      last = ap (λ x. x.last) e;
-      refused = λ r. let same = a.kept.refusals r in record { bases = ap (λ k. k.bases) same ∙ ap (λ x. x.bases) e; store = ap (λ k. k.store) same ∙ ap (λ x. x.store) e; selected = ap (λ x. x.selected) e };
+      may = from_held blocks engine inside (max engine.last moment) e inside.last (omega (arith, late)) words answered.reply (world_of blocks new) a.answers;
+      last = late;
+      refused = λ r. let same = a.stands.refused r in record { bases = ap (λ k. k.bases) same.0 ∙ ap (λ x. x.bases) e; store = ap (λ k. k.store) same.0 ∙ ap (λ x. x.store) e; selected = same.1 ∙ ap (λ x. x.selected) e };
       keeps = record {
-        sound = a.kept.sound;
+        sound = a.stands.sound;
         served = subst (λ s. Served step_of s store) (ap (λ x. x.store) e) served;
-        settings = record { limits = a.kept.settings.limits ∙ ap (λ x. x.bases.limits) e; seed = a.kept.settings.seed ∙ ap (λ x. x.bases.seed) e };
+        settings = record { limits = a.stands.settings.limits ∙ ap (λ x. x.bases.limits) e; seed = a.stands.settings.seed ∙ ap (λ x. x.bases.seed) e };
       };
       alive = alive;
     }

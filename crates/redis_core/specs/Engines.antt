@@ -4,13 +4,18 @@ use Rattle.blocks.specs.Blocks.{Blocks, Served}
 use Rattle.plain_world.specs.Words.{Words}
 use Rattle.plain_world.specs.Worlds.{World, live, new_world}
 use Rattle.plain_model.specs.Outcomes.{IsRefusal}
-use Rattle.plain_model.specs.Steps.{step}
+use Rattle.plain_model.specs.Steps.{may, step}
+use Rattle.plain_model.specs.Meant.{is_quit, asks_to_quit}
+use Rattle.plain_model.specs.declared.command.Command.{Command}
+use Rattle.plain_model.specs.declared.command.Command.TheVariants.{Strings, Keys, Connection}
+use Rattle.cmd_keys.specs.Found as connection
+use Rattle.redis_core.specs.declared.answering.Answered.{Answered}
 use Rattle.plain_model.specs.declared.ctx.Ctx.{Ctx}
 use Rattle.plain_world.specs.declared.reply.Part.{Part}
 use Rattle.keyspace.specs.Databases.{Bases, means, SameSettings}
 use Rattle.keyspace.specs.Sound.{Sound}
 use Rattle.keyspace.specs.Databases.{Keyspace}
-use Rattle.keyspace.specs.Commands.{Kept, sight}
+use Rattle.keyspace.specs.Commands.{sight}
 use Rattle.rdb_reader.specs.declared.fault.LoadFault.{LoadFault}
 use Rattle.rdb_reader.specs.declared.fault.LoadFault.TheVariants as faults
 
@@ -65,9 +70,15 @@ pub record Executes {S : Type 0} (blocks : S → Blocks) (step_of : S → S → 
   pub keeps : Keeps blocks step_of old new
   pub alive : new.is_spent ≡ false
 
--- no request ends the run yet
+-- QUIT ends the run (Redis command reference, "QUIT")
 abbrev pub quits : Words → Bool
-quits words = false
+quits words = asks_to_quit words
+
+-- the command selects no database
+abbrev pub SelectsNone : Command → Type 0
+SelectsNone (Strings command) = Unit {0}
+SelectsNone (Keys command) = Unit {0}
+SelectsNone (Connection command) = connection.SelectsNone command
 
 -- memory was refused
 abbrev pub is_memory : {A : Type 0} → Result A LoadFault → Bool
@@ -77,7 +88,23 @@ is_memory (Err faults.Host) = false
 is_memory (Err faults.Limit) = false
 is_memory (Err faults.Memory) = true
 
--- The request is a step of the model on what the keyspace means, before and after.
-pub record Answers {S E : Type 0} (blocks : S → Blocks) (step_of : S → S → Type 0) (old new : Keyspace S) (at : Ctx) (words : Words) (result : Result (List Part) E) : Type 0 where
-  pub answers : IfOk result (λ reply. step old.bases.seed (means at.db old.bases (blocks old.store)) at.moment words reply (sight blocks new at))
-  pub kept : Kept blocks step_of old new result
+-- What stays where a request was answered, or memory was refused: the keyspace is sound, and a refused request changes
+-- neither the keyspace nor which database is selected.
+pub record Stands {S E : Type 0} (blocks : S → Blocks) (step_of : S → S → Type 0) (old new : Keyspace S) (at : Ctx) (result : Result Answered E) : Type 0 where
+  pub within : IfOk result (λ answered. answered.selected < 16)
+  pub refused : IfOk result (λ answered. IsRefusal answered.reply → (new ≡ old) × (answered.selected ≡ at.db))
+  pub sound : Sound new.bases (blocks new.store)
+  pub served : Served step_of old.store new.store
+  pub settings : SameSettings old.bases new.bases
+
+-- The command is a step of the model on what the keyspace means, before and after.
+pub record Leads {S E : Type 0} (blocks : S → Blocks) (step_of : S → S → Type 0) (old new : Keyspace S) (at : Ctx) (command : Command) (result : Result Answered E) : Type 0 where
+  pub answers : IfOk result (λ answered. may old.bases.seed (sight blocks old at) at.moment command answered.reply (live (means answered.selected new.bases (blocks new.store)) at.moment))
+  pub quits : IfOk result (λ answered. answered.quit ≡ is_quit command)
+  pub stands : Stands blocks step_of old new at result
+
+-- The same of a request.
+pub record Answers {S E : Type 0} (blocks : S → Blocks) (step_of : S → S → Type 0) (old new : Keyspace S) (at : Ctx) (words : Words) (result : Result Answered E) : Type 0 where
+  pub answers : IfOk result (λ answered. step old.bases.seed (means at.db old.bases (blocks old.store)) at.moment words answered.reply (live (means answered.selected new.bases (blocks new.store)) at.moment))
+  pub quits : IfOk result (λ answered. answered.quit ≡ asks_to_quit words)
+  pub stands : Stands blocks step_of old new at result

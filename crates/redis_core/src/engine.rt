@@ -15,6 +15,8 @@ use keyspace::Keyspace;
 use object_codec::Limits;
 use outside::Host;
 use plain_model::{Ctx, Memory};
+use rand_core::SeedableRng;
+use rand_pcg::Pcg32;
 use rdb_reader::{LoadFault, Loaded, load};
 use resp_frames::Request;
 use serving::{Done, Server};
@@ -32,6 +34,7 @@ pub struct Engine<B: BlockStore> {
     selected: usize,
     last: u64,
     is_spent: bool,
+    dice: Pcg32,
 }
 
 impl<B: BlockStore> Model for Engine<B> {
@@ -45,8 +48,8 @@ impl<B: BlockStore> Model for Engine<B> {
 }
 
 impl<B: BlockStore> Engine<B> {
-    /// An engine without a key, over a store without a live block. Values are made with these limits, and hashes with this
-    /// seed.
+    /// An engine without a key, over a store without a live block. Values are made with these limits, hashes with this seed,
+    /// and random picks are drawn from it.
     pub fn new(alloc: Global, store: B, limits: Limits, seed: u64) -> Result<Engine<B>, Memory>
         requires empty { B.blocks store ≡ no_blocks }
         requires limits { AreInRange limits }
@@ -62,6 +65,7 @@ impl<B: BlockStore> Engine<B> {
             selected: 0,
             last: 0,
             is_spent: false,
+            dice: Pcg32::seed_from_u64(seed),
         })
     }
 
@@ -111,7 +115,7 @@ impl<B: BlockStore> Engine<B> {
     }
 
     /// Runs one request, which is a step of the model. The moment, in milliseconds, counts as the last one that was used
-    /// where that is later. A request that is refused changes no database and no block, and selects none.
+    /// where that is later. A request that is refused changes no database and no block, and selects none; QUIT ends the run.
     ///
     /// `Memory` where memory was refused in this call or an earlier one.
     pub fn execute(&mut self, request: &Request<'_>, moment: u64) -> Result<Done, Memory>
@@ -130,8 +134,14 @@ impl<B: BlockStore> Engine<B> {
             db: self.selected,
             moment: self.last,
         };
-        match answer(&mut self.keyspace, &at, request) {
-            Ok(reply) => Ok(Done { reply, quit: false }),
+        match answer(&mut self.keyspace, &at, request, &mut self.dice) {
+            Ok(answered) => {
+                self.selected = answered.selected;
+                Ok(Done {
+                    reply: answered.reply,
+                    quit: answered.quit,
+                })
+            }
             Err(_) => {
                 self.is_spent = true;
                 Err(AllocError)

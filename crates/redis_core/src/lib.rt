@@ -3,6 +3,8 @@
 
 mod answering;
 mod engine;
+#[cfg(test)]
+mod key_tests;
 mod laws;
 #[cfg(test)]
 mod string_tests;

@@ -8,4 +8,4 @@ returns-then-self-clause-keeps g c =
     subst (Keeps g.B.BlockStore.blocks g.B.BlockStore.step c.args.self.now) c.self.view_is (observed_keeps _ _ c.args.self.now _ _ (c.self.view_is ∙ c.observe.ensures) c.self.invariant.sound)
 
 pub returns-in-Ok-clause-executes : goal.returns-in-Ok-clause-executes
-returns-in-Ok-clause-executes g c = executes _ _ c.args.self.now _ c.args.moment c.args.request.now c.in-Ok.reply _ _ (c.self.view_is ∙ c.observe.ensures) c.if-self.false c.in-Ok.ensures
+returns-in-Ok-clause-executes g c = executes _ _ c.args.self.now _ c.args.moment c.args.request.now c.in-Ok.answered _ _ (c.self.view_is ∙ c.observe.ensures) c.if-self.false c.in-Ok.ensures
