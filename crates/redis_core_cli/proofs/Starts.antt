@@ -3,12 +3,12 @@ use Rattle.std.proofs.Common.{◌≡◌, ℕ, List, ap, ◌∙◌, subst, sym, m
 use Rattle.std.specs.Prelude.{Option, None, Result, Ok, Err, true}
 use Rattle.blocks.specs.Plain.{Plain, plain_blocks, IsPlainStep}
 use Rattle.blocks.specs.Blocks.{no_blocks, Served, no_step}
-use Rattle.plain_world.specs.Worlds.{World, new_world}
+use Rattle.plain_world.specs.Worlds.{World, new_world, live}
 use Rattle.object_codec.specs.declared.limits.Limits.{Limits}
 use Rattle.keyspace.specs.Sound.{Sound}
 use Rattle.keyspace.proofs.Serving.{both}
 use Rattle.keyspace.specs.Databases.{means}
-use Rattle.keyspace.proofs.Uses.{Live-means}
+use Rattle.rdb_reader.proofs.Living.{new_live}
 use Rattle.outside.specs.Files.{Files, HostSeen, IsListed}
 use Rattle.rdb_reader.specs.Fetching.{Counts}
 use Rattle.rdb_reader.specs.Loads.{Loads}
@@ -25,11 +25,12 @@ use Rattle.redis_core_cli.specs.declared.ending.Ending.{Ending}
 -- an engine without a key holds the world of a server that was just begun, at whatever moment
 pub begun_world : (old new : Engine) (seed : ℕ) (limits : Limits) → Begun seed limits old → Stays old new → world_of new ≡ new_world
 begun_world old new seed limits b same =
-    Live-means new.selected new.bases (plain_blocks new.store) new.last
-    ∙ ap (λ db. means db new.bases (plain_blocks new.store)) (same.selected ∙ b.new.selected)
+    ap (λ w. live w new.last)
+    (ap (λ db. means db new.bases (plain_blocks new.store)) (same.selected ∙ b.new.selected)
     ∙ ap (λ bases. means 0 bases (plain_blocks new.store)) same.bases
     ∙ ap (λ store. means 0 old.bases (plain_blocks store)) same.store
-    ∙ b.new.empty
+    ∙ b.new.empty)
+    ∙ new_live new.last
 
 -- a new engine is a first one, and one that was served more stays it
 pub first_new : (engine : Engine) (store : Plain) (seed : ℕ) (limits : Limits) → plain_blocks store ≡ no_blocks → engine.store ≡ store → engine.bases.seed ≡ seed → engine.bases.limits ≡ limits → Sound engine.bases (plain_blocks engine.store) → IsFirst seed limits engine

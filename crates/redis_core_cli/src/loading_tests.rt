@@ -285,12 +285,12 @@ const RUNS: [Run; 8] = [
     ),
     Run(
         Given {
-            input: b"PING\r\n",
+            input: b"GET \"a\"\n",
             ..LOADING
         },
-        b"-ERR Protocol error: inline request not taken at byte 0\r\n",
+        b"-ERR Protocol error: inline request not taken at byte 4\r\n",
         2,
-        b"redis-core: protocol error P6 at byte 0\n",
+        b"redis-core: protocol error P6 at byte 4\n",
     ),
     Run(
         Given {

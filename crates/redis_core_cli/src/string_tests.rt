@@ -21,6 +21,8 @@ const OVERFLOW: &[u8] = b"-ERR increment or decrement would overflow\r\n";
 
 const INDEX: &[u8] = b"-ERR index out of range\r\n";
 
+const TIME: &[u8] = b"-ERR invalid expire time\r\n";
+
 const VALUE: &[u8] = b"-ERR value is out of range\r\n";
 
 // Requests in their order. Those that are refused here are refused for what stands at the key.
@@ -167,12 +169,12 @@ const REFUSED: [Row; 66] = [
     Row("SET n 1 GETT", SYNTAX),
     Row("SET n 1 NX xx", SYNTAX),
     Row("set n 1 XX GET NX", SYNTAX),
-    Row("SET n 1 EX 10", SYNTAX),
-    Row("SET n 1 px 10", SYNTAX),
-    Row("SET n 1 ExAt 10", SYNTAX),
-    Row("SET n 1 PXAT 10", SYNTAX),
-    Row("SET n 1 KEEPTTL", SYNTAX),
-    Row("SET n 1 XX EX 10", SYNTAX),
+    Row("SET n 1 EX 0", TIME),
+    Row("SET n 1 px -1", TIME),
+    Row("SET n 1 ExAt 1.5", NOT_AN_INTEGER),
+    Row("SET n 1 PXAT 10 KEEPTTL", SYNTAX),
+    Row("SET n 1 KEEPTTL EX 1", SYNTAX),
+    Row("SET n 1 EX 9223372036854775807", TIME),
     Row("SET n 1 EX", SYNTAX),
     Row("GETRANGE n x 0", NOT_AN_INTEGER),
     Row("GETRANGE n 0 1.0", NOT_AN_INTEGER),

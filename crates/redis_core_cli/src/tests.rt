@@ -14,7 +14,7 @@ struct Row(&'static [u8], &'static [u8], u8);
 
 const MANY_BYTES: u64 = 1_099_511_627_776;
 
-const ROWS: [Row; 22] = [
+const ROWS: [Row; 24] = [
     Row(b"", b"", 0),
     Row(
         b"*3\r\n$3\r\nSET\r\n$1\r\na\r\n$1\r\n1\r\n*2\r\n$3\r\nGET\r\n$1\r\na\r\n*2\r\n$3\r\nGET\r\n$1\r\nb\r\n",
@@ -93,10 +93,17 @@ const ROWS: [Row; 22] = [
         2,
     ),
     Row(
-        b"PING\r\n",
-        b"-ERR Protocol error: inline request not taken at byte 0\r\n",
+        b"GET \"a\"\n",
+        b"-ERR Protocol error: inline request not taken at byte 4\r\n",
         2,
     ),
+    // inline requests, of which those without words are passed over
+    Row(
+        b" SET\ta 1\r\n\r\nGET a\n*2\r\n$3\r\nGET\r\n$1\r\na\r\n",
+        b"+OK\r\n$1\r\n1\r\n$1\r\n1\r\n",
+        0,
+    ),
+    Row(b"GET a\nGET a\r", b"$-1\r\n", 3),
 ];
 
 // A host without files.
