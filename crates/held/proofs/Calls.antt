@@ -1,8 +1,7 @@
 -- The calls of a keyspace, step by step.
-use Rattle.std.proofs.Common.{◌≡◌, ◌⊎◌, inl, inr, ℕ, zero, suc, ◌+◌, ◌≤◌, ◌<◌, Bool, false, true, cond, List, [], ◌∷◌, ◌++◌, length, flat_map, replicate, get_or, IfNone, Option, Some, None, is_some, Result, Ok, Err, OnOk, OnErr, IfSome, refl, sym, ap, ◌∙◌, subst, arith}
+use Rattle.std.proofs.Common.{◌≡◌, ◌⊎◌, inl, inr, ℕ, zero, suc, ◌+◌, ◌≤◌, ◌<◌, false, true, List, [], ◌∷◌, ◌++◌, length, flat_map, replicate, get_or, IfNone, Option, Some, None, is_some, Result, Ok, Err, OnOk, OnErr, IfSome, refl, sym, ap, ◌∙◌, subst, arith}
 use Rattle.std.specs.FinMap.{get, insert, remove}
-use Rattle.std.specs.FinMap as map
-use Rattle.std.proofs.lemmas.Bool.{cases_eq, cases_Bool, eq-eqb, ne_eqb, cond-true, cond-false}
+use Rattle.std.proofs.lemmas.Bool.{cases_eq, eq-eqb, ne_eqb, cond-true, cond-false}
 use Rattle.blocks.specs.declared.BlockRef.{BlockRef}
 use Rattle.blocks.specs.Blocks.{Blocks, ref_eq, times, live, bytes_at, with_block, no_blocks, Changes, Owned}
 use Rattle.blocks.proofs.Times.{times-append}
@@ -12,21 +11,24 @@ use Rattle.object_codec.specs.Limits.{AreInRange}
 use Rattle.plain_world.specs.Worlds.{Value, Entry, World, with_base, look, put, Database, in_time, deadline_of}
 use Rattle.plain_world.specs.Worlds as model
 use Rattle.plain_world.proofs.Lives.{look_in_time, look_gone, look_absent}
-use Rattle.expiry.specs.Timed.{Timed, moments}
+use Rattle.rehash_dict.specs.Keyed.{key_tables}
+use Rattle.expiry.specs.Timed.{Timed, moments, Grows, KeepsCursor}
 use Rattle.expiry.specs.Changes.{HasDeadline, Sets, Clears}
 use Rattle.held.specs.declared.databases.Base.{Base}
 use Rattle.held.specs.declared.keyspace.Lifted.{Lifted}
-use Rattle.held.specs.Table.{Table, Element, item, value_at, key_at, no_keys, Stands, Lacks, Keyed, Adds, Swaps, Removes, refs, map_of}
+use Rattle.held.specs.Table.{Table, Element, item, value_at, key_at, no_keys, Stands, Lacks, Keyed, Swaps, Removes, TableGrows, refs, map_of}
 use Rattle.held.specs.Databases.{ReadsOwn, Bases, no_base, base_at, table_at, deadlines_at, owned, base_means, with_deadlines, with_deadline, means, SameSettings, ChangesBase, ChangesTable, ChangesDeadlines}
 use Rattle.held.specs.Sound.{IsTimed, HasSeed, IsArranged, IsIntact, SoundBeside}
 use Rattle.held.specs.Worlds.{without}
 use Rattle.held.specs.Calls.{Found, StandsAt, IsPlace, IsVacant, Lifts, AreParts, IsDeadline, Joins, KeepsTimes}
 use Rattle.rehash_dict.proofs.MapOf.{cases_key, map_of-stands, map_of-lacks, map_of-empty, map_of-removes, map_of-had, map_of-kept}
+use Rattle.held.specs.Scopes.{Scope, one_key, no_key, all_keys, Within}
+use Rattle.held.proofs.Within.{within_then, within_keys, within_times, within_swaps, within_removes, within_joins, within_anew, within_store}
 use Rattle.held.proofs.Maps.{entry_with, get_with, with_none, got_deadline}
-use Rattle.held.proofs.Tables.{get_inserted, maps_alike, insert_over, some_bytes, named_in, Keyed-none}
+use Rattle.held.proofs.Tables.{get_inserted, insert_over, some_bytes, named_in, Keyed-none}
 use Rattle.held.proofs.Timing.{timed_sets, timed_clears, timed_none, untimed, moments_lack}
 use Rattle.held.proofs.Joining.{sets_seed}
-use Rattle.held.proofs.Bases.{InOrder, order_swaps, order_adds, order_removes, order_times, base_then, order_then, table_owned, owned_changed, owned_times, owned_joins, owned_swaps, owned_leaves, kept_named, kept_inside, arranged_out, arranged_changed, means_out, intact_out, means_changed, put_means, remove_base, swapped_intact, swapped_means, joined_intact, joined_means, retimed_means, same_times}
+use Rattle.held.proofs.Bases.{InOrder, order_swaps, order_removes, order_times, base_then, order_then, table_owned, owned_changed, owned_times, owned_joins, owned_swaps, owned_leaves, kept_named, kept_inside, arranged_out, arranged_changed, means_out, intact_out, means_changed, remove_base, swapped_intact, swapped_means, joined_intact, joined_means, retimed_means, same_times}
 
 -- a database without a key means none
 pub no_base_means : {V : Type 0} (value_of : Blocks → V → Value) (m : Blocks) (number : ℕ) → base_means value_of m (no_base {V = V} number) ≡ model.no_keys
@@ -147,6 +149,14 @@ module _ {V : Type 0} (refs_of : V → List BlockRef) (value_of : Blocks → V �
     pub dropped_owned : Owned (ref ∷ refs_of value) m
     dropped_owned = left_owned old new db m m base intact (ref ∷ refs_of value) gone order
 
+    -- the deadline leaves its table, the key its own, and their blocks are given back
+    pub dropped_within : Grows m (deadlines_at old db) (deadlines_at mid db) → KeepsCursor (deadlines_at old db) (deadlines_at mid db) → TableGrows m (table_at mid db) (table_at new db) → db < 16 → (after : Blocks) → Changes m after (ref ∷ refs_of value) [] → Within refs_of (no_key db) old new m after
+    dropped_within grown cursor keys_grown below after p =
+        within_then refs_of (no_key db) old mid new m m after (within_times refs_of (no_key db) old mid m db refl intact.arranged below c grown cursor)
+        (within_then refs_of (no_key db) mid new new m m after
+        (within_removes refs_of (no_key db) mid new m db refl (clear_arranged old mid db m intact.arranged key c times_are cleared times_keyed) below d key ref value removes keys_grown)
+        (within_store refs_of value_of own (no_key db) new m after (ref ∷ refs_of value) (ref ∷ refs_of value) [] (left_out old new db m m base intact (ref ∷ refs_of value) gone order) p (λ r. omega arith)))
+
     pub dropped_look : look (means value_of db old m) key ≡ Some (record { value = value_of m value; deadline = get (moments m (deadlines_at old db)) key })
     dropped_look = look_is old db m intact.arranged key ∙ ap (λ o. entry_with o (get (moments m (deadlines_at old db)) key)) (drop_had old mid db m intact.arranged key c times_are cleared times_keyed new d ref value removes keyed)
 
@@ -173,6 +183,11 @@ module _ {V : Type 0} (refs_of : V → List BlockRef) (value_of : Blocks → V �
       timed = subst (λ (b : Base V). IsTimed m b.keys b.deadlines) (sym none) (timed_none m seed seed);
       seeds = λ h. subst (λ (b : Base V). HasSeed b old.seed) (sym none) (record { keys = same; deadlines = same });
     }
+
+    pub all_within : (m after : Blocks) → IsIntact refs_of old m [] → seed ≡ old.seed → Changes m after (refs refs_of (table_at old db)) [] → Within refs_of (all_keys db) old new m after
+    all_within m after intact same p =
+        within_then refs_of (all_keys db) old new new m m after (within_anew refs_of (all_keys db) old new m db refl c refl (none ∙ ap no_base same))
+        (within_store refs_of value_of own (all_keys db) new m after (refs refs_of (table_at old db)) (refs refs_of (table_at old db)) [] (left_out old new db m m c intact (refs refs_of (table_at old db)) all_gone (all_order m same)) p (λ r. omega arith))
 
     pub all_means : (m : Blocks) → base_means value_of m (base_at new db) ≡ model.no_keys
     all_means m = ap (base_means value_of m) none ∙ no_base_means value_of m seed
@@ -304,6 +319,14 @@ module _ {V : Type 0} (refs_of : V → List BlockRef) (value_of : Blocks → V �
       pub put_changes : Changes m after (owned refs_of old ++ refs_of value) (owned refs_of new)
       put_changes = retimed_changes old mid db m c arranged after (refs_of value) new intact (over_changes mid new db m d at was value s keyed arranged mid_intact after p)
 
+      pub put_within : Within refs_of (no_key db) old mid m m → key_tables m (table_at new db) ≡ key_tables m (table_at mid db) → Within refs_of (one_key db key) old new m after
+      put_within retimed tables =
+          let scope = one_key db key in
+          let there : m s.key ≡ Some key = swapped_key mid new db m d at was value s keyed arranged key (retimed_stands old mid db m c arranged intact.arranged at key stands deadline times_are) in
+          within_then refs_of scope old mid new m m after (within_keys refs_of db (λ other. other ≡ key) old mid m m retimed)
+          (within_then refs_of scope mid new new m m after (within_swaps refs_of scope mid new m db refl d at was value s tables (refl, some_bytes m s.key key there))
+          (within_store refs_of value_of own scope new m after (refs_of was) (refs_of was) [] (over_out mid new db m d at was value s keyed arranged mid_intact after p) p (λ r. omega arith)))
+
       pub put_over : means value_of db new after ≡ put (means value_of db old m) key (record { value = value_of m value; deadline = deadline })
       put_over =
           over_means mid new db m d at was value s keyed arranged mid_intact after p key (retimed_stands old mid db m c arranged intact.arranged at key stands deadline times_are) deadline (retimed_lasts old mid db m c arranged intact.arranged at key stands deadline times_are)
@@ -344,6 +367,11 @@ module _ {V : Type 0} (refs_of : V → List BlockRef) (value_of : Blocks → V �
       pub new_arranged : IsArranged new mid
       new_arranged = (joined_intact refs_of value_of own old new db mid j.base (r ∷ refs_of value) placed_intact joined_order j.at (record { key = r; hash = j.hash; value = value }) j.adds [] (λ q. omega arith)).arranged
 
+      pub new_within : db < 16 → Within refs_of (one_key db key) old new m mid
+      new_within below =
+          within_then refs_of (one_key db key) old old new m mid mid (within_store refs_of value_of own (one_key db key) old m mid (refs_of value) [] (r ∷ []) intact p (λ q. omega arith))
+          (within_joins refs_of (one_key db key) old new mid db refl placed_intact.arranged below r key value deadline j (refl, some_bytes mid r key placed_bytes))
+
       pub new_changes : Changes m mid (owned refs_of old ++ refs_of value) (owned refs_of new)
       new_changes = Changes-beside m mid [] (r ∷ []) (owned refs_of old ++ refs_of value) (owned refs_of new) p (λ q. omega (arith, intact.owned q, times-append q (owned refs_of old) (refs_of value))) (λ q. times q (owned refs_of old) + times q (refs_of value))
           (λ q. omega (arith, times-append q (owned refs_of old) (refs_of value))) (λ q. omega (arith, owned_joins refs_of value_of own old new db j.base q j.at (record { key = r; hash = j.hash; value = value }) j.adds))
@@ -371,6 +399,13 @@ module _ {V : Type 0} (refs_of : V → List BlockRef) (value_of : Blocks → V �
 
       pub back_arranged : IsArranged new after
       back_arranged = arranged_out refs_of value_of own new mid after (r ∷ refs_of value) (r ∷ []) [] kept_intact back_given (λ q. omega arith)
+
+      pub back_within : db < 16 → Within refs_of (one_key db key) old new m after
+      back_within below =
+          let scope = one_key db key in
+          within_then refs_of scope old old new m mid after (within_store refs_of value_of own scope old m mid (refs_of value) [] (r ∷ []) intact p (λ q. omega arith))
+          (within_then refs_of scope old new new mid mid after (within_times refs_of scope old new mid db refl placed_intact.arranged below k.changes k.grown k.cursor)
+          (within_store refs_of value_of own scope new mid after (r ∷ refs_of value) (r ∷ []) [] kept_intact back_given (λ q. omega arith)))
 
       pub back_owned : (q : BlockRef) → times q (owned refs_of new) ≡ times q (owned refs_of old)
       back_owned q = owned_times refs_of value_of own old new db k.changes q
@@ -400,6 +435,9 @@ module _ {V : Type 0} (refs_of : V → List BlockRef) (value_of : Blocks → V �
 
     pub refused_arranged : IsArranged new after
     refused_arranged = arranged_out refs_of value_of own new m after (refs_of value) (refs_of value) [] refused_intact p (λ q. omega arith)
+
+    pub refused_within : (scope : Scope) → Within refs_of scope old new m m → Within refs_of scope old new m after
+    refused_within scope placed = within_then refs_of scope old new new m m after placed (within_store refs_of value_of own scope new m after (refs_of value) (refs_of value) [] refused_intact p (λ q. omega arith))
 
     pub refused_changes : Changes m after (owned refs_of old ++ refs_of value) (owned refs_of new)
     refused_changes = Changes-beside m after (refs_of value) [] (owned refs_of old ++ refs_of value) (owned refs_of new) p (λ q. omega (arith, intact.owned q, times-append q (owned refs_of old) (refs_of value))) (λ q. times q (owned refs_of old))

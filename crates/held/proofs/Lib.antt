@@ -4,6 +4,7 @@ pub mod Tables
 pub mod Releases
 pub mod Bases
 pub mod Joining
+pub mod Within
 pub mod Calls
 pub mod Purging
 pub mod Shrinking

@@ -18,6 +18,10 @@ use Rattle.held.specs.Calls.{IsDeadline}
 use Rattle.held.proofs.Maps.{same_entry, put_removed, moved_base}
 use Rattle.held.proofs.Timing.{some_same}
 use Rattle.held.proofs.Bases.{owned_swaps, swapped_means, sound_joined}
+use Rattle.rehash_dict.specs.Keyed.{key_tables}
+use Rattle.held.specs.Scopes.{one_key, two_keys, no_key, Within}
+use Rattle.held.proofs.Tables.{some_bytes}
+use Rattle.held.proofs.Within.{within_then, within_wider, within_swaps}
 use Rattle.held.proofs.Calls.{look_stands, deadline_seen, swapped_key, over_intact, put_twice}
 
 -- ---- worlds
@@ -103,6 +107,20 @@ module _ {V : Type 0} (refs_of : V → List BlockRef) (value_of : Blocks → V �
     out_sound : (out : List BlockRef) → SoundBeside refs_of old m out → SoundBeside refs_of mid m (refs_of was ++ out)
     out_sound out sound = record { owns = λ r. omega (arith, sound.owns r, out_owned r, times-append r (refs_of was) out); arranged = out_intact.arranged }
 
+    pub out_within : key_tables m (table_at mid db) ≡ key_tables m (table_at old db) → (to_db : ℕ) (to : List ℕ) → Within refs_of (two_keys db key to_db to) old mid m m
+    out_within tables to_db to = within_swaps refs_of (two_keys db key to_db to) old mid m db (inl refl) c at was zero s tables (inl (refl, some_bytes m s.key key out_key))
+
+    -- the value is put at the other key, or was not for want of memory
+    pub placed_within : key_tables m (table_at mid db) ≡ key_tables m (table_at old db) → (to_db : ℕ) (to : List ℕ) (new : Bases V) (after : Blocks) → Within refs_of (one_key to_db to) mid new m after → Within refs_of (two_keys db key to_db to) old new m after
+    placed_within tables to_db to new after placed =
+        within_then refs_of (two_keys db key to_db to) old mid new m m after (out_within tables to_db to)
+        (within_wider refs_of (one_key to_db to) (two_keys db key to_db to) (λ number there. inr there) (λ number other named. inr named) (λ number no. absurd no) mid new m after placed)
+
+    -- and the first one leaves
+    pub left_within : (to_db : ℕ) (to : List ℕ) (new last : Bases V) (after later : Blocks) → Within refs_of (no_key db) new last after later → Within refs_of (two_keys db key to_db to) new last after later
+    left_within to_db to new last after later left =
+        within_wider refs_of (no_key db) (two_keys db key to_db to) (λ number here. inl here) (λ number other none. absurd none.1) (λ number no. absurd no) new last after later left
+
     -- ---- it stands at the other key, and the first one leaves
 
     module _ (to_db : ℕ) (to : List ℕ) (new : Bases V) (after : Blocks) (p : Changes m after (owned refs_of mid ++ refs_of was) (owned refs_of new)) (a : IsArranged new after) where
@@ -152,6 +170,11 @@ module _ {V : Type 0} (refs_of : V → List BlockRef) (value_of : Blocks → V �
         back_zero =
             let one : record { key = b.key; hash = b.hash; value = vacant } ≡ record { key = s.key; hash = s.hash; value = zero } = some_same (item (table_at new db) at) _ _ b.found back_found in
             ap (λ (x : Element V). refs_of x.value) one ∙ nothing
+
+        pub back_within : key_tables after (table_at last db) ≡ key_tables after (table_at new db) → (to : List ℕ) → Within refs_of (two_keys db key to_db to) new last after after
+        back_within tables to =
+            within_swaps refs_of (two_keys db key to_db to) new last after db (inl refl) d at vacant value b tables
+            (inl (refl, some_bytes after b.key key (swapped_key refs_of value_of own new last db after d at vacant value b last_keyed a key back_stands)))
 
         back_value : value_of after value ≡ value_of m was
         back_value = λ i. value_of (same i) (returned i)

@@ -56,6 +56,9 @@ module _ {V : Type 0} (refs_of : V → List BlockRef) (value_of : Blocks → V �
     seeds = λ h. record { keys = k.seed ∙ h.keys; deadlines = k.times_seed ∙ h.deadlines };
   }
 
+  pub items_arranged : IsArranged new m
+  items_arranged = arranged_changed refs_of value_of own old new db m k.base a items_order
+
   pub items_means : means value_of db new m ≡ means value_of db old m
   items_means = λ i. record { bases = λ number. each number i; selected = db }
     where

@@ -13,6 +13,8 @@ use Rattle.held.specs.declared.keyspace.Lifted.{Lifted}
 use Rattle.held.specs.Databases.{ReadsOwn, Bases, means}
 use Rattle.held.specs.Sound.{IsIntact, Sound, SoundBeside}
 use Rattle.held.specs.Calls.{IsPlace, IsVacant, Lifts, AreParts}
+use Rattle.held.specs.Scopes.{Scope, one_key, Within}
+use Rattle.held.proofs.Within.{within_then, within_store}
 use Rattle.std.specs.FinMap.{get}
 use Rattle.plain_world.proofs.Lives.{live_put, live_put_in_time, was_in_time}
 use Rattle.held.proofs.Bases.{arranged_out, means_out, kept_inside, kept_timed, sound_intact}
@@ -55,7 +57,14 @@ module _ {V : Type 0} (refs_of : V → List BlockRef) (value_of : Blocks → V �
     pub Made-means : (db : ℕ) → means value_of db bases after ≡ means value_of db bases m
     Made-means db = Changed-means bases m after [] (refs_of value) [] (refs_of value) sound p (λ r. omega arith) db
 
+    Made-within : (scope : Scope) → Within refs_of scope bases bases m after
+    Made-within scope = within_store refs_of value_of own scope bases m after [] [] (refs_of value) (sound_intact refs_of value_of own bases m [] sound) p (λ r. omega arith)
+
     module _ (new : Bases V) (later : Blocks) where
+      -- from the clause `within` of `put`
+      pub Put-within : (scope : Scope) → Within refs_of scope bases new after later → Within refs_of scope bases new m later
+      Put-within scope clause = within_then refs_of scope bases bases new m after later (Made-within scope) clause
+
       -- from the clause `sound` of `put`
       pub Put-sound : ((all out : List BlockRef) → SoundBeside refs_of bases after all → AreParts all (refs_of value) out → SoundBeside refs_of new later out) → Sound refs_of new later
       Put-sound clause = clause (refs_of value) [] Made-sound (λ r. omega arith)
@@ -103,6 +112,14 @@ module _ {V : Type 0} (refs_of : V → List BlockRef) (value_of : Blocks → V �
       -- from the clause `sound` of `lower`
       pub Lower-sound : ((all rest : List BlockRef) → SoundBeside refs_of mid after all → AreParts all (refs_of changed.value) rest → SoundBeside refs_of new after rest) → SoundBeside refs_of new after out
       Lower-sound clause = clause (refs_of changed.value ++ out) out changed_sound (λ r. times-append r (refs_of changed.value) out)
+
+      -- from the clauses `within` of `lift` and `lower`
+      pub Lower-within : Within refs_of (one_key db key) old mid m m → ((k : List ℕ) (deadline : Option ℕ) → IsPlace mid after changed.db changed.item k deadline → Within refs_of (one_key changed.db k) mid new after after) → Within refs_of (one_key db key) old new m after
+      Lower-within taken clause =
+          within_then refs_of (one_key db key) old mid new m m after taken
+          (within_then refs_of (one_key db key) mid mid new m after after
+          (within_store refs_of value_of own (one_key db key) mid m after (refs_of lifted.value ++ out) (refs_of lifted.value) (refs_of changed.value) (sound_intact refs_of value_of own mid m (refs_of lifted.value ++ out) sound) p part)
+          (subst (λ d. Within refs_of (one_key d key) mid new after after) (same_db ∙ lifts.same_db) (clause key lifts.deadline place)))
 
       -- from the clause `means` of `lower`: the value stands at the key, with the deadline that was there
       pub Lower-means : ((k : List ℕ) (deadline : Option ℕ) → IsPlace mid after changed.db changed.item k deadline → means value_of changed.db new after ≡ put (means value_of changed.db mid after) k (record { value = value_of after changed.value; deadline = deadline }))

@@ -5,9 +5,9 @@ use Rattle.blocks.specs.Blocks.{Blocks, Owned, times}
 use Rattle.plain_world.specs.Worlds.{Entry, Value, look, put, live, in_time}
 use Rattle.held.specs.declared.keyspace.Lifted.{Lifted}
 use Rattle.std.specs.FinMap.{get}
-use Rattle.expiry.specs.Timed.{Timed, moments}
+use Rattle.expiry.specs.Timed.{Timed, moments, Grows, KeepsCursor}
 use Rattle.expiry.specs.Changes.{Clears}
-use Rattle.held.specs.Table.{Table, Element, item, value_at, Stands, Lacks, Adds, Keyed}
+use Rattle.held.specs.Table.{Table, Element, item, value_at, Stands, Lacks, Adds, Keyed, TableGrows}
 use Rattle.held.specs.Databases.{Bases, table_at, deadlines_at, with_deadline, means, ChangesBase, ChangesDeadlines}
 use Rattle.held.specs.Sound.{Names, IsTimed}
 
@@ -56,6 +56,8 @@ module _ {V : Type 0} where
     pub keyed : Keyed blocks (deadlines_at mid db).table
     pub seed : (deadlines_at mid db).table.seed ≡ (deadlines_at old db).table.seed
     pub times : moments blocks (deadlines_at mid db) ≡ with_deadline (moments blocks (deadlines_at old db)) key deadline
+    pub grown : Grows blocks (deadlines_at old db) (deadlines_at mid db)
+    pub cursor : KeepsCursor (deadlines_at old db) (deadlines_at mid db)
     -- where the key joins, each deadline is a key's
     pub joined : (keys : Table V) → Names keys name → Keyed blocks keys → IsTimed blocks keys (deadlines_at old db) → IsTimed blocks keys (deadlines_at mid db)
     -- where its deadline goes again, too
@@ -71,6 +73,9 @@ module _ {V : Type 0} where
     pub timed : IsTimed blocks (table_at new db) (deadlines_at new db)
     pub seed : (deadlines_at new db).table.seed ≡ (deadlines_at old db).table.seed
     pub times : moments blocks (deadlines_at new db) ≡ with_deadline (moments blocks (deadlines_at old db)) key deadline
+    pub keys_grown : TableGrows blocks (table_at old db) (table_at new db)
+    pub grown : Grows blocks (deadlines_at old db) (deadlines_at new db)
+    pub cursor : KeepsCursor (deadlines_at old db) (deadlines_at new db)
 
   -- the keys stay, and every deadline, whatever the tables of the deadlines do
   pub record KeepsTimes (old new : Bases V) (blocks : Blocks) (db : ℕ) : Type 0 where
@@ -78,6 +83,8 @@ module _ {V : Type 0} where
     pub timed : IsTimed blocks (table_at old db) (deadlines_at new db)
     pub seed : (deadlines_at new db).table.seed ≡ (deadlines_at old db).table.seed
     pub times : moments blocks (deadlines_at new db) ≡ moments blocks (deadlines_at old db)
+    pub grown : Grows blocks (deadlines_at old db) (deadlines_at new db)
+    pub cursor : KeepsCursor (deadlines_at old db) (deadlines_at new db)
 
 -- a deadline is at most 2^63 - 1
 abbrev pub IsDeadline : Option ℕ → Type 0

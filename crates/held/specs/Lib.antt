@@ -3,4 +3,5 @@ pub mod Databases
 pub mod Sound
 pub mod Worlds
 pub mod Gone
+pub mod Scopes
 pub mod Calls

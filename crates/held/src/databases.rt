@@ -1,11 +1,12 @@
 ghost use Rattle.std.specs.Prelude.{◌≡◌, ◌≢◌, ◌<◌, ◌≤◌, ◌⊎◌, ℕ, List, IfOk, IfErr, OnOk, OnErr, Some, IfSome, IfNone, IsSome, IsTrue, length, replicate};
 ghost use Rattle.std.specs.FinMap.{get, insert, remove};
 ghost use Rattle.blocks.specs.Blocks.{Blocks, bytes_at};
-ghost use Rattle.rehash_dict.specs.Table.{table_len};
-ghost use Rattle.rehash_dict.specs.Keyed.{hash_of};
-ghost use Rattle.expiry.specs.Timed.{moments};
+ghost use Rattle.rehash_dict.specs.Tables.{IsSettled};
+ghost use Rattle.rehash_dict.specs.Table.{table_len, tables};
+ghost use Rattle.rehash_dict.specs.Keyed.{hash_of, key_tables};
+ghost use Rattle.expiry.specs.Timed.{moments, Grows, KeepsCursor};
 ghost use Rattle.expiry.specs.Changes.{HasDeadline, Sets, Clears};
-ghost use Rattle.held.specs.Table.{Element, item, value_at, key_at, no_keys, Stands, Lacks, Keyed, Adds, Swaps, Removes};
+ghost use Rattle.held.specs.Table.{Element, item, value_at, key_at, no_keys, Stands, Lacks, Keyed, Adds, Swaps, Removes, TableGrows};
 ghost use Rattle.held.specs.Sound.{IsTimed};
 ghost use Rattle.held.specs.Calls.{IsDeadline, Begins, Joins, KeepsTimes};
 ghost use Rattle.held.specs.Databases.{no_base, base_at, table_at, deadlines_at, ChangesBase, ChangesTable, ChangesDeadlines};
@@ -198,6 +199,8 @@ impl<V: Drop> Databases<V> {
         requires live { IsSome (B.blocks store.now key) }
         ensures changes { ChangesDeadlines self.old self.new db }
         ensures set { OnOk result (Sets (B.blocks store.now) (deadlines_at self.old db).table (deadlines_at self.new db).table key deadline) }
+        ensures grown { Grows (B.blocks store.now) (deadlines_at self.old db) (deadlines_at self.new db) }
+        ensures cursor { KeepsCursor (deadlines_at self.old db) (deadlines_at self.new db) }
         ensures moments { OnOk result (moments (B.blocks store.now) (deadlines_at self.new db) ≡ insert (moments (B.blocks store.now) (deadlines_at self.old db)) (bytes_at (B.blocks store.now) key) deadline) }
         ensures keyed { Keyed (B.blocks store.now) (deadlines_at self.new db).table }
         ensures err { OnErr result (self.new ≡ self.old) }
@@ -210,6 +213,8 @@ impl<V: Drop> Databases<V> {
         requires db { db < length self.old.bases }
         requires keyed { Keyed (B.blocks store.now) (deadlines_at self.old db).table }
         ensures changes { ChangesDeadlines self.old self.new db }
+        ensures grown { Grows (B.blocks store.now) (deadlines_at self.old db) (deadlines_at self.new db) }
+        ensures cursor { KeepsCursor (deadlines_at self.old db) (deadlines_at self.new db) }
         ensures moments { moments (B.blocks store.now) (deadlines_at self.new db) ≡ remove (moments (B.blocks store.now) (deadlines_at self.old db)) key.now }
         ensures cleared { Clears (B.blocks store.now) (deadlines_at self.old db).table (deadlines_at self.new db).table key.now ⊎ ((self.new ≡ self.old) × Lacks (B.blocks store.now) (deadlines_at self.old db).table key.now) }
         ensures keyed { Keyed (B.blocks store.now) (deadlines_at self.new db).table }
@@ -226,6 +231,8 @@ impl<V: Drop> Databases<V> {
         ensures items { (table_at self.new db).items ≡ (table_at self.old db).items }
         ensures seed { (table_at self.new db).seed ≡ (table_at self.old db).seed }
         ensures keyed { (blocks : Blocks) → Keyed blocks (table_at self.old db) → Keyed blocks (table_at self.new db) }
+        ensures grown { (blocks : Blocks) → TableGrows blocks (table_at self.old db) (table_at self.new db) }
+        ensures settled { OnOk result (IsSettled (tables (table_at self.new db))) }
     {
         self.bases[db].keys.shrink()
     }
@@ -237,6 +244,9 @@ impl<V: Drop> Databases<V> {
         ensures items { (deadlines_at self.new db).table.items ≡ (deadlines_at self.old db).table.items }
         ensures seed { (deadlines_at self.new db).table.seed ≡ (deadlines_at self.old db).table.seed }
         ensures keyed { (blocks : Blocks) → Keyed blocks (deadlines_at self.old db).table → Keyed blocks (deadlines_at self.new db).table }
+        ensures grown { (blocks : Blocks) → Grows blocks (deadlines_at self.old db) (deadlines_at self.new db) }
+        ensures cursor { KeepsCursor (deadlines_at self.old db) (deadlines_at self.new db) }
+        ensures settled { OnOk result (IsSettled (tables (deadlines_at self.new db).table)) }
     {
         self.bases[db].deadlines.shrink()
     }
@@ -248,6 +258,7 @@ impl<V: Drop> Databases<V> {
         ensures changes { ChangesTable self.old self.new db }
         ensures swaps { Swaps (table_at self.old db) (table_at self.new db) at result value }
         ensures keyed { (blocks : Blocks) → Keyed blocks (table_at self.old db) → Keyed blocks (table_at self.new db) }
+        ensures tables { (blocks : Blocks) → key_tables blocks (table_at self.new db) ≡ key_tables blocks (table_at self.old db) }
     {
         self.bases[db].keys.swap_value(at, value)
     }
@@ -267,6 +278,7 @@ impl<V: Drop> Databases<V> {
         ensures changes { ChangesTable self.old self.new db }
         ensures adds { IfOk result (λ at. Adds (table_at self.old db) (table_at self.new db) at (record { key = key; hash = hash_of (table_at self.old db).seed (bytes_at (B.blocks store.now) key); value = value })) }
         ensures keyed { Keyed (B.blocks store.now) (table_at self.new db) }
+        ensures grown { TableGrows (B.blocks store.now) (table_at self.old db) (table_at self.new db) }
         ensures err { OnErr result (self.new ≡ self.old) }
         ensures value_returned { IfErr result (λ e. e.0 ≡ value) }
     {
@@ -341,6 +353,7 @@ impl<V: Drop> Databases<V> {
         ensures changes { ChangesTable self.old self.new db }
         ensures removed { IfSome result (λ pair. Removes (B.blocks store.now) (table_at self.old db) (table_at self.new db) key.now pair.0 pair.1) }
         ensures keyed { Keyed (B.blocks store.now) (table_at self.new db) }
+        ensures grown { TableGrows (B.blocks store.now) (table_at self.old db) (table_at self.new db) }
         ensures same { IfNone result (self.new ≡ self.old) }
         ensures none { IfNone result (Lacks (B.blocks store.now) (table_at self.old db) key.now) }
     {

@@ -6,6 +6,7 @@ ghost use Rattle.plain_world.specs.Worlds.{live, live_keys, look, with_base};
 ghost use Rattle.held.specs.Databases.{means, owned, SameSettings, table_at, deadlines_at};
 ghost use Rattle.held.specs.Sound.{Names, IsArranged, IsIntact, SoundBeside};
 ghost use Rattle.held.specs.Table.{Element, item};
+ghost use Rattle.held.specs.Scopes.{no_key, Within};
 ghost use Rattle.held.specs.Worlds.{without};
 ghost use Rattle.held.specs.Calls.{StandsAt};
 ghost use Rattle.held.specs.Gone.{Loses, Thins};
@@ -26,6 +27,7 @@ impl<V: Held, B: BlockStore> Keyspace<V, B> {
         ensures changes { Changes (B.blocks self.old.store) (B.blocks self.new.store) (owned V.refs_of self.old.bases) (owned V.refs_of self.new.bases) }
         ensures served { Served B.step self.old.store self.new.store }
         ensures settings { SameSettings self.old.bases self.new.bases }
+        ensures within { Within V.refs_of (no_key db) self.old.bases self.new.bases (B.blocks self.old.store) (B.blocks self.new.store) }
     {
         let key = self.store.bytes(name);
         self.bases.clear_deadline(&self.store, db, key);
@@ -45,6 +47,7 @@ impl<V: Held, B: BlockStore> Keyspace<V, B> {
         ensures changes { Changes (B.blocks self.old.store) (B.blocks self.new.store) (owned V.refs_of self.old.bases) (owned V.refs_of self.new.bases) }
         ensures served { Served B.step self.old.store self.new.store }
         ensures settings { SameSettings self.old.bases self.new.bases }
+        ensures within { Within V.refs_of (no_key db) self.old.bases self.new.bases (B.blocks self.old.store) (B.blocks self.new.store) }
     {
         let Some(name) = self.bases.passed(db, at, moment) else {
             return false;
@@ -64,6 +67,7 @@ impl<V: Held, B: BlockStore> Keyspace<V, B> {
         ensures changes { Changes (B.blocks self.old.store) (B.blocks self.new.store) (owned V.refs_of self.old.bases) (owned V.refs_of self.new.bases) }
         ensures served { Served B.step self.old.store self.new.store }
         ensures settings { SameSettings self.old.bases self.new.bases }
+        ensures within { Within V.refs_of (no_key db) self.old.bases self.new.bases (B.blocks self.old.store) (B.blocks self.new.store) }
     {
         let mut count = 0;
         for at in 0..self.bases.deadlines_top(db) {

@@ -8,6 +8,7 @@ ghost use Rattle.expiry.specs.Timed.{moments};
 ghost use Rattle.held.specs.Databases.{means, owned, SameSettings, table_at, deadlines_at, with_deadline, ChangesDeadlines};
 ghost use Rattle.held.specs.Sound.{IsArranged, IsIntact, Sound, SoundBeside};
 ghost use Rattle.held.specs.Table.{Stands, refs};
+ghost use Rattle.held.specs.Scopes.{one_key, no_key, all_keys, Within, AreSettled};
 ghost use Rattle.held.specs.Worlds.{without, emptied};
 ghost use Rattle.held.specs.Calls.{Found, StandsAt, IsPlace, IsVacant, IsDeadline, Lifts, AreParts};
 
@@ -179,6 +180,7 @@ impl<V: Held, B: BlockStore> Keyspace<V, B> {
         ensures times { OnOk result (moments (B.blocks self.old.store) (deadlines_at self.new.bases db) ≡ with_deadline (moments (B.blocks self.old.store) (deadlines_at self.old.bases db)) key.now deadline) }
         ensures err { OnErr result (self.new.bases ≡ self.old.bases) }
         ensures store { self.new.store ≡ self.old.store }
+        ensures within { Within V.refs_of (no_key db) self.old.bases self.new.bases (B.blocks self.old.store) (B.blocks self.old.store) }
     {
         match deadline {
             None => {
@@ -207,6 +209,7 @@ impl<V: Held, B: BlockStore> Keyspace<V, B> {
         ensures sound { (out : List BlockRef) → SoundBeside V.refs_of self.old.bases (B.blocks self.old.store) out → SoundBeside V.refs_of self.new.bases (B.blocks self.old.store) out }
         ensures store { self.new.store ≡ self.old.store }
         ensures settings { SameSettings self.old.bases self.new.bases }
+        ensures within { Within V.refs_of (no_key db) self.old.bases self.new.bases (B.blocks self.old.store) (B.blocks self.old.store) }
     {
         let Some(at) = self.bases.find(&self.store, db, key) else {
             return Ok(false);
@@ -226,6 +229,7 @@ impl<V: Held, B: BlockStore> Keyspace<V, B> {
         ensures same { IfNone result (self.new.bases ≡ self.old.bases) }
         ensures store { self.new.store ≡ self.old.store }
         ensures settings { SameSettings self.old.bases self.new.bases }
+        ensures within { Within V.refs_of (one_key db key.now) self.old.bases self.new.bases (B.blocks self.old.store) (B.blocks self.old.store) }
     {
         let item = self.find(db, key, moment)?;
         let value = self.bases.swap_value(db, item, V::zero());
@@ -241,6 +245,7 @@ impl<V: Held, B: BlockStore> Keyspace<V, B> {
         ensures sound { (all out : List BlockRef) → SoundBeside V.refs_of self.old.bases (B.blocks self.old.store) all → AreParts all (V.refs_of lifted.value) out → SoundBeside V.refs_of self.new.bases (B.blocks self.old.store) out }
         ensures store { self.new.store ≡ self.old.store }
         ensures settings { SameSettings self.old.bases self.new.bases }
+        ensures within { (key : List ℕ) (deadline : Option ℕ) → IsPlace self.old.bases (B.blocks self.old.store) lifted.db lifted.item key deadline → Within V.refs_of (one_key lifted.db key) self.old.bases self.new.bases (B.blocks self.old.store) (B.blocks self.old.store) }
     {
         let Lifted { db, item, value } = lifted;
         let _zero = self.bases.swap_value(db, item, value);
@@ -268,6 +273,7 @@ impl<V: Held, B: BlockStore> Keyspace<V, B> {
         ensures err_blocks { OnErr result (Changes (B.blocks self.old.store) (B.blocks self.new.store) (V.refs_of value) []) }
         ensures served { Served B.step self.old.store self.new.store }
         ensures settings { SameSettings self.old.bases self.new.bases }
+        ensures within { Within V.refs_of (one_key db key.now) self.old.bases self.new.bases (B.blocks self.old.store) (B.blocks self.new.store) }
     {
         match self.place(db, key, value, deadline) {
             Ok(()) => Ok(()),
@@ -288,6 +294,7 @@ impl<V: Held, B: BlockStore> Keyspace<V, B> {
         ensures changes { Changes (B.blocks self.old.store) (B.blocks self.new.store) (owned V.refs_of self.old.bases) (owned V.refs_of self.new.bases) }
         ensures served { Served B.step self.old.store self.new.store }
         ensures settings { SameSettings self.old.bases self.new.bases }
+        ensures within { Within V.refs_of (no_key db) self.old.bases self.new.bases (B.blocks self.old.store) (B.blocks self.new.store) }
     {
         self.bases.clear_deadline(&self.store, db, key);
         let Some((at, value)) = self.bases.remove(&self.store, db, key) else {
@@ -306,6 +313,7 @@ impl<V: Held, B: BlockStore> Keyspace<V, B> {
         ensures changes { Changes (B.blocks self.old.store) (B.blocks self.new.store) (owned V.refs_of self.old.bases) (owned V.refs_of self.new.bases) }
         ensures served { Served B.step self.old.store self.new.store }
         ensures settings { SameSettings self.old.bases self.new.bases }
+        ensures within { Within V.refs_of (all_keys db) self.old.bases self.new.bases (B.blocks self.old.store) (B.blocks self.new.store) }
     {
         let table = self.bases.take(db);
         release_all(&mut self.store, table);
@@ -323,6 +331,8 @@ impl<V: Held, B: BlockStore> Keyspace<V, B> {
         ensures sound { (out : List BlockRef) → SoundBeside V.refs_of self.old.bases (B.blocks self.old.store) out → SoundBeside V.refs_of self.new.bases (B.blocks self.old.store) out }
         ensures store { self.new.store ≡ self.old.store }
         ensures settings { SameSettings self.old.bases self.new.bases }
+        ensures within { Within V.refs_of (no_key db) self.old.bases self.new.bases (B.blocks self.old.store) (B.blocks self.old.store) }
+        ensures settled { OnOk result (AreSettled self.new.bases db) }
     {
         let _of_keys = self.bases.shrink_keys(db)?;
         let _of_deadlines = self.bases.shrink_deadlines(db)?;

@@ -6,6 +6,7 @@ ghost use Rattle.held.specs.Databases.{means, owned, SameSettings, table_at};
 ghost use Rattle.held.specs.Sound.{IsArranged, IsIntact, SoundBeside};
 ghost use Rattle.held.specs.Table.{Lacks};
 ghost use Rattle.held.specs.Calls.{IsDeadline};
+ghost use Rattle.held.specs.Scopes.{one_key, two_keys, Within};
 
 use crate::{Held, Keyspace};
 use blocks::{BlockStore, Memory, put_block};
@@ -34,6 +35,7 @@ impl<V: Held, B: BlockStore> Keyspace<V, B> {
         ensures value_returned { IfErr result (λ refused. refused ≡ value) }
         ensures served { Served B.step self.old.store self.new.store }
         ensures settings { SameSettings self.old.bases self.new.bases }
+        ensures within { Within V.refs_of (one_key db key.now) self.old.bases self.new.bases (B.blocks self.old.store) (B.blocks self.new.store) }
     {
         let Some(at) = self.bases.find(&self.store, db, key) else {
             return self.place_new(db, key, value, deadline);
@@ -62,6 +64,7 @@ impl<V: Held, B: BlockStore> Keyspace<V, B> {
         ensures value_returned { IfErr result (λ refused. refused ≡ value) }
         ensures served { Served B.step self.old.store self.new.store }
         ensures settings { SameSettings self.old.bases self.new.bases }
+        ensures within { Within V.refs_of (one_key db key.now) self.old.bases self.new.bases (B.blocks self.old.store) (B.blocks self.new.store) }
     {
         let Ok(at) = put_block(&mut self.store, key) else {
             return Err(value);
@@ -102,6 +105,7 @@ impl<V: Held, B: BlockStore> Keyspace<V, B> {
         ensures changes { Changes (B.blocks self.old.store) (B.blocks self.new.store) (owned V.refs_of self.old.bases) (owned V.refs_of self.new.bases) }
         ensures served { Served B.step self.old.store self.new.store }
         ensures settings { SameSettings self.old.bases self.new.bases }
+        ensures within { Within V.refs_of (two_keys db from.now to_db to.now) self.old.bases self.new.bases (B.blocks self.old.store) (B.blocks self.new.store) }
     {
         let Some(at) = self.bases.find(&self.store, db, from) else {
             return Ok(false);

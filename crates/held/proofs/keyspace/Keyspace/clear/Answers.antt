@@ -4,6 +4,7 @@ use Rattle.held.specs.Table.{refs}
 use Rattle.held.specs.Databases.{table_at}
 use Rattle.held.proofs.Bases.{sound_kept}
 use Rattle.held.proofs.Calls.{all_gone, all_order, all_means, left_owned, left_means, left_arranged, left_changes}
+use Rattle.held.proofs.Calls.{all_within}
 use Rattle.held.proofs.keyspace.Keyspace.clear.Goals as goal
 
 pub release_all-requires : goal.release_all-requires
@@ -39,4 +40,11 @@ returns-clause-changes g c =
     let after = g.B.BlockStore.blocks c.release_all.new.store in
     left_changes g.V.Held.refs_of g.V.Held.value_of g.met.V.Held.reads_own c.args.self.now.bases c.take-table.new.self c.args.db m after c.take-table.ensures.changes c.requires.intact (refs g.V.Held.refs_of (table_at c.args.self.now.bases c.args.db)) (all_gone g.V.Held.refs_of g.V.Held.value_of g.met.V.Held.reads_own c.args.self.now.bases c.take-table.new.self c.args.db _ c.take-table.ensures.changes c.take-table.ensures.none)
     (all_order g.V.Held.refs_of g.V.Held.value_of g.met.V.Held.reads_own c.args.self.now.bases c.take-table.new.self c.args.db _ c.take-table.ensures.changes c.take-table.ensures.none m refl)
+    (subst (λ t. Changes m after (refs g.V.Held.refs_of t) []) c.take-table.ensures.taken c.release_all.ensures.changes)
+
+pub returns-clause-within : goal.returns-clause-within
+returns-clause-within g c =
+    let m = g.B.BlockStore.blocks c.args.self.now.store in
+    let after = g.B.BlockStore.blocks c.release_all.new.store in
+    all_within g.V.Held.refs_of g.V.Held.value_of g.met.V.Held.reads_own c.args.self.now.bases c.take-table.new.self c.args.db _ c.take-table.ensures.changes c.take-table.ensures.none m after c.requires.intact refl
     (subst (λ t. Changes m after (refs g.V.Held.refs_of t) []) c.take-table.ensures.taken c.release_all.ensures.changes)

@@ -3,6 +3,10 @@ use Rattle.blocks.specs.Blocks.{no_step}
 use Rattle.held.specs.Databases.{Bases, means}
 use Rattle.held.proofs.Bases.{sound_kept}
 use Rattle.held.proofs.Calls.{look_lacks, absent_means, absent_lacks, cleared_changes, cleared_sound, dropped_owned, dropped_look, dropped_means, dropped_arranged, dropped_changes}
+use Rattle.held.specs.Scopes.{no_key, Within}
+use Rattle.held.proofs.Within.{within_times}
+use Rattle.held.proofs.Calls.{dropped_within}
+use Rattle.std.proofs.Common.{refl, subst}
 use Rattle.held.proofs.keyspace.Keyspace.drop_key.Goals as goal
 
 pub returns-in_default-clause-answer : goal.returns-in_default-clause-answer
@@ -59,3 +63,11 @@ returns-clause-changes g c =
     let m = g.B.BlockStore.blocks c.args.self.now.store in
     dropped_changes g.V.Held.refs_of g.V.Held.value_of g.met.V.Held.reads_own c.args.self.now.bases c.clear_deadline.new.self c.args.db m c.requires.intact c.args.key.now c.clear_deadline.ensures.changes c.clear_deadline.ensures.moments c.clear_deadline.ensures.cleared c.clear_deadline.ensures.keyed c.remove.new.self c.remove.ensures.changes c.in-Some.at c.in-Some.value c.in-Some.ensures.removed c.remove.ensures.keyed
     (g.B.BlockStore.blocks c.release_both.new.store) c.release_both.ensures.changes
+
+pub returns-in_default-clause-within : goal.returns-in_default-clause-within
+returns-in_default-clause-within g c =
+    subst (λ (b : Bases _). Within g.V.Held.refs_of (no_key c.args.db) c.args.self.now.bases b (g.B.BlockStore.blocks c.args.self.now.store) (g.B.BlockStore.blocks c.args.self.now.store)) (sym c.in_default.ensures.same)
+    (within_times g.V.Held.refs_of (no_key c.args.db) c.args.self.now.bases c.clear_deadline.new.self (g.B.BlockStore.blocks c.args.self.now.store) c.args.db refl c.requires.intact.arranged c.requires.db c.clear_deadline.ensures.changes c.clear_deadline.ensures.grown c.clear_deadline.ensures.cursor)
+
+pub returns-clause-within : goal.returns-clause-within
+returns-clause-within g c = dropped_within g.V.Held.refs_of g.V.Held.value_of g.met.V.Held.reads_own c.args.self.now.bases c.clear_deadline.new.self c.args.db (g.B.BlockStore.blocks c.args.self.now.store) c.requires.intact c.args.key.now c.clear_deadline.ensures.changes c.clear_deadline.ensures.moments c.clear_deadline.ensures.cleared c.clear_deadline.ensures.keyed c.remove.new.self c.remove.ensures.changes c.in-Some.at c.in-Some.value c.in-Some.ensures.removed c.remove.ensures.keyed c.clear_deadline.ensures.grown c.clear_deadline.ensures.cursor c.remove.ensures.grown c.requires.db (g.B.BlockStore.blocks c.release_both.new.store) c.release_both.ensures.changes

@@ -1,5 +1,9 @@
 use Rattle.blocks.proofs.Serve.{Served-next}
 use Rattle.held.proofs.Calls.{placed_bytes, placed_intact, placed_lacks, new_means, new_arranged, new_changes, back_means, back_arranged, back_blocks, back_keys, back_owned}
+use Rattle.held.proofs.Calls.{new_within, back_within}
+use Rattle.held.specs.Scopes.{one_key}
+use Rattle.held.proofs.Within.{within_same}
+use Rattle.std.proofs.Common.{refl}
 use Rattle.held.proofs.keyspace.Keyspace.place_new.Goals as goal
 
 pub insert_timed-requires-clause-keyed : goal.insert_timed-requires-clause-keyed
@@ -81,3 +85,12 @@ returns-in-Err-clause-err_owned g c =
 
 pub returns-in-Err-clause-served : goal.returns-in-Err-clause-served
 returns-in-Err-clause-served g c = Served-next _ _ _ c.put_block.ensures.served c.give_back.ensures.step
+
+pub returns-in-Ok-insert_timed-clause-within : goal.returns-in-Ok-insert_timed-clause-within
+returns-in-Ok-insert_timed-clause-within g c = new_within g.V.Held.refs_of g.V.Held.value_of g.met.V.Held.reads_own c.args.self.now.bases (g.B.BlockStore.blocks c.args.self.now.store) (g.B.BlockStore.blocks c.put_block.new.store) c.in-Ok.at c.args.key.now c.args.value c.requires.intact c.in-Ok.ensures.placed c.in-Ok.ensures.changes c.insert_timed.new.self c.args.db c.args.deadline c.in-Ok-insert_timed.ensures.joins c.requires.db
+
+pub returns-in-Err-clause-within : goal.returns-in-Err-clause-within
+returns-in-Err-clause-within g c = back_within g.V.Held.refs_of g.V.Held.value_of g.met.V.Held.reads_own c.args.self.now.bases (g.B.BlockStore.blocks c.args.self.now.store) (g.B.BlockStore.blocks c.put_block.new.store) c.in-Ok.at c.args.key.now c.args.value c.requires.intact c.in-Ok.ensures.placed c.in-Ok.ensures.changes c.in-Ok.ensures.fresh c.insert_timed.new.self c.args.db c.in-Err.ensures.stays (g.B.BlockStore.blocks c.give_back.new.self) c.give_back.ensures.ended c.requires.db
+
+pub returns-in_default-clause-within : goal.returns-in_default-clause-within
+returns-in_default-clause-within g c = within_same g.V.Held.refs_of (one_key c.args.db c.args.key.now) c.args.self.now.bases c.args.self.now.bases (g.B.BlockStore.blocks c.args.self.now.store) (g.B.BlockStore.blocks c.put_block.new.store) refl c.in_default.ensures.err_blocks

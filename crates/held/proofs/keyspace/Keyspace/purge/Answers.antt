@@ -1,6 +1,8 @@
 use Rattle.std.proofs.Common.{◌≡◌, ℕ, ◌+◌, cond, refl, ap, arith}
 use Rattle.blocks.specs.Blocks.{no_step}
 use Rattle.blocks.proofs.Serve.{Served-then}
+use Rattle.held.specs.Scopes.{no_key}
+use Rattle.held.proofs.Within.{within_none, within_then}
 use Rattle.held.proofs.Purging.{purge_begins, purge_next, purge_ends}
 use Rattle.held.proofs.Calls.{settings_then}
 use Rattle.held.proofs.keyspace.Keyspace.purge.Goals as goal
@@ -10,6 +12,7 @@ pub loop-at-init : goal.loop-at-init
 loop-at-init g c = record {
   purged = purge_begins g.V.Held.refs_of g.V.Held.value_of g.met.V.Held.reads_own c.args.self.now.bases (g.B.BlockStore.blocks c.args.self.now.store) c.args.db c.args.moment c.requires.intact;
   served = no_step;
+  within = within_none g.V.Held.refs_of (no_key c.args.db) c.args.self.now.bases (g.B.BlockStore.blocks c.args.self.now.store);
   settings = record { limits = refl; seed = refl };
 }
 
@@ -23,6 +26,7 @@ loop-at-preserved g c =
       purged = purge_next g.V.Held.refs_of g.V.Held.value_of g.met.V.Held.reads_own c.args.self.now.bases c.loop-at.self.bases c.drop_passed.new.self.bases (g.B.BlockStore.blocks c.args.self.now.store) (g.B.BlockStore.blocks c.loop-at.self.store) (g.B.BlockStore.blocks c.drop_passed.new.self.store) c.args.db c.args.moment c.loop-at.at c.loop-at.count c.drop_passed.result c.if-drop_passed.count counted
           c.loop-at.invariant.purged c.drop_passed.ensures.thins c.drop_passed.ensures.in_time c.drop_passed.ensures.arranged c.drop_passed.ensures.changes;
       served = Served-then _ _ _ c.loop-at.invariant.served c.drop_passed.ensures.served;
+      within = within_then g.V.Held.refs_of (no_key c.args.db) c.args.self.now.bases c.loop-at.self.bases c.drop_passed.new.self.bases (g.B.BlockStore.blocks c.args.self.now.store) (g.B.BlockStore.blocks c.loop-at.self.store) (g.B.BlockStore.blocks c.drop_passed.new.self.store) c.loop-at.invariant.within c.drop_passed.ensures.within;
       settings = settings_then g.V.Held.refs_of g.V.Held.value_of g.met.V.Held.reads_own _ _ _ c.loop-at.invariant.settings c.drop_passed.ensures.settings;
     }
 

@@ -1,5 +1,6 @@
 use Rattle.blocks.specs.Blocks.{Served}
 use Rattle.held.specs.Databases.{SameSettings}
+use Rattle.held.specs.Scopes.{no_key, Within}
 use Rattle.held.proofs.Purging.{IsPurged}
 use Rattle.held.proofs.keyspace.Keyspace.purge.Given as goal
 
@@ -7,5 +8,6 @@ abbrev pub invariant-loop-at : goal.invariant-loop-at
 invariant-loop-at g l = record {
   purged : IsPurged g.V.Held.refs_of g.V.Held.value_of l.initial.self.bases l.self.bases (g.B.BlockStore.blocks l.initial.self.store) (g.B.BlockStore.blocks l.self.store) l.db l.moment l.at l.count;
   served : Served g.B.BlockStore.step l.initial.self.store l.self.store;
+  within : Within g.V.Held.refs_of (no_key l.db) l.initial.self.bases l.self.bases (g.B.BlockStore.blocks l.initial.self.store) (g.B.BlockStore.blocks l.self.store);
   settings : SameSettings l.initial.self.bases l.self.bases;
 }

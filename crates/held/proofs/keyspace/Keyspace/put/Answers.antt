@@ -4,6 +4,8 @@ use Rattle.held.specs.Databases.{means}
 use Rattle.held.specs.Sound.{IsArranged}
 use Rattle.held.proofs.Bases.{sound_joined}
 use Rattle.held.proofs.Calls.{returned_owned, returned_changes, refused_means, refused_arranged, refused_changes}
+use Rattle.held.specs.Scopes.{one_key, Within}
+use Rattle.held.proofs.Calls.{refused_within}
 use Rattle.held.proofs.keyspace.Keyspace.put.Goals as goal
 
 pub returns-in-Ok-clause-sound : goal.returns-in-Ok-clause-sound
@@ -33,3 +35,8 @@ returns-in-Err-clause-sound g c =
 
 pub returns-in-Err-clause-served : goal.returns-in-Err-clause-served
 returns-in-Err-clause-served g c = Served-then _ _ _ c.place.ensures.served c.release.ensures.served
+
+pub returns-in-Err-clause-within : goal.returns-in-Err-clause-within
+returns-in-Err-clause-within g c =
+    refused_within g.V.Held.refs_of g.V.Held.value_of g.met.V.Held.reads_own c.args.self.now.bases c.place.new.self.bases (g.B.BlockStore.blocks c.args.self.now.store) (g.B.BlockStore.blocks c.release.new.store) c.args.value c.requires.intact (subst (λ b. IsArranged c.place.new.self.bases b) c.in-Err.ensures.err_blocks c.in-Err.ensures.arranged) c.in-Err.ensures.err_owned (returned_changes g.V.Held.refs_of g.V.Held.value_of g.met.V.Held.reads_own (g.B.BlockStore.blocks c.args.self.now.store) (g.B.BlockStore.blocks c.place.new.self.store) (g.B.BlockStore.blocks c.release.new.store) c.args.value c.in-Err.value c.in-Err.ensures.value_returned c.in-Err.ensures.err_blocks c.release.ensures.changes) (one_key c.args.db c.args.key.now)
+    (subst (λ b. Within g.V.Held.refs_of (one_key c.args.db c.args.key.now) c.args.self.now.bases c.place.new.self.bases (g.B.BlockStore.blocks c.args.self.now.store) b) c.in-Err.ensures.err_blocks c.place.ensures.within)

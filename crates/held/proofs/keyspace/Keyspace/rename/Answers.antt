@@ -5,6 +5,9 @@ use Rattle.blocks.proofs.Change.{Changes-then}
 use Rattle.held.proofs.Timing.{some_none}
 use Rattle.held.proofs.Calls.{look_lacks, look_stands}
 use Rattle.held.proofs.Renaming.{deadline_late, out_intact, out_look, moved_means, moved_sound, moved_changes, refused_world, refused_sound, refused_same}
+use Rattle.held.specs.Scopes.{two_keys}
+use Rattle.held.proofs.Within.{within_none, within_then}
+use Rattle.held.proofs.Renaming.{placed_within, left_within, back_within}
 use Rattle.held.proofs.keyspace.Keyspace.rename.Goals as goal
 
 pub returns-in_default-clause-answer : goal.returns-in_default-clause-answer
@@ -71,3 +74,22 @@ pub returns-in-Err-clause-changes : goal.returns-in-Err-clause-changes
 returns-in-Err-clause-changes g c =
     refused_same g.V.Held.refs_of g.V.Held.value_of g.met.V.Held.reads_own c.args.self.now.bases c.swap_value-value.new.self c.args.db (g.B.BlockStore.blocks c.args.self.now.store) c.requires.intact c.args.from.now c.in-Some.at c.in-Some.ensures.found c.deadline-deadline.result c.deadline-deadline.ensures.value c.swap_value-value.ensures.changes c.swap_value-value.result c.zero.result (ap g.V.Held.refs_of c.zero.ensures ∙ g.met.V.Held.owns_none) c.swap_value-value.ensures.swaps (c.swap_value-value.ensures.keyed (g.B.BlockStore.blocks c.args.self.now.store) (c.requires.intact.arranged.keyed c.args.db))
     c.args.to_db c.place.new.self.bases (g.B.BlockStore.blocks c.place.new.self.store) c.in-Err.ensures.err_blocks c.in-Err.ensures.err_keys c.in-Err.ensures.err_owned c.in-Err.ensures.arranged c.in-Err.ensures.kept c.swap_value-zero.new.self c.in-Err.value c.in-Err.ensures.value_returned c.swap_value-zero.ensures.changes c.swap_value-zero.result c.swap_value-zero.ensures.swaps (c.swap_value-zero.ensures.keyed (g.B.BlockStore.blocks c.place.new.self.store) (c.in-Err.ensures.arranged.keyed c.args.db))
+
+pub returns-in_default-clause-within : goal.returns-in_default-clause-within
+returns-in_default-clause-within g c = within_none g.V.Held.refs_of (two_keys c.args.db c.args.from.now c.args.to_db c.args.to.now) c.args.self.now.bases (g.B.BlockStore.blocks c.args.self.now.store)
+
+pub returns-then-eq-clause-within : goal.returns-then-eq-clause-within
+returns-then-eq-clause-within g c = within_none g.V.Held.refs_of (two_keys c.args.db c.args.from.now c.args.to_db c.args.to.now) c.args.self.now.bases (g.B.BlockStore.blocks c.args.self.now.store)
+
+pub returns-in-Ok-clause-within : goal.returns-in-Ok-clause-within
+returns-in-Ok-clause-within g c =
+    within_then g.V.Held.refs_of (two_keys c.args.db c.args.from.now c.args.to_db c.args.to.now) c.args.self.now.bases c.place.new.self.bases c.drop_key-there.new.self.bases (g.B.BlockStore.blocks c.args.self.now.store) (g.B.BlockStore.blocks c.place.new.self.store) (g.B.BlockStore.blocks c.drop_key-there.new.self.store)
+    (placed_within g.V.Held.refs_of g.V.Held.value_of g.met.V.Held.reads_own c.args.self.now.bases c.swap_value-value.new.self c.args.db (g.B.BlockStore.blocks c.args.self.now.store) c.requires.intact c.args.from.now c.in-Some.at c.in-Some.ensures.found c.deadline-deadline.result c.deadline-deadline.ensures.value c.swap_value-value.ensures.changes c.swap_value-value.result c.zero.result (ap g.V.Held.refs_of c.zero.ensures ∙ g.met.V.Held.owns_none) c.swap_value-value.ensures.swaps (c.swap_value-value.ensures.keyed (g.B.BlockStore.blocks c.args.self.now.store) (c.requires.intact.arranged.keyed c.args.db)) (c.swap_value-value.ensures.tables (g.B.BlockStore.blocks c.args.self.now.store)) c.args.to_db c.args.to.now c.place.new.self.bases (g.B.BlockStore.blocks c.place.new.self.store) c.place.ensures.within)
+    (left_within g.V.Held.refs_of g.V.Held.value_of g.met.V.Held.reads_own c.args.self.now.bases c.swap_value-value.new.self c.args.db (g.B.BlockStore.blocks c.args.self.now.store) c.requires.intact c.args.from.now c.in-Some.at c.in-Some.ensures.found c.deadline-deadline.result c.deadline-deadline.ensures.value c.swap_value-value.ensures.changes c.swap_value-value.result c.zero.result (ap g.V.Held.refs_of c.zero.ensures ∙ g.met.V.Held.owns_none) c.swap_value-value.ensures.swaps (c.swap_value-value.ensures.keyed (g.B.BlockStore.blocks c.args.self.now.store) (c.requires.intact.arranged.keyed c.args.db)) c.args.to_db c.args.to.now c.place.new.self.bases c.drop_key-there.new.self.bases (g.B.BlockStore.blocks c.place.new.self.store) (g.B.BlockStore.blocks c.drop_key-there.new.self.store) c.drop_key-there.ensures.within)
+
+pub returns-in-Err-clause-within : goal.returns-in-Err-clause-within
+returns-in-Err-clause-within g c =
+    within_then g.V.Held.refs_of (two_keys c.args.db c.args.from.now c.args.to_db c.args.to.now) c.args.self.now.bases c.place.new.self.bases c.swap_value-zero.new.self (g.B.BlockStore.blocks c.args.self.now.store) (g.B.BlockStore.blocks c.place.new.self.store) (g.B.BlockStore.blocks c.place.new.self.store)
+    (placed_within g.V.Held.refs_of g.V.Held.value_of g.met.V.Held.reads_own c.args.self.now.bases c.swap_value-value.new.self c.args.db (g.B.BlockStore.blocks c.args.self.now.store) c.requires.intact c.args.from.now c.in-Some.at c.in-Some.ensures.found c.deadline-deadline.result c.deadline-deadline.ensures.value c.swap_value-value.ensures.changes c.swap_value-value.result c.zero.result (ap g.V.Held.refs_of c.zero.ensures ∙ g.met.V.Held.owns_none) c.swap_value-value.ensures.swaps (c.swap_value-value.ensures.keyed (g.B.BlockStore.blocks c.args.self.now.store) (c.requires.intact.arranged.keyed c.args.db)) (c.swap_value-value.ensures.tables (g.B.BlockStore.blocks c.args.self.now.store)) c.args.to_db c.args.to.now c.place.new.self.bases (g.B.BlockStore.blocks c.place.new.self.store) c.place.ensures.within)
+    (back_within g.V.Held.refs_of g.V.Held.value_of g.met.V.Held.reads_own c.args.self.now.bases c.swap_value-value.new.self c.args.db (g.B.BlockStore.blocks c.args.self.now.store) c.requires.intact c.args.from.now c.in-Some.at c.in-Some.ensures.found c.deadline-deadline.result c.deadline-deadline.ensures.value c.swap_value-value.ensures.changes c.swap_value-value.result c.zero.result (ap g.V.Held.refs_of c.zero.ensures ∙ g.met.V.Held.owns_none) c.swap_value-value.ensures.swaps (c.swap_value-value.ensures.keyed (g.B.BlockStore.blocks c.args.self.now.store) (c.requires.intact.arranged.keyed c.args.db)) c.args.to_db c.place.new.self.bases (g.B.BlockStore.blocks c.place.new.self.store) c.in-Err.ensures.err_blocks c.in-Err.ensures.err_keys c.in-Err.ensures.err_owned c.in-Err.ensures.arranged c.in-Err.ensures.kept c.swap_value-zero.new.self c.in-Err.value c.in-Err.ensures.value_returned c.swap_value-zero.ensures.changes c.swap_value-zero.result c.swap_value-zero.ensures.swaps (c.swap_value-zero.ensures.keyed (g.B.BlockStore.blocks c.place.new.self.store) (c.in-Err.ensures.arranged.keyed c.args.db))
+    (c.swap_value-zero.ensures.tables (g.B.BlockStore.blocks c.place.new.self.store)) c.args.to.now)

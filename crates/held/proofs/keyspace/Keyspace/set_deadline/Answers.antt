@@ -1,5 +1,7 @@
 use Rattle.std.proofs.Common.{is_some, refl, sym, ap}
 use Rattle.held.proofs.Calls.{look_lacks, look_stands, retimed_entry, retimed_sound}
+use Rattle.held.specs.Scopes.{no_key}
+use Rattle.held.proofs.Within.{within_none}
 use Rattle.held.proofs.keyspace.Keyspace.set_deadline.Goals as goal
 
 pub returns-in_default-clause-answer : goal.returns-in_default-clause-answer
@@ -27,3 +29,6 @@ returns-clause-absent g c is =
 
 pub returns-clause-sound : goal.returns-clause-sound
 returns-clause-sound g c = retimed_sound g.V.Held.refs_of g.V.Held.value_of g.met.V.Held.reads_own c.args.self.now.bases c.retime.new.self.bases c.args.db (g.B.BlockStore.blocks c.args.self.now.store) c.retime.ensures.changes c.retime.ensures.arranged
+
+pub returns-in_default-clause-within : goal.returns-in_default-clause-within
+returns-in_default-clause-within g c = within_none g.V.Held.refs_of (no_key c.args.db) c.args.self.now.bases (g.B.BlockStore.blocks c.args.self.now.store)

@@ -1,4 +1,8 @@
 use Rattle.held.proofs.Shrinking.{keys_shrink, both_shrink, items_means, items_sound}
+use Rattle.held.specs.Scopes.{no_key}
+use Rattle.held.proofs.Within.{within_then, within_items, within_times}
+use Rattle.held.proofs.Shrinking.{items_arranged}
+use Rattle.std.proofs.Common.{refl}
 use Rattle.held.proofs.keyspace.Keyspace.shrink.Goals as goal
 
 pub returns-in_err-_of_keys-clause-means : goal.returns-in_err-_of_keys-clause-means
@@ -28,3 +32,16 @@ pub returns-clause-sound : goal.returns-clause-sound
 returns-clause-sound g c = items_sound g.V.Held.refs_of g.V.Held.value_of g.met.V.Held.reads_own c.args.self.now.bases c.shrink_deadlines.new.self (g.B.BlockStore.blocks c.args.self.now.store) c.args.db c.requires.intact.arranged
     (both_shrink g.V.Held.refs_of g.V.Held.value_of g.met.V.Held.reads_own c.args.self.now.bases c.shrink_keys.new.self (g.B.BlockStore.blocks c.args.self.now.store) c.args.db c.requires.intact.arranged c.shrink_keys.ensures.changes c.shrink_keys.ensures.items (c.shrink_keys.ensures.keyed (g.B.BlockStore.blocks c.args.self.now.store) (c.requires.intact.arranged.keyed c.args.db)) c.shrink_keys.ensures.seed c.shrink_deadlines.new.self c.shrink_deadlines.ensures.changes c.shrink_deadlines.ensures.items
     (c.shrink_deadlines.ensures.keyed (g.B.BlockStore.blocks c.args.self.now.store) (keys_shrink g.V.Held.refs_of g.V.Held.value_of g.met.V.Held.reads_own c.args.self.now.bases c.shrink_keys.new.self (g.B.BlockStore.blocks c.args.self.now.store) c.args.db c.requires.intact.arranged c.shrink_keys.ensures.changes c.shrink_keys.ensures.items (c.shrink_keys.ensures.keyed (g.B.BlockStore.blocks c.args.self.now.store) (c.requires.intact.arranged.keyed c.args.db)) c.shrink_keys.ensures.seed).times_keyed) c.shrink_deadlines.ensures.seed)
+
+pub returns-in_err-_of_keys-clause-within : goal.returns-in_err-_of_keys-clause-within
+returns-in_err-_of_keys-clause-within g c = within_items g.V.Held.refs_of (no_key c.args.db) c.args.self.now.bases c.shrink_keys.new.self (g.B.BlockStore.blocks c.args.self.now.store) c.args.db refl c.requires.intact.arranged c.requires.db c.shrink_keys.ensures.changes c.shrink_keys.ensures.items (c.shrink_keys.ensures.grown (g.B.BlockStore.blocks c.args.self.now.store))
+
+pub returns-in_err-_of_deadlines-clause-within : goal.returns-in_err-_of_deadlines-clause-within
+returns-in_err-_of_deadlines-clause-within g c =
+    within_then g.V.Held.refs_of (no_key c.args.db) c.args.self.now.bases c.shrink_keys.new.self c.shrink_deadlines.new.self (g.B.BlockStore.blocks c.args.self.now.store) (g.B.BlockStore.blocks c.args.self.now.store) (g.B.BlockStore.blocks c.args.self.now.store) (within_items g.V.Held.refs_of (no_key c.args.db) c.args.self.now.bases c.shrink_keys.new.self (g.B.BlockStore.blocks c.args.self.now.store) c.args.db refl c.requires.intact.arranged c.requires.db c.shrink_keys.ensures.changes c.shrink_keys.ensures.items (c.shrink_keys.ensures.grown (g.B.BlockStore.blocks c.args.self.now.store)))
+    (within_times g.V.Held.refs_of (no_key c.args.db) c.shrink_keys.new.self c.shrink_deadlines.new.self (g.B.BlockStore.blocks c.args.self.now.store) c.args.db refl (items_arranged g.V.Held.refs_of g.V.Held.value_of g.met.V.Held.reads_own c.args.self.now.bases c.shrink_keys.new.self (g.B.BlockStore.blocks c.args.self.now.store) c.args.db c.requires.intact.arranged (keys_shrink g.V.Held.refs_of g.V.Held.value_of g.met.V.Held.reads_own c.args.self.now.bases c.shrink_keys.new.self (g.B.BlockStore.blocks c.args.self.now.store) c.args.db c.requires.intact.arranged c.shrink_keys.ensures.changes c.shrink_keys.ensures.items (c.shrink_keys.ensures.keyed (g.B.BlockStore.blocks c.args.self.now.store) (c.requires.intact.arranged.keyed c.args.db)) c.shrink_keys.ensures.seed)) c.requires.db c.shrink_deadlines.ensures.changes (c.shrink_deadlines.ensures.grown (g.B.BlockStore.blocks c.args.self.now.store)) c.shrink_deadlines.ensures.cursor)
+
+pub returns-clause-within : goal.returns-clause-within
+returns-clause-within g c =
+    within_then g.V.Held.refs_of (no_key c.args.db) c.args.self.now.bases c.shrink_keys.new.self c.shrink_deadlines.new.self (g.B.BlockStore.blocks c.args.self.now.store) (g.B.BlockStore.blocks c.args.self.now.store) (g.B.BlockStore.blocks c.args.self.now.store) (within_items g.V.Held.refs_of (no_key c.args.db) c.args.self.now.bases c.shrink_keys.new.self (g.B.BlockStore.blocks c.args.self.now.store) c.args.db refl c.requires.intact.arranged c.requires.db c.shrink_keys.ensures.changes c.shrink_keys.ensures.items (c.shrink_keys.ensures.grown (g.B.BlockStore.blocks c.args.self.now.store)))
+    (within_times g.V.Held.refs_of (no_key c.args.db) c.shrink_keys.new.self c.shrink_deadlines.new.self (g.B.BlockStore.blocks c.args.self.now.store) c.args.db refl (items_arranged g.V.Held.refs_of g.V.Held.value_of g.met.V.Held.reads_own c.args.self.now.bases c.shrink_keys.new.self (g.B.BlockStore.blocks c.args.self.now.store) c.args.db c.requires.intact.arranged (keys_shrink g.V.Held.refs_of g.V.Held.value_of g.met.V.Held.reads_own c.args.self.now.bases c.shrink_keys.new.self (g.B.BlockStore.blocks c.args.self.now.store) c.args.db c.requires.intact.arranged c.shrink_keys.ensures.changes c.shrink_keys.ensures.items (c.shrink_keys.ensures.keyed (g.B.BlockStore.blocks c.args.self.now.store) (c.requires.intact.arranged.keyed c.args.db)) c.shrink_keys.ensures.seed)) c.requires.db c.shrink_deadlines.ensures.changes (c.shrink_deadlines.ensures.grown (g.B.BlockStore.blocks c.args.self.now.store)) c.shrink_deadlines.ensures.cursor)
