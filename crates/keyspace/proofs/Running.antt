@@ -1,5 +1,5 @@
 -- What a command promises, from what its parts do.
-use Rattle.std.proofs.Common.{◌≡◌, List, Result, Ok, Err, IfOk, refl, sym, ap}
+use Rattle.std.proofs.Common.{◌≡◌, List, Result, Ok, Err, IfOk, refl, sym, ap, ◌∙◌}
 use Rattle.blocks.specs.Blocks.{Blocks, Served}
 use Rattle.plain_world.specs.Worlds.{World}
 use Rattle.plain_model.specs.Outcomes.{Outcome, IsOutcome, IsRefusal, leaves}
@@ -7,7 +7,10 @@ use Rattle.plain_world.specs.declared.reply.Part.{Part}
 use Rattle.keyspace.specs.Databases.{Bases, SameSettings}
 use Rattle.keyspace.specs.Sound.{Sound}
 use Rattle.keyspace.specs.Databases.{Keyspace}
+use Rattle.keyspace.specs.Scopes.{Scope}
 use Rattle.keyspace.specs.Commands.{Held, Kept}
+use Rattle.blocks.proofs.Serve.{Served-then}
+use Rattle.keyspace.proofs.Serving.{unmoved, further}
 
 -- an outcome's own reply and world
 pub outcome_is : (outcome : Outcome) (reply : List Part) (new : World) → outcome ≡ leaves reply new → IsOutcome outcome reply new
@@ -16,15 +19,24 @@ outcome_is outcome reply new e = (sym (ap (λ o. o.reply) e), sym (ap (λ o. o.w
 pub same_settings : (bases : Bases) → SameSettings bases bases
 same_settings bases = record { limits = refl; seed = refl }
 
-pub same_held : {S : Type 0} (blocks : S → Blocks) (step : S → S → Type 0) (keyspace : Keyspace S) → Sound keyspace.bases (blocks keyspace.store) → Held blocks step keyspace keyspace
-same_held blocks step keyspace sound = record { sound = sound; served = Served.no_step; settings = same_settings keyspace.bases }
+pub same_held : {S : Type 0} (blocks : S → Blocks) (step : S → S → Type 0) (scope : Scope) (keyspace : Keyspace S) → Sound keyspace.bases (blocks keyspace.store) → Held blocks step scope keyspace keyspace
+same_held blocks step scope keyspace sound = record { sound = sound; served = Served.no_step; settings = same_settings keyspace.bases; within = unmoved scope keyspace.bases (blocks keyspace.store) }
 
 -- nothing is changed
-pub unchanged : {S E : Type 0} (blocks : S → Blocks) (step : S → S → Type 0) (keyspace : Keyspace S) (result : Result (List Part) E) → Sound keyspace.bases (blocks keyspace.store) → Kept blocks step keyspace keyspace result
-unchanged blocks step keyspace (Ok reply) sound = record { refusals = λ refused. refl; sound = sound; served = Served.no_step; settings = same_settings keyspace.bases }
-unchanged blocks step keyspace (Err e) sound = record { refusals = tt; sound = sound; served = Served.no_step; settings = same_settings keyspace.bases }
+pub unchanged : {S E : Type 0} (blocks : S → Blocks) (step : S → S → Type 0) (scope : Scope) (keyspace : Keyspace S) (result : Result (List Part) E) → Sound keyspace.bases (blocks keyspace.store) → Kept blocks step scope keyspace keyspace result
+unchanged blocks step scope keyspace (Ok reply) sound = record { refusals = λ refused. refl; sound = sound; served = Served.no_step; settings = same_settings keyspace.bases; within = unmoved scope keyspace.bases (blocks keyspace.store) }
+unchanged blocks step scope keyspace (Err e) sound = record { refusals = tt; sound = sound; served = Served.no_step; settings = same_settings keyspace.bases; within = unmoved scope keyspace.bases (blocks keyspace.store) }
+
+-- one part after another
+pub held_then : {S : Type 0} (blocks : S → Blocks) (step : S → S → Type 0) (scope : Scope) (a b c : Keyspace S) → Held blocks step scope a b → Held blocks step scope b c → Held blocks step scope a c
+held_then blocks step scope a b c p q = record {
+  sound = q.sound;
+  served = Served-then _ _ _ p.served q.served;
+  settings = record { limits = q.settings.limits ∙ p.settings.limits; seed = q.settings.seed ∙ p.settings.seed };
+  within = further scope a.bases b.bases c.bases (blocks a.store) (blocks b.store) (blocks c.store) p.within q.within;
+}
 
 -- no refusal: what the parts hold is kept
-pub calm : {S E : Type 0} (blocks : S → Blocks) (step : S → S → Type 0) (old new : Keyspace S) (result : Result (List Part) E) → IfOk result (λ reply. IsRefusal reply → ⊥) → Held blocks step old new → Kept blocks step old new result
-calm blocks step old new (Ok reply) f held = record { refusals = λ refused. absurd (f refused); sound = held.sound; served = held.served; settings = held.settings }
-calm blocks step old new (Err e) f held = record { refusals = tt; sound = held.sound; served = held.served; settings = held.settings }
+pub calm : {S E : Type 0} (blocks : S → Blocks) (step : S → S → Type 0) (scope : Scope) (old new : Keyspace S) (result : Result (List Part) E) → IfOk result (λ reply. IsRefusal reply → ⊥) → Held blocks step scope old new → Kept blocks step scope old new result
+calm blocks step scope old new (Ok reply) f held = record { refusals = λ refused. absurd (f refused); sound = held.sound; served = held.served; settings = held.settings; within = held.within }
+calm blocks step scope old new (Err e) f held = record { refusals = tt; sound = held.sound; served = held.served; settings = held.settings; within = held.within }

@@ -1,8 +1,8 @@
 -- What is seen of a world after a call, from what the call says of the whole one.
-use Rattle.std.proofs.Common.{◌≡◌, inl, inr, ◌<◌, ◌≤◌, ℕ, Bool, true, false, cond, List, Option, Some, None, is_some, refl, sym, ap, ◌∙◌, subst, arith}
+use Rattle.std.proofs.Common.{◌≡◌, inl, inr, ◌<◌, ℕ, Bool, true, false, cond, List, Option, Some, None, is_some, refl, sym, ap, ◌∙◌, arith}
 use Rattle.std.specs.Prelude.{ℤ, pos, int_lt, nat_le}
-use Rattle.std.proofs.lemmas.Bool.{cases_Bool, cond-true, cond-false, le-leb, leb-true}
-use Rattle.plain_world.specs.Worlds.{World, Entry, in_time, is_there, live, look, put, remove, deadline_of}
+use Rattle.std.proofs.lemmas.Bool.{cases_Bool, cond-true, cond-false, leb-true}
+use Rattle.plain_world.specs.Worlds.{World, Entry, in_time, live, look, put, remove, deadline_of}
 use Rattle.plain_world.proofs.Lives.{shown, look_live, live_put_in_time, live_remove, was_in_time}
 use Rattle.plain_model.specs.Deadlines.{expire, persist, lasts_until, lasts, from_zero}
 

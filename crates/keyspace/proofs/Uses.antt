@@ -1,6 +1,6 @@
 -- For whoever calls a keyspace: what a command function needs to say that the keyspace is sound after it, and which
 -- world it leaves. Each lemma takes the clauses of the calls as they stand.
-use Rattle.std.proofs.Common.{Some, None, ◌≡◌, ℕ, ◌+◌, ◌≤◌, List, [], ◌++◌, Option, refl, sym, ap, ◌∙◌, subst, lit<}
+use Rattle.std.proofs.Common.{Some, ◌≡◌, ℕ, ◌+◌, ◌≤◌, List, [], ◌++◌, Option, refl, sym, ap, ◌∙◌, subst, lit<}
 use Rattle.blocks.specs.declared.BlockRef.{BlockRef}
 use Rattle.blocks.specs.Blocks.{Blocks, times, Changes, Owned}
 use Rattle.plain_world.specs.Worlds.{Entry, World, look, put, stand}
@@ -17,6 +17,7 @@ use Rattle.keyspace.specs.declared.value.Value.TheVariants.{Text}
 use Rattle.keyspace.specs.Values.{value_of, value_refs, value_own, vacant, IsEncodedAs}
 use Rattle.keyspace.specs.Databases.{Bases, means}
 use Rattle.keyspace.specs.Sound.{IsIntact, Sound, SoundBeside}
+use Rattle.keyspace.specs.Scopes.{Scope, one_key, Within}
 use Rattle.keyspace.specs.Calls.{Lifted, IsPlace, IsVacant, Lifts, AreParts}
 use Rattle.held.proofs.Uses as held
 
@@ -54,6 +55,10 @@ module _ (bases : Bases) (m after : Blocks) (value : Value) (sound : Sound bases
   Made-means = held.Made-means value_refs value_of value_own bases m after value sound p
 
   module _ (new : Bases) (later : Blocks) where
+    -- from the clause `within` of `put`
+    pub Put-within : (scope : Scope) → Within scope bases new after later → Within scope bases new m later
+    Put-within = held.Put-within value_refs value_of value_own bases m after value sound p new later
+
     -- from the clause `sound` of `put`
     pub Put-sound : ((all out : List BlockRef) → SoundBeside bases after all → AreParts all (value_refs value) out → SoundBeside new later out) → Sound new later
     Put-sound = held.Put-sound value_refs value_of value_own bases m after value sound p new later
@@ -79,6 +84,10 @@ module _ (old mid : Bases) (m after : Blocks) (db moment : ℕ) (key : List ℕ)
     -- from the clause `sound` of `lower`
     pub Lower-sound : ((all rest : List BlockRef) → SoundBeside mid after all → AreParts all (value_refs changed.value) rest → SoundBeside new after rest) → SoundBeside new after out
     Lower-sound = held.Lower-sound value_refs value_of value_own old mid m after db moment key lifted changed out vacant lifts sound p same_db same_item new
+
+    -- from the clauses `within` of `lift` and `lower`
+    pub Lower-within : Within (one_key db key) old mid m m → ((k : List ℕ) (deadline : Option ℕ) → IsPlace mid after changed.db changed.item k deadline → Within (one_key changed.db k) mid new after after) → Within (one_key db key) old new m after
+    Lower-within = held.Lower-within value_refs value_of value_own old mid m after db moment key lifted changed out vacant lifts sound p same_db same_item new
 
     -- from the clause `means` of `lower`: the value stands at the key, with the deadline that was there
     pub Lower-means : ((k : List ℕ) (deadline : Option ℕ) → IsPlace mid after changed.db changed.item k deadline → means changed.db new after ≡ put (means changed.db mid after) k (record { value = value_of after changed.value; deadline = deadline }))

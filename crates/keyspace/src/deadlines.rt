@@ -4,6 +4,7 @@ ghost use Rattle.std.specs.Prelude.{◌≡◌, ◌<◌, Some, true, IfOk, OnOk, 
 ghost use Rattle.held.specs.Calls.{IsDeadline};
 ghost use Rattle.plain_world.specs.Worlds.{Entry, look, put, in_time, deadline_of};
 ghost use Rattle.plain_model.specs.Deadlines as model;
+ghost use Rattle.keyspace.specs.Scopes.{no_key};
 ghost use Rattle.keyspace.specs.Commands.{Ready, Held, sight};
 
 use crate::Keyspace;
@@ -38,7 +39,7 @@ fn retime<B: BlockStore>(
     requires latest { IsDeadline to }
     requires late { in_time at.now.moment to ≡ true }
     ensures world { OnOk result ((entry : Entry) → look (sight B.blocks keyspace.old at.now) key.now ≡ Some entry → sight B.blocks keyspace.new at.now ≡ put (sight B.blocks keyspace.old at.now) key.now (record { value = entry.value; deadline = to })) }
-    ensures held { Held B.blocks B.step keyspace.old keyspace.new }
+    ensures held { Held B.blocks B.step (no_key at.now.db) keyspace.old keyspace.new }
 {
     match keyspace.set_deadline(at.db, key, to) {
         Ok(_) => Ok(()),
@@ -56,7 +57,7 @@ pub fn expire<B: BlockStore>(
 ) -> Result<(), Memory>
     requires ready { Ready B.blocks keyspace.old at.now }
     ensures world { OnOk result (sight B.blocks keyspace.new at.now ≡ model.expire (sight B.blocks keyspace.old at.now) at.now.moment key.now due (look (sight B.blocks keyspace.old at.now) key.now)) }
-    ensures held { Held B.blocks B.step keyspace.old keyspace.new }
+    ensures held { Held B.blocks B.step (no_key at.now.db) keyspace.old keyspace.new }
 {
     let Some(_) = keyspace.look(at.db, key, at.moment) else {
         return Ok(());
@@ -77,7 +78,7 @@ pub fn persist<B: BlockStore>(
     requires ready { Ready B.blocks keyspace.old at.now }
     ensures answer { IfOk result (λ had. had ≡ is_some (deadline_of (look (sight B.blocks keyspace.old at.now) key.now))) }
     ensures world { OnOk result (sight B.blocks keyspace.new at.now ≡ model.persist (sight B.blocks keyspace.old at.now) key.now (look (sight B.blocks keyspace.old at.now) key.now)) }
-    ensures held { Held B.blocks B.step keyspace.old keyspace.new }
+    ensures held { Held B.blocks B.step (no_key at.now.db) keyspace.old keyspace.new }
 {
     match deadline_at(keyspace, at, key) {
         None => Ok(false),

@@ -1,4 +1,4 @@
-use Rattle.std.proofs.Common.{None, Some, sym, ◌∙◌, rules, arith}
+use Rattle.std.proofs.Common.{None, Some, sym, ◌∙◌, arith}
 use Rattle.keyspace.specs.Databases.{means}
 use Rattle.std.proofs.lemmas.Bool.{cond-true, cond-false, le-leb}
 use Rattle.keyspace.proofs.Seen.{seen_deadline, not_le}

@@ -3,6 +3,7 @@ use Rattle.plain_world.specs.Worlds.{live}
 use Rattle.blocks.specs.Blocks.{Served, no_step}
 use Rattle.keyspace.specs.Databases.{means}
 use Rattle.keyspace.specs.Sound.{Sound}
+use Rattle.keyspace.specs.Scopes.{no_key, Within}
 use Rattle.keyspace.proofs.Seen.{timed}
 use Rattle.keyspace.proofs.deadlines.retime.Goals as goal
 
@@ -16,6 +17,7 @@ returns-in-Ok-clause-held g c = record {
   sound = subst (λ s. Sound c.set_deadline.new.self.bases (g.B.BlockStore.blocks s)) (sym c.set_deadline.ensures.store) (c.set_deadline.ensures.sound [] c.requires.ready.sound);
   served = subst (Served g.B.BlockStore.step c.args.keyspace.now.store) (sym c.set_deadline.ensures.store) no_step;
   settings = c.set_deadline.ensures.settings;
+  within = subst (λ s. Within (no_key c.args.at.now.db) c.args.keyspace.now.bases c.set_deadline.new.self.bases (g.B.BlockStore.blocks c.args.keyspace.now.store) (g.B.BlockStore.blocks s)) (sym c.set_deadline.ensures.store) c.set_deadline.ensures.within;
 }
 
 pub returns-in-Err-clause-held : goal.returns-in-Err-clause-held
@@ -23,4 +25,5 @@ returns-in-Err-clause-held g c = record {
   sound = subst (λ s. Sound c.set_deadline.new.self.bases (g.B.BlockStore.blocks s)) (sym c.set_deadline.ensures.store) (c.set_deadline.ensures.sound [] c.requires.ready.sound);
   served = subst (Served g.B.BlockStore.step c.args.keyspace.now.store) (sym c.set_deadline.ensures.store) no_step;
   settings = c.set_deadline.ensures.settings;
+  within = subst (λ s. Within (no_key c.args.at.now.db) c.args.keyspace.now.bases c.set_deadline.new.self.bases (g.B.BlockStore.blocks c.args.keyspace.now.store) (g.B.BlockStore.blocks s)) (sym c.set_deadline.ensures.store) c.set_deadline.ensures.within;
 }

@@ -1,8 +1,6 @@
 use Rattle.std.proofs.Common.{subst, sym}
-use Rattle.std.specs.List.{Contains}
 use Rattle.blocks.specs.Blocks.{Owned}
-use Rattle.plain_model.specs.KeySteps.{encodings}
-use Rattle.keyspace.specs.Values.{value_of, value_refs, IsEncodedAs}
+use Rattle.keyspace.specs.Values.{value_refs, IsEncodedAs}
 use Rattle.keyspace.proofs.Uses.{encoding_known}
 use Rattle.keyspace.proofs.value.Value.encoding.Goals as goal
 
