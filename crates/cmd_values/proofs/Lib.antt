@@ -1,3 +1,4 @@
 pub mod Ranges
 pub mod StringLemmas
 pub mod Lowering
+pub mod Pairs

@@ -23,6 +23,7 @@ use Rattle.plain_model.specs.Outcomes.{leaves}
 use Rattle.plain_model.specs.declared.command.StringCommand.TheVariants as strings
 use Rattle.keyspace.specs.Sound.{Sound}
 use Rattle.keyspace.specs.Databases.{Keyspace}
+use Rattle.keyspace.specs.Scopes.{string_scope, scope_of}
 use Rattle.keyspace.specs.Commands.{seen, sight, Ready, Kept, Runs}
 use Rattle.std.specs.Prelude.{ℤ, pos, max, nat_le, ◌==◌, true, false, if◌then◌else◌, FitsSigned}
 use Rattle.std.specs.Int.{w64}
@@ -33,12 +34,14 @@ use Rattle.plain_model.specs.Meant.{IsAsked}
 use Rattle.std.specs.Prelude.{is_some}
 use Rattle.int_text.proofs.NumberOf.{reads_number_of, fits_to, no_fit}
 use Rattle.plain_model.specs.Outcomes.{Outcome, tells, refused}
-use Rattle.plain_model.specs.StringSteps.{or_empty, append, set_range, change, written_over, plain, counted as count_to, count, count_on, number_at, set, set_outcome, allows, ok}
+use Rattle.plain_model.specs.StringSteps.{or_empty, append, set_range, change, written_over, plain, counted as count_to, count, count_on, number_at, set, set_outcome, set_for, allows, ok}
 use Rattle.plain_world.specs.Words.{longest}
 use Rattle.plain_world.specs.declared.refusal.Refusal.TheVariants.{ValueOutOfRange, Overflow, NotAnInteger, InvalidExpireTime}
 use Rattle.int_text.specs.Decimal.{is_i64}
 use Rattle.plain_model.specs.declared.times.Time.{Time}
-use Rattle.plain_model.specs.Deadlines.{due, with_due}
+use Rattle.plain_model.specs.Deadlines.{due, with_due, from_zero, lasts_until}
+use Rattle.plain_model.specs.declared.times.TimeUnit.{TimeUnit}
+use Rattle.plain_model.specs.declared.times.TimeOrigin.TheVariants.{Now}
 use Rattle.cmd_values.proofs.Ranges.{written_length}
 use Rattle.plain_world.proofs.Lives.{live_put_in_time, live_remove}
 use Rattle.keyspace.proofs.Uses.{Put-means, Look-put, Put-twice}
@@ -80,6 +83,15 @@ pub due_fits : (old : World) (moment : ℕ) (time : Time) (n : ℤ) (answer : �
 due_fits old moment time n answer is fits =
     ap (λ d. if is_i64 d then answer d else refused InvalidExpireTime old) (sym is)
     ∙ ap (λ b. if b then answer n else refused InvalidExpireTime old) (fits_to n fits)
+
+-- a string is written that lasts until then
+pub set_lasting : {E : Type 0} (old new : World) (moment : ℕ) (key value : List ℕ) (unit : TimeUnit) (n : ℤ) (d : ℤ) (deadline : ℕ) (line : Part) (result : Result (List Part) E) → d ≡ due moment (record { unit = unit; from = Now; n = n }) → FitsSigned w64 d → deadline ≡ from_zero d
+    → new ≡ stand old moment key (record { value = Str value; deadline = Some deadline }) → line ≡ ok → IfOk result (λ reply. reply ≡ line ∷ []) → IfOk result (λ reply. set_for old moment key unit n value ≡ leaves reply new)
+set_lasting old new moment key value unit n d deadline line (Ok reply) is fits from world same told =
+    due_fits old moment (record { unit = unit; from = Now; n = n }) d (λ due. leaves (ok ∷ []) (stand old moment key (lasts_until (Str value) (from_zero due)))) is fits
+    ∙ ap (λ t. leaves (ok ∷ []) (stand old moment key (lasts_until (Str value) t))) (sym from)
+    ∙ ap (leaves (ok ∷ [])) (sym world) ∙ ap (λ r. leaves r new) (sym (told ∙ ap (λ x. x ∷ []) same))
+set_lasting old new moment key value unit n d deadline line (Err x) is fits from world same told = tt
 
 pub due_refused : (old : World) (moment : ℕ) (time : Time) (answer : ℤ → Outcome) → ¬ (FitsSigned w64 (due moment time)) → with_due old moment time answer ≡ refused InvalidExpireTime old
 due_refused old moment time answer large = ap (λ b. if b then answer (due moment time) else refused InvalidExpireTime old) (no_fit (due moment time) large)
@@ -180,7 +192,7 @@ range_none moment old mid new key piece at n result none put_first some long bec
 
 -- ---- numbers
 
-on_ok : {A E P : Type 0} (result : Result A E) → P → OnOk result P
+pub on_ok : {A E P : Type 0} (result : Result A E) → P → OnOk result P
 on_ok (Ok a) h = h
 on_ok (Err e) h = tt
 
@@ -242,15 +254,15 @@ overflowed old key n next (Err x) at large is = tt
 
 -- a command on strings ran
 pub ran_strings : {S E : Type 0} (blocks : S → Blocks) (step : S → S → Type 0) (old new : Keyspace S) (at : Ctx) (command : Command) (own same : StringCommand) (result : Result (List Part) E)
-    → command ≡ Strings own → own ≡ same → Gives blocks old new at same result → Kept blocks step old new result → Runs blocks step old new at command result
+    → command ≡ Strings own → own ≡ same → Gives blocks old new at same result → Kept blocks step (string_scope at.db same) old new result → Runs blocks step old new at command result
 ran_strings blocks step old new at command own same result e f given kept =
-    record { answers = step_of old.bases.seed at.moment (sight blocks old at) (sight blocks new at) command own same result e f given; kept = kept }
+    record { answers = step_of old.bases.seed at.moment (sight blocks old at) (sight blocks new at) command own same result e f given; kept = subst (λ x. Kept blocks step (scope_of at.db x) old new result) (sym e) (subst (λ x. Kept blocks step (string_scope at.db x) old new result) (sym f) kept) }
 
 -- a command on strings only looked
 pub looked_strings : {S E : Type 0} (blocks : S → Blocks) (step : S → S → Type 0) (keyspace : Keyspace S) (at : Ctx) (command : Command) (own same : StringCommand) (result : Result (List Part) E)
     → command ≡ Strings own → own ≡ same → Gives blocks keyspace keyspace at same result → Ready blocks keyspace at → Runs blocks step keyspace keyspace at command result
 looked_strings blocks step keyspace at command own same result e f given ready =
-    ran_strings blocks step keyspace keyspace at command own same result e f given (unchanged blocks step keyspace result ready.sound)
+    ran_strings blocks step keyspace keyspace at command own same result e f given (unchanged blocks step (string_scope at.db same) keyspace result ready.sound)
 
 -- what was put stands there
 pub put_there : (old mid : World) (key bytes : List ℕ) → mid ≡ replace old key bytes → is_some (look mid key) ≡ true

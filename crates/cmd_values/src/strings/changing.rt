@@ -5,6 +5,7 @@ ghost use Rattle.plain_world.specs.Words.{longest};
 ghost use Rattle.plain_world.specs.Worlds.{look};
 ghost use Rattle.plain_model.specs.StringSteps.{written_over};
 ghost use Rattle.plain_model.specs.declared.command.StringCommand.TheVariants as strings;
+ghost use Rattle.keyspace.specs.Scopes.{one_key};
 ghost use Rattle.keyspace.specs.Commands.{Ready, Held, Kept, sight};
 ghost use Rattle.cmd_values.specs.Found.{Gives, IsThere, Becomes};
 
@@ -25,7 +26,7 @@ fn append_there<B: BlockStore>(
     requires there { is_some (look (sight B.blocks keyspace.old at.now) key.now) ≡ true }
     requires room { (bytes : List ℕ) → IsThere (sight B.blocks keyspace.old at.now) key.now bytes → length bytes + length tail.now ≤ longest }
     ensures becomes { OnOk result (Becomes (sight B.blocks keyspace.old at.now) key.now (λ bytes. bytes ++ tail.now) (sight B.blocks keyspace.new at.now)) }
-    ensures held { Held B.blocks B.step keyspace.old keyspace.new }
+    ensures held { Held B.blocks B.step (one_key at.now.db key.now) keyspace.old keyspace.new }
 {
     let Some(lifted) = keyspace.lift(at.db, key, at.moment) else {
         unreachable!();
@@ -54,7 +55,7 @@ fn write_there<B: BlockStore>(
     requires some { 0 < length piece.now }
     requires room { place + length piece.now ≤ longest }
     ensures becomes { OnOk result (Becomes (sight B.blocks keyspace.old at.now) key.now (λ bytes. written_over bytes place piece.now) (sight B.blocks keyspace.new at.now)) }
-    ensures held { Held B.blocks B.step keyspace.old keyspace.new }
+    ensures held { Held B.blocks B.step (one_key at.now.db key.now) keyspace.old keyspace.new }
 {
     let Some(lifted) = keyspace.lift(at.db, key, at.moment) else {
         unreachable!();
@@ -71,7 +72,6 @@ fn write_there<B: BlockStore>(
 }
 
 /// `APPEND key tail`: the new length in bytes, which is at most 536,870,912.
-#[tactic(auto, using(keyspace::proofs::Serving::nothing))]
 pub fn append<B: BlockStore>(
     keyspace: &mut Keyspace<B>,
     at: &Ctx,
@@ -80,7 +80,7 @@ pub fn append<B: BlockStore>(
 ) -> Result<Reply, Memory>
     requires ready { Ready B.blocks keyspace.old at.now }
     ensures gives { Gives B.blocks keyspace.old keyspace.new at.now (strings.Append key.now tail.now) result }
-    ensures kept { Kept B.blocks B.step keyspace.old keyspace.new result }
+    ensures kept { Kept B.blocks B.step (one_key at.now.db key.now) keyspace.old keyspace.new result }
 {
     let alloc = keyspace.alloc();
     match length_at(keyspace, at, key) {
@@ -103,7 +103,6 @@ pub fn append<B: BlockStore>(
 }
 
 /// `SETRANGE key at piece`: the new length in bytes; the piece ends at byte 536,870,912 at most.
-#[tactic(auto, using(keyspace::proofs::Serving::nothing, keyspace::proofs::Serving::both))]
 pub fn setrange<B: BlockStore>(
     keyspace: &mut Keyspace<B>,
     at: &Ctx,
@@ -114,7 +113,7 @@ pub fn setrange<B: BlockStore>(
     requires ready { Ready B.blocks keyspace.old at.now }
     requires room { 0 < length piece.now → place + length piece.now ≤ longest }
     ensures gives { Gives B.blocks keyspace.old keyspace.new at.now (strings.SetRange key.now place piece.now) result }
-    ensures kept { Kept B.blocks B.step keyspace.old keyspace.new result }
+    ensures kept { Kept B.blocks B.step (one_key at.now.db key.now) keyspace.old keyspace.new result }
 {
     let alloc = keyspace.alloc();
     match length_at(keyspace, at, key) {

@@ -6,6 +6,7 @@ ghost use Rattle.int_text.specs.Decimal.{canonical};
 ghost use Rattle.plain_model.specs.StringSteps.{change};
 ghost use Rattle.plain_world.specs.declared.reply.Part.TheVariants as parts;
 ghost use Rattle.plain_model.specs.declared.command.StringCommand.TheVariants as strings;
+ghost use Rattle.keyspace.specs.Scopes.{one_key};
 ghost use Rattle.keyspace.specs.Commands.{Ready, Held, Kept, sight};
 ghost use Rattle.cmd_values.specs.Found.{Gives, NumberAt};
 
@@ -39,7 +40,7 @@ fn put_number<B: BlockStore>(
     requires ready { Ready B.blocks keyspace.old at.now }
     requires none { look (sight B.blocks keyspace.old at.now) key.now ≡ None }
     ensures world { OnOk result (sight B.blocks keyspace.new at.now ≡ change (sight B.blocks keyspace.old at.now) key.now (canonical n)) }
-    ensures held { Held B.blocks B.step keyspace.old keyspace.new }
+    ensures held { Held B.blocks B.step (one_key at.now.db key.now) keyspace.old keyspace.new }
 {
     keyspace.put(at.db, key, Value::Text(Text::Number(n)), None)
 }
@@ -54,7 +55,7 @@ fn write_number<B: BlockStore>(
     requires ready { Ready B.blocks keyspace.old at.now }
     ensures reply { IfOk result (λ reply. reply ≡ parts.Number n ∷ []) }
     ensures world { OnOk result (sight B.blocks keyspace.new at.now ≡ change (sight B.blocks keyspace.old at.now) key.now (canonical n)) }
-    ensures held { Held B.blocks B.step keyspace.old keyspace.new }
+    ensures held { Held B.blocks B.step (one_key at.now.db key.now) keyspace.old keyspace.new }
 {
     let alloc = keyspace.alloc();
     match keyspace.lift(at.db, key, at.moment) {
@@ -74,7 +75,7 @@ fn write_number<B: BlockStore>(
 }
 
 /// `INCRBY key n`: the number that is n more.
-#[tactic(auto, using(keyspace::proofs::Serving::nothing, crate::proofs::StringLemmas::counted_on, crate::proofs::StringLemmas::not_counted))]
+#[tactic(auto, using(crate::proofs::StringLemmas::counted_on, crate::proofs::StringLemmas::not_counted))]
 pub fn incrby<B: BlockStore>(
     keyspace: &mut Keyspace<B>,
     at: &Ctx,
@@ -83,7 +84,7 @@ pub fn incrby<B: BlockStore>(
 ) -> Result<Reply, Memory>
     requires ready { Ready B.blocks keyspace.old at.now }
     ensures gives { Gives B.blocks keyspace.old keyspace.new at.now (strings.IncrBy key.now by) result }
-    ensures kept { Kept B.blocks B.step keyspace.old keyspace.new result }
+    ensures kept { Kept B.blocks B.step (one_key at.now.db key.now) keyspace.old keyspace.new result }
 {
     match number_at(keyspace, at, key) {
         None => Reply::refused(keyspace.alloc(), Refusal::NotAnInteger),
@@ -95,7 +96,7 @@ pub fn incrby<B: BlockStore>(
 }
 
 /// `DECRBY key n`: the number that is n less.
-#[tactic(auto, using(keyspace::proofs::Serving::nothing, crate::proofs::StringLemmas::counted_on, crate::proofs::StringLemmas::not_counted))]
+#[tactic(auto, using(crate::proofs::StringLemmas::counted_on, crate::proofs::StringLemmas::not_counted))]
 pub fn decrby<B: BlockStore>(
     keyspace: &mut Keyspace<B>,
     at: &Ctx,
@@ -104,7 +105,7 @@ pub fn decrby<B: BlockStore>(
 ) -> Result<Reply, Memory>
     requires ready { Ready B.blocks keyspace.old at.now }
     ensures gives { Gives B.blocks keyspace.old keyspace.new at.now (strings.DecrBy key.now by) result }
-    ensures kept { Kept B.blocks B.step keyspace.old keyspace.new result }
+    ensures kept { Kept B.blocks B.step (one_key at.now.db key.now) keyspace.old keyspace.new result }
 {
     match number_at(keyspace, at, key) {
         None => Reply::refused(keyspace.alloc(), Refusal::NotAnInteger),
@@ -123,7 +124,7 @@ pub fn incr<B: BlockStore>(
 ) -> Result<Reply, Memory>
     requires ready { Ready B.blocks keyspace.old at.now }
     ensures gives { Gives B.blocks keyspace.old keyspace.new at.now (strings.Incr key.now) result }
-    ensures kept { Kept B.blocks B.step keyspace.old keyspace.new result }
+    ensures kept { Kept B.blocks B.step (one_key at.now.db key.now) keyspace.old keyspace.new result }
 {
     incrby(keyspace, at, key, 1)
 }
@@ -136,7 +137,7 @@ pub fn decr<B: BlockStore>(
 ) -> Result<Reply, Memory>
     requires ready { Ready B.blocks keyspace.old at.now }
     ensures gives { Gives B.blocks keyspace.old keyspace.new at.now (strings.Decr key.now) result }
-    ensures kept { Kept B.blocks B.step keyspace.old keyspace.new result }
+    ensures kept { Kept B.blocks B.step (one_key at.now.db key.now) keyspace.old keyspace.new result }
 {
     decrby(keyspace, at, key, 1)
 }

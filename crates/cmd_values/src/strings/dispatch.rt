@@ -15,7 +15,6 @@ use keyspace::Keyspace;
 use plain_model::{Ctx, Memory, Reply, StringCommand};
 
 /// Runs a command on strings by its own function.
-#[tactic(auto, using(keyspace::proofs::Serving::nothing, keyspace::proofs::Running::same_settings))]
 pub fn run_strings<B: BlockStore>(
     keyspace: &mut Keyspace<B>,
     at: &Ctx,

@@ -7,6 +7,7 @@ ghost use Rattle.plain_model.specs.Outcomes.{leaves};
 ghost use Rattle.plain_model.specs.declared.times.TimeUnit.TheVariants.{Seconds, Milliseconds};
 ghost use Rattle.plain_model.specs.declared.times.Renewal.TheVariants as renewals;
 ghost use Rattle.plain_model.specs.declared.command.StringCommand.TheVariants as strings;
+ghost use Rattle.keyspace.specs.Scopes.{one_key, no_key};
 ghost use Rattle.keyspace.specs.Commands.{Ready, Kept, sight};
 ghost use Rattle.cmd_values.specs.Found.{Gives};
 
@@ -28,7 +29,6 @@ pub fn from_zero(due: i64) -> u64
 }
 
 // A string is written that lasts for so many units from now.
-#[tactic(auto, using(keyspace::proofs::Serving::nothing))]
 fn set_for_units<B: BlockStore>(
     keyspace: &mut Keyspace<B>,
     at: &Ctx,
@@ -39,7 +39,7 @@ fn set_for_units<B: BlockStore>(
 ) -> Result<Reply, Memory>
     requires ready { Ready B.blocks keyspace.old at.now }
     ensures gives { IfOk result (λ reply. set_for (sight B.blocks keyspace.old at.now) at.now.moment key.now unit n value.now ≡ leaves reply (sight B.blocks keyspace.new at.now)) }
-    ensures kept { Kept B.blocks B.step keyspace.old keyspace.new result }
+    ensures kept { Kept B.blocks B.step (one_key at.now.db key.now) keyspace.old keyspace.new result }
 {
     let alloc = keyspace.alloc();
     let time = Time {
@@ -66,7 +66,7 @@ pub fn setex<B: BlockStore>(
 ) -> Result<Reply, Memory>
     requires ready { Ready B.blocks keyspace.old at.now }
     ensures gives { Gives B.blocks keyspace.old keyspace.new at.now (strings.SetEx key.now seconds value.now) result }
-    ensures kept { Kept B.blocks B.step keyspace.old keyspace.new result }
+    ensures kept { Kept B.blocks B.step (one_key at.now.db key.now) keyspace.old keyspace.new result }
 {
     set_for_units(keyspace, at, key, TimeUnit::Seconds, seconds, value)
 }
@@ -81,7 +81,7 @@ pub fn psetex<B: BlockStore>(
 ) -> Result<Reply, Memory>
     requires ready { Ready B.blocks keyspace.old at.now }
     ensures gives { Gives B.blocks keyspace.old keyspace.new at.now (strings.PSetEx key.now milliseconds value.now) result }
-    ensures kept { Kept B.blocks B.step keyspace.old keyspace.new result }
+    ensures kept { Kept B.blocks B.step (one_key at.now.db key.now) keyspace.old keyspace.new result }
 {
     set_for_units(
         keyspace,
@@ -94,7 +94,6 @@ pub fn psetex<B: BlockStore>(
 }
 
 // The value is answered, and its deadline is set.
-#[tactic(auto, using(keyspace::proofs::Serving::nothing))]
 fn get_until<B: BlockStore>(
     keyspace: &mut Keyspace<B>,
     at: &Ctx,
@@ -103,7 +102,7 @@ fn get_until<B: BlockStore>(
 ) -> Result<Reply, Memory>
     requires ready { Ready B.blocks keyspace.old at.now }
     ensures gives { IfOk result (λ reply. getex_outcome (sight B.blocks keyspace.old at.now) at.now.moment key.now (renewals.Until time) ≡ leaves reply (sight B.blocks keyspace.new at.now)) }
-    ensures kept { Kept B.blocks B.step keyspace.old keyspace.new result }
+    ensures kept { Kept B.blocks B.step (no_key at.now.db) keyspace.old keyspace.new result }
 {
     match time.due(at.moment) {
         None => Reply::refused(keyspace.alloc(), Refusal::InvalidExpireTime),
@@ -116,7 +115,6 @@ fn get_until<B: BlockStore>(
 }
 
 // The value is answered, and has no deadline any more.
-#[tactic(auto, using(keyspace::proofs::Serving::nothing))]
 fn get_persisting<B: BlockStore>(
     keyspace: &mut Keyspace<B>,
     at: &Ctx,
@@ -124,7 +122,7 @@ fn get_persisting<B: BlockStore>(
 ) -> Result<Reply, Memory>
     requires ready { Ready B.blocks keyspace.old at.now }
     ensures gives { IfOk result (λ reply. getex_outcome (sight B.blocks keyspace.old at.now) at.now.moment key.now renewals.Persist ≡ leaves reply (sight B.blocks keyspace.new at.now)) }
-    ensures kept { Kept B.blocks B.step keyspace.old keyspace.new result }
+    ensures kept { Kept B.blocks B.step (no_key at.now.db) keyspace.old keyspace.new result }
 {
     let reply = old_value(keyspace, at, key)?;
     let _had = persist(keyspace, at, key)?;
@@ -132,7 +130,6 @@ fn get_persisting<B: BlockStore>(
 }
 
 /// `GETEX key [EX s, PX ms, EXAT s, PXAT ms or PERSIST]`: the value, or null; its deadline is set, goes, or stays.
-#[tactic(auto, using(keyspace::proofs::Serving::nothing))]
 pub fn getex<B: BlockStore>(
     keyspace: &mut Keyspace<B>,
     at: &Ctx,
@@ -141,7 +138,7 @@ pub fn getex<B: BlockStore>(
 ) -> Result<Reply, Memory>
     requires ready { Ready B.blocks keyspace.old at.now }
     ensures gives { Gives B.blocks keyspace.old keyspace.new at.now (strings.GetEx key.now renewal) result }
-    ensures kept { Kept B.blocks B.step keyspace.old keyspace.new result }
+    ensures kept { Kept B.blocks B.step (no_key at.now.db) keyspace.old keyspace.new result }
 {
     match renewal {
         Renewal::Unchanged => old_value(keyspace, at, key),

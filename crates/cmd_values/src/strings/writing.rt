@@ -7,6 +7,7 @@ ghost use Rattle.plain_model.specs.Outcomes.{leaves};
 ghost use Rattle.plain_model.specs.StringSteps.{replace, replace_all, any_there, allows, set_outcome};
 ghost use Rattle.plain_model.specs.declared.command.Condition.{Condition};
 ghost use Rattle.plain_model.specs.declared.command.StringCommand.TheVariants as strings;
+ghost use Rattle.keyspace.specs.Scopes.{one_key, no_key, some_keys, first_words};
 ghost use Rattle.keyspace.specs.Commands.{Ready, Held, Kept, sight};
 ghost use Rattle.cmd_values.specs.Found.{Gives, IsSetReply, IsLifetime};
 
@@ -29,7 +30,7 @@ pub fn put_lasting<B: BlockStore>(
     requires ready { Ready B.blocks keyspace.old at.now }
     requires latest { IsDeadline deadline }
     ensures world { OnOk result (sight B.blocks keyspace.new at.now ≡ stand (sight B.blocks keyspace.old at.now) at.now.moment key.now (record { value = Str value.now; deadline = deadline })) }
-    ensures held { Held B.blocks B.step keyspace.old keyspace.new }
+    ensures held { Held B.blocks B.step (one_key at.now.db key.now) keyspace.old keyspace.new }
 {
     let text = Text::make(&mut keyspace.store, value)?;
     keyspace.put(at.db, key, Value::Text(text), deadline)
@@ -44,7 +45,7 @@ pub fn put_string<B: BlockStore>(
 ) -> Result<(), Memory>
     requires ready { Ready B.blocks keyspace.old at.now }
     ensures world { OnOk result (sight B.blocks keyspace.new at.now ≡ replace (sight B.blocks keyspace.old at.now) key.now value.now) }
-    ensures held { Held B.blocks B.step keyspace.old keyspace.new }
+    ensures held { Held B.blocks B.step (one_key at.now.db key.now) keyspace.old keyspace.new }
 {
     put_lasting(keyspace, at, key, value, None)
 }
@@ -111,7 +112,6 @@ fn lifetime_at<B: BlockStore>(
 }
 
 // SET with the deadline that it gives.
-#[tactic(auto, using(keyspace::proofs::Serving::nothing))]
 fn set_lasting<B: BlockStore>(
     keyspace: &mut Keyspace<B>,
     at: &Ctx,
@@ -123,7 +123,7 @@ fn set_lasting<B: BlockStore>(
     requires ready { Ready B.blocks keyspace.old at.now }
     requires latest { IsDeadline deadline }
     ensures gives { IfOk result (λ reply. set_outcome (sight B.blocks keyspace.old at.now) at.now.moment key.now (record { value = Str value.now; deadline = deadline }) options.condition options.get ≡ leaves reply (sight B.blocks keyspace.new at.now)) }
-    ensures kept { Kept B.blocks B.step keyspace.old keyspace.new result }
+    ensures kept { Kept B.blocks B.step (one_key at.now.db key.now) keyspace.old keyspace.new result }
 {
     let written = writes(keyspace, at, key, options.condition);
     let reply = set_reply(keyspace, at, key, options.get, written)?;
@@ -135,7 +135,6 @@ fn set_lasting<B: BlockStore>(
 
 /// `SET key value [NX or XX] [GET] [EX s, PX ms, EXAT s, PXAT ms or KEEPTTL]`: OK, or null where nothing is written; with
 /// GET the old value or null.
-#[tactic(auto, using(keyspace::proofs::Serving::nothing))]
 pub fn set<B: BlockStore>(
     keyspace: &mut Keyspace<B>,
     at: &Ctx,
@@ -145,7 +144,7 @@ pub fn set<B: BlockStore>(
 ) -> Result<Reply, Memory>
     requires ready { Ready B.blocks keyspace.old at.now }
     ensures gives { Gives B.blocks keyspace.old keyspace.new at.now (strings.Set key.now value.now options) result }
-    ensures kept { Kept B.blocks B.step keyspace.old keyspace.new result }
+    ensures kept { Kept B.blocks B.step (one_key at.now.db key.now) keyspace.old keyspace.new result }
 {
     match lifetime_at(keyspace, at, key, options.lifetime) {
         None => Reply::refused(keyspace.alloc(), Refusal::InvalidExpireTime),
@@ -154,7 +153,6 @@ pub fn set<B: BlockStore>(
 }
 
 /// `SETNX key value`: 1, or 0 where something stands at the key already, whatever its type.
-#[tactic(auto, using(keyspace::proofs::Serving::nothing))]
 pub fn setnx<B: BlockStore>(
     keyspace: &mut Keyspace<B>,
     at: &Ctx,
@@ -163,7 +161,7 @@ pub fn setnx<B: BlockStore>(
 ) -> Result<Reply, Memory>
     requires ready { Ready B.blocks keyspace.old at.now }
     ensures gives { Gives B.blocks keyspace.old keyspace.new at.now (strings.SetNx key.now value.now) result }
-    ensures kept { Kept B.blocks B.step keyspace.old keyspace.new result }
+    ensures kept { Kept B.blocks B.step (one_key at.now.db key.now) keyspace.old keyspace.new result }
 {
     if is_there(keyspace, at, key) {
         return Reply::number(keyspace.alloc(), 0);
@@ -173,7 +171,6 @@ pub fn setnx<B: BlockStore>(
 }
 
 /// `GETSET key value`: the old value, or null.
-#[tactic(auto, using(keyspace::proofs::Serving::nothing))]
 pub fn getset<B: BlockStore>(
     keyspace: &mut Keyspace<B>,
     at: &Ctx,
@@ -182,7 +179,7 @@ pub fn getset<B: BlockStore>(
 ) -> Result<Reply, Memory>
     requires ready { Ready B.blocks keyspace.old at.now }
     ensures gives { Gives B.blocks keyspace.old keyspace.new at.now (strings.GetSet key.now value.now) result }
-    ensures kept { Kept B.blocks B.step keyspace.old keyspace.new result }
+    ensures kept { Kept B.blocks B.step (one_key at.now.db key.now) keyspace.old keyspace.new result }
 {
     let reply = old_value(keyspace, at, key)?;
     put_string(keyspace, at, key, value)?;
@@ -190,7 +187,6 @@ pub fn getset<B: BlockStore>(
 }
 
 /// `GETDEL key`: the value, or null; the key is removed.
-#[tactic(auto, using(keyspace::proofs::Serving::nothing))]
 pub fn getdel<B: BlockStore>(
     keyspace: &mut Keyspace<B>,
     at: &Ctx,
@@ -198,7 +194,7 @@ pub fn getdel<B: BlockStore>(
 ) -> Result<Reply, Memory>
     requires ready { Ready B.blocks keyspace.old at.now }
     ensures gives { Gives B.blocks keyspace.old keyspace.new at.now (strings.GetDel key.now) result }
-    ensures kept { Kept B.blocks B.step keyspace.old keyspace.new result }
+    ensures kept { Kept B.blocks B.step (no_key at.now.db) keyspace.old keyspace.new result }
 {
     let reply = old_value(keyspace, at, key)?;
     let _ = keyspace.drop_key(at.db, key);
@@ -221,7 +217,6 @@ fn is_any_there<B: BlockStore>(keyspace: &Keyspace<B>, at: &Ctx, pairs: &[(Bytes
 }
 
 // Lets each string stand at its key, in turn.
-#[tactic(auto, using(keyspace::proofs::Serving::nothing, keyspace::proofs::Serving::both))]
 fn put_pairs<B: BlockStore>(
     keyspace: &mut Keyspace<B>,
     at: &Ctx,
@@ -229,7 +224,7 @@ fn put_pairs<B: BlockStore>(
 ) -> Result<(), Memory>
     requires ready { Ready B.blocks keyspace.old at.now }
     ensures world { OnOk result (sight B.blocks keyspace.new at.now ≡ replace_all (sight B.blocks keyspace.old at.now) pairs.now) }
-    ensures held { Held B.blocks B.step keyspace.old keyspace.new }
+    ensures held { Held B.blocks B.step (some_keys at.now.db (first_words pairs.now)) keyspace.old keyspace.new }
 {
     let mut rest = pairs;
     'pairs: while let Some((pair, others)) = rest.split_first() {
@@ -247,14 +242,13 @@ pub fn mset<B: BlockStore>(
 ) -> Result<Reply, Memory>
     requires ready { Ready B.blocks keyspace.old at.now }
     ensures gives { Gives B.blocks keyspace.old keyspace.new at.now (strings.MSet pairs.now) result }
-    ensures kept { Kept B.blocks B.step keyspace.old keyspace.new result }
+    ensures kept { Kept B.blocks B.step (some_keys at.now.db (first_words pairs.now)) keyspace.old keyspace.new result }
 {
     put_pairs(keyspace, at, pairs)?;
     Reply::simple(keyspace.alloc(), Line::ok())
 }
 
 /// `MSETNX key value..`: 1, or 0 and nothing is written where something stands at one of the keys, whatever its type.
-#[tactic(auto, using(keyspace::proofs::Serving::nothing))]
 pub fn msetnx<B: BlockStore>(
     keyspace: &mut Keyspace<B>,
     at: &Ctx,
@@ -262,7 +256,7 @@ pub fn msetnx<B: BlockStore>(
 ) -> Result<Reply, Memory>
     requires ready { Ready B.blocks keyspace.old at.now }
     ensures gives { Gives B.blocks keyspace.old keyspace.new at.now (strings.MSetNx pairs.now) result }
-    ensures kept { Kept B.blocks B.step keyspace.old keyspace.new result }
+    ensures kept { Kept B.blocks B.step (some_keys at.now.db (first_words pairs.now)) keyspace.old keyspace.new result }
 {
     if is_any_there(keyspace, at, pairs) {
         return Reply::number(keyspace.alloc(), 0);

@@ -1,5 +1,5 @@
 use Rattle.std.proofs.Common.{rules, [], ◌++◌, ap}
-use Rattle.cmd_values.proofs.Lowering.{text_intact, text_sound, text_becomes}
+use Rattle.cmd_values.proofs.Lowering.{text_intact, text_sound, text_within, text_becomes}
 use Rattle.cmd_values.proofs.strings.changing.append_there.Goals as goal
 
 pub lower-requires-clause-intact : goal.lower-requires-clause-intact
@@ -14,6 +14,7 @@ returns-in-Ok-clause-held g c = record {
       c.in-Some.ensures.lifts (c.in-Some.ensures.sound [] c.requires.ready.sound) c.append-appended.ensures.changes _ _ (ap g.B.BlockStore.blocks c.lower.ensures.store) c.lower.ensures.sound;
   served = search rules;
   settings = search rules;
+  within = text_within c.args.at.now c.args.keyspace.now.bases c.lift.new.self.bases _ _ _ c.args.key.now c.in-Some.lifted c.into_text-text.result c.append-appended.new.self c.into_text-text.ensures (ap g.B.BlockStore.blocks c.in-Some.ensures.store) c.in-Some.ensures.lifts (c.in-Some.ensures.sound [] c.requires.ready.sound) c.append-appended.ensures.changes c.lower.new.self.bases _ (ap g.B.BlockStore.blocks c.lower.ensures.store) c.in-Some.ensures.within c.lower.ensures.within;
 }
 
 pub returns-in-Err-clause-held : goal.returns-in-Err-clause-held
@@ -23,6 +24,7 @@ returns-in-Err-clause-held g c = record {
       c.in-Some.ensures.lifts (c.in-Some.ensures.sound [] c.requires.ready.sound) c.append-appended.ensures.changes _ _ (ap g.B.BlockStore.blocks c.lower.ensures.store) c.lower.ensures.sound;
   served = search rules;
   settings = search rules;
+  within = text_within c.args.at.now c.args.keyspace.now.bases c.lift.new.self.bases _ _ _ c.args.key.now c.in-Some.lifted c.into_text-text.result c.append-appended.new.self c.into_text-text.ensures (ap g.B.BlockStore.blocks c.in-Some.ensures.store) c.in-Some.ensures.lifts (c.in-Some.ensures.sound [] c.requires.ready.sound) c.append-appended.ensures.changes c.lower.new.self.bases _ (ap g.B.BlockStore.blocks c.lower.ensures.store) c.in-Some.ensures.within c.lower.ensures.within;
 }
 
 pub returns-in-Ok-clause-becomes : goal.returns-in-Ok-clause-becomes

@@ -2,6 +2,8 @@ use Rattle.std.proofs.Common.{refl, rules, ap, ◌∙◌}
 use Rattle.std.specs.Prelude.{max, ◌+◌, length}
 use Rattle.keyspace.specs.Commands.{seen}
 use Rattle.cmd_values.proofs.StringLemmas.{put_there, range_none, range_some}
+use Rattle.keyspace.proofs.Running.{unchanged, calm, held_then}
+use Rattle.keyspace.specs.Scopes.{one_key}
 use Rattle.cmd_values.proofs.strings.changing.setrange.Goals as goal
 
 pub write_there-requires-clause-there : goal.write_there-requires-clause-there
@@ -19,3 +21,19 @@ returns-in_ok-write_there-in-Some-clause-gives g c =
     let there = c.in-Some.ensures in
     let e = ap (λ n. max n (c.args.place + length c.args.piece.now)) there.2 in
     range_some c.args.at.now.moment _ _ c.args.key.now c.args.piece.now there.0 c.args.place c.max.result c.length_reply-in-Some.result there.1 (search rules) (c.max.ensures ∙ e) c.in_ok-write_there-in-Some.ensures.becomes c.length_reply-in-Some.ensures
+
+pub returns-then-is_empty-clause-kept : goal.returns-then-is_empty-clause-kept
+returns-then-is_empty-clause-kept g c =
+    unchanged g.B.BlockStore.blocks g.B.BlockStore.step (one_key c.args.at.now.db c.args.key.now) c.args.keyspace.now _ c.requires.ready.sound
+
+pub returns-then-is_empty-2-clause-kept : goal.returns-then-is_empty-2-clause-kept
+returns-then-is_empty-2-clause-kept g c =
+    unchanged g.B.BlockStore.blocks g.B.BlockStore.step (one_key c.args.at.now.db c.args.key.now) c.args.keyspace.now _ c.requires.ready.sound
+
+pub returns-in_err-write_there-in-None-clause-kept : goal.returns-in_err-write_there-in-None-clause-kept
+returns-in_err-write_there-in-None-clause-kept g c =
+    calm g.B.BlockStore.blocks g.B.BlockStore.step (one_key c.args.at.now.db c.args.key.now) c.args.keyspace.now c.write_there.new.keyspace _ (search rules) (held_then g.B.BlockStore.blocks g.B.BlockStore.step (one_key c.args.at.now.db c.args.key.now) c.args.keyspace.now c.put_string.new.keyspace c.write_there.new.keyspace c.put_string.ensures.held c.write_there.ensures.held)
+
+pub returns-in_ok-write_there-in-None-clause-kept : goal.returns-in_ok-write_there-in-None-clause-kept
+returns-in_ok-write_there-in-None-clause-kept g c =
+    calm g.B.BlockStore.blocks g.B.BlockStore.step (one_key c.args.at.now.db c.args.key.now) c.args.keyspace.now c.write_there.new.keyspace _ (search rules) (held_then g.B.BlockStore.blocks g.B.BlockStore.step (one_key c.args.at.now.db c.args.key.now) c.args.keyspace.now c.put_string.new.keyspace c.write_there.new.keyspace c.put_string.ensures.held c.write_there.ensures.held)

@@ -3,6 +3,9 @@ use Rattle.std.specs.Int.{w64}
 use Rattle.std.proofs.lemmas.Int.{to_z-of_z}
 use Rattle.keyspace.specs.Commands.{seen}
 use Rattle.cmd_values.proofs.StringLemmas.{not_number, overflowed, counted}
+use Rattle.std.proofs.Common.{rules}
+use Rattle.keyspace.proofs.Running.{unchanged, calm}
+use Rattle.keyspace.specs.Scopes.{one_key}
 use Rattle.cmd_values.proofs.strings.counting.decrby.Goals as goal
 
 pub returns-in-None-clause-gives : goal.returns-in-None-clause-gives
@@ -22,3 +25,15 @@ returns-in-Some-checked_sub-clause-gives g c =
     let fits : FitsSigned w64 c.in-Some-checked_sub.next = record { sfits = next_typed.1.1.1.1.0.1 } in
     let next = rw (to_z-of_z w64 c.in-Some.n (record { sfits = typed.1.1.1.1.0.1 }), to_z-of_z w64 c.args.by c.ranges.by) at c.in-Some-checked_sub.ensures in
     counted (seen c.args.at.now c.args.keyspace.now.bases (g.B.BlockStore.blocks c.args.keyspace.now.store)) (seen c.args.at.now c.write_number.new.keyspace.bases (g.B.BlockStore.blocks c.write_number.new.keyspace.store)) c.args.key.now c.in-Some.n c.in-Some-checked_sub.next (λ n. n -ℤ c.args.by) c.write_number.result c.in-Some.ensures fits next.1 (rw (to_z-of_z w64 c.in-Some-checked_sub.next fits) at c.write_number.ensures.reply) (rw (to_z-of_z w64 c.in-Some-checked_sub.next fits) at c.write_number.ensures.world)
+
+pub returns-in-None-clause-kept : goal.returns-in-None-clause-kept
+returns-in-None-clause-kept g c =
+    unchanged g.B.BlockStore.blocks g.B.BlockStore.step (one_key c.args.at.now.db c.args.key.now) c.args.keyspace.now _ c.requires.ready.sound
+
+pub returns-in-None-checked_sub-clause-kept : goal.returns-in-None-checked_sub-clause-kept
+returns-in-None-checked_sub-clause-kept g c =
+    unchanged g.B.BlockStore.blocks g.B.BlockStore.step (one_key c.args.at.now.db c.args.key.now) c.args.keyspace.now _ c.requires.ready.sound
+
+pub returns-in-Some-checked_sub-clause-kept : goal.returns-in-Some-checked_sub-clause-kept
+returns-in-Some-checked_sub-clause-kept g c =
+    calm g.B.BlockStore.blocks g.B.BlockStore.step (one_key c.args.at.now.db c.args.key.now) c.args.keyspace.now c.write_number.new.keyspace _ (search rules) c.write_number.ensures.held

@@ -1,11 +1,13 @@
-use Rattle.std.proofs.Common.{rules, [], Some, ap, ◌∙◌}
+use Rattle.std.proofs.Common.{◌≡◌, rules, [], Some, ap, subst, ◌∙◌}
 use Rattle.keyspace.specs.Values.{value_of}
 use Rattle.std.specs.Int.{w64}
 use Rattle.std.proofs.lemmas.Int.{to_z-of_z}
 use Rattle.int_text.specs.Decimal.{canonical}
-use Rattle.cmd_values.proofs.Lowering.{text_intact, text_sound, text_becomes}
-use Rattle.cmd_values.proofs.StringLemmas.{number_lowered}
+use Rattle.cmd_values.proofs.Lowering.{text_intact, text_sound, text_within, text_becomes}
+use Rattle.cmd_values.proofs.StringLemmas.{number_lowered, on_ok}
 use Rattle.keyspace.specs.Commands.{sight}
+use Rattle.keyspace.specs.Databases.{Keyspace}
+use Rattle.plain_model.specs.StringSteps.{change}
 use Rattle.cmd_values.proofs.strings.counting.write_number.Goals as goal
 
 pub lower-requires-clause-intact : goal.lower-requires-clause-intact
@@ -20,6 +22,7 @@ returns-in-Some-clause-held g c = record {
       c.in-Some.ensures.lifts (c.in-Some.ensures.sound [] c.requires.ready.sound) c.set_number.ensures.changes _ _ (ap g.B.BlockStore.blocks c.lower.ensures.store) c.lower.ensures.sound;
   served = search rules;
   settings = search rules;
+  within = text_within c.args.at.now c.args.keyspace.now.bases c.lift.new.self.bases _ _ _ c.args.key.now c.in-Some.lifted c.into_text-text.result c.set_number.new.self c.into_text-text.ensures (ap g.B.BlockStore.blocks c.in-Some.ensures.store) c.in-Some.ensures.lifts (c.in-Some.ensures.sound [] c.requires.ready.sound) c.set_number.ensures.changes c.lower.new.self.bases _ (ap g.B.BlockStore.blocks c.lower.ensures.store) c.in-Some.ensures.within c.lower.ensures.within;
 }
 
 pub returns-in-Some-clause-world : goal.returns-in-Some-clause-world
@@ -29,3 +32,9 @@ returns-in-Some-clause-world g c =
     (text_becomes c.args.at.now c.args.keyspace.now.bases c.lift.new.self.bases _ _ _ c.args.key.now c.in-Some.lifted c.into_text-text.result c.set_number.new.self c.into_text-text.ensures (ap g.B.BlockStore.blocks c.in-Some.ensures.store)
     c.in-Some.ensures.lifts (c.in-Some.ensures.sound [] c.requires.ready.sound) c.set_number.ensures.changes c.lower.new.self.bases _ (ap g.B.BlockStore.blocks c.lower.ensures.store) c.lower.ensures.means
     (λ bytes. canonical c.args.n) (rw (to_z-of_z w64 c.args.n c.ranges.n) at c.set_number.ensures.bytes))
+
+pub returns-in_ok-put_number-in-None-clause-world : goal.returns-in_ok-put_number-in-None-clause-world
+returns-in_ok-put_number-in-None-clause-world g c =
+    let same : c.lift.new.self ≡ c.args.keyspace.now = (λ i. record { store = c.in-None.ensures.store i; bases = c.in-None.ensures.same i }) in
+    on_ok c.number.result (subst (λ (k : Keyspace g.row.B.Denot). sight g.B.BlockStore.blocks c.put_number.new.keyspace c.args.at.now ≡ change (sight g.B.BlockStore.blocks k c.args.at.now) c.args.key.now (canonical c.args.n)) same
+    (rw (to_z-of_z w64 c.args.n c.ranges.n) at c.in_ok-put_number-in-None.ensures.world))

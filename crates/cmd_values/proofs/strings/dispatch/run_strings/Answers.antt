@@ -60,3 +60,11 @@ returns-in-IncrBy g c =
 pub returns-in-DecrBy : goal.returns-in-DecrBy
 returns-in-DecrBy g c =
     ran_strings g.B.BlockStore.blocks g.B.BlockStore.step c.args.keyspace.now c.decrby.new.keyspace c.args.at.now (Strings c.args.command.now) c.args.command.now (strings.DecrBy c.as_slice-in-DecrBy.result.now (to_z w64 (of_z w64 c.in-DecrBy.n))) c.decrby.result refl (search rules) c.decrby.ensures.gives c.decrby.ensures.kept
+
+pub returns-in-Get : goal.returns-in-Get
+returns-in-Get g c =
+    looked_strings g.B.BlockStore.blocks g.B.BlockStore.step c.args.keyspace.now c.args.at.now (Strings c.args.command.now) c.args.command.now (strings.Get c.as_slice.result.now) c.get.result refl (search rules) c.get.ensures c.requires.ready
+
+pub returns-in-StrLen : goal.returns-in-StrLen
+returns-in-StrLen g c =
+    looked_strings g.B.BlockStore.blocks g.B.BlockStore.step c.args.keyspace.now c.args.at.now (Strings c.args.command.now) c.args.command.now (strings.StrLen c.as_slice-in-StrLen.result.now) c.strlen.result refl (search rules) c.strlen.ensures c.requires.ready

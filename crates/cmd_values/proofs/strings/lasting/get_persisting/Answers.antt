@@ -1,9 +1,13 @@
 use Rattle.keyspace.specs.Commands.{sight}
 use Rattle.cmd_values.proofs.StringLemmas.{old_value_then}
-use Rattle.plain_world.specs.Worlds.{look}
-use Rattle.plain_model.specs.Deadlines.{persist}
+use Rattle.keyspace.proofs.Running.{unchanged}
+use Rattle.keyspace.specs.Scopes.{no_key}
 use Rattle.cmd_values.proofs.strings.lasting.get_persisting.Goals as goal
 
 pub returns-clause-gives : goal.returns-clause-gives
 returns-clause-gives g c =
     old_value_then (sight g.B.BlockStore.blocks c.args.keyspace.now c.args.at.now) (sight g.B.BlockStore.blocks c.persist.new.keyspace c.args.at.now) c.args.key.now c.in_ok-reply.reply _ c.in_ok-reply.ensures c.in_ok-_had.ensures.world
+
+pub returns-in_err-reply-clause-kept : goal.returns-in_err-reply-clause-kept
+returns-in_err-reply-clause-kept g c =
+    unchanged g.B.BlockStore.blocks g.B.BlockStore.step (no_key c.args.at.now.db) c.args.keyspace.now _ c.requires.ready.sound

@@ -1,4 +1,4 @@
-use Rattle.std.proofs.Common.{◌∙◌}
+use Rattle.std.proofs.Common.{◌∙◌, rules}
 use Rattle.std.specs.Prelude.{ℤ, [], ◌∷◌, FitsSigned}
 use Rattle.std.specs.Int.{w64}
 use Rattle.std.proofs.lemmas.Int.{to_z-of_z}
@@ -8,6 +8,8 @@ use Rattle.plain_model.specs.StringSteps.{on_string, or_null}
 use Rattle.plain_model.specs.Deadlines.{expire}
 use Rattle.keyspace.specs.Commands.{sight}
 use Rattle.cmd_values.proofs.StringLemmas.{old_value_then, due_fits}
+use Rattle.keyspace.proofs.Running.{unchanged, calm}
+use Rattle.keyspace.specs.Scopes.{no_key}
 use Rattle.cmd_values.proofs.strings.lasting.get_until.Goals as goal
 
 pub returns-in_ok-expire-in-Some-clause-gives : goal.returns-in_ok-expire-in-Some-clause-gives
@@ -18,3 +20,15 @@ returns-in_ok-expire-in-Some-clause-gives g c =
     let fits : FitsSigned w64 c.in-Some.due = record { sfits = typed.1.1.1.1.0.1 } in
     due_fits (sight g.B.BlockStore.blocks c.args.keyspace.now c.args.at.now) c.args.at.now.moment c.args.time c.in-Some.due answer c.in-Some.ensures.some fits
     ∙ old_value_then (sight g.B.BlockStore.blocks c.args.keyspace.now c.args.at.now) (sight g.B.BlockStore.blocks c.expire.new.keyspace c.args.at.now) c.args.key.now c.in_ok-reply-in-Some.reply _ c.in_ok-reply-in-Some.ensures (rw (to_z-of_z w64 c.in-Some.due fits) at c.in_ok-expire-in-Some.ensures.world)
+
+pub returns-in_err-reply-in-Some-clause-kept : goal.returns-in_err-reply-in-Some-clause-kept
+returns-in_err-reply-in-Some-clause-kept g c =
+    unchanged g.B.BlockStore.blocks g.B.BlockStore.step (no_key c.args.at.now.db) c.args.keyspace.now _ c.requires.ready.sound
+
+pub returns-in-None-clause-kept : goal.returns-in-None-clause-kept
+returns-in-None-clause-kept g c =
+    unchanged g.B.BlockStore.blocks g.B.BlockStore.step (no_key c.args.at.now.db) c.args.keyspace.now _ c.requires.ready.sound
+
+pub returns-in_ok-expire-in-Some-clause-kept : goal.returns-in_ok-expire-in-Some-clause-kept
+returns-in_ok-expire-in-Some-clause-kept g c =
+    calm g.B.BlockStore.blocks g.B.BlockStore.step (no_key c.args.at.now.db) c.args.keyspace.now c.expire.new.keyspace _ (search rules) c.expire.ensures.held

@@ -1,5 +1,7 @@
 use Rattle.std.proofs.Common.{[], rules}
 use Rattle.cmd_values.proofs.StringLemmas.{removed}
+use Rattle.keyspace.proofs.Running.{unchanged}
+use Rattle.keyspace.specs.Scopes.{no_key}
 use Rattle.cmd_values.proofs.strings.writing.getdel.Goals as goal
 
 pub returns-clause-gives : goal.returns-clause-gives
@@ -11,4 +13,9 @@ returns-clause-kept g c = record {
   sound = c.drop_key.ensures.sound [] c.requires.ready.sound;
   served = c.drop_key.ensures.served;
   settings = c.drop_key.ensures.settings;
+  within = c.drop_key.ensures.within;
 }
+
+pub returns-in_err-reply-clause-kept : goal.returns-in_err-reply-clause-kept
+returns-in_err-reply-clause-kept g c =
+    unchanged g.B.BlockStore.blocks g.B.BlockStore.step (no_key c.args.at.now.db) c.args.keyspace.now _ c.requires.ready.sound

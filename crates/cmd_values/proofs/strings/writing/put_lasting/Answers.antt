@@ -1,7 +1,12 @@
 use Rattle.blocks.proofs.Serve.{Served-then}
 use Rattle.keyspace.specs.declared.value.Value.TheVariants as values
-use Rattle.keyspace.proofs.Uses.{Made-intact, Put-sound}
+use Rattle.keyspace.proofs.Uses.{Made-intact, Put-sound, Put-within}
 use Rattle.cmd_values.proofs.StringLemmas.{replaced}
+use Rattle.std.proofs.Common.{sym, subst}
+use Rattle.keyspace.specs.Sound.{Sound}
+use Rattle.keyspace.proofs.Running.{same_settings}
+use Rattle.keyspace.proofs.Serving.{unmoved}
+use Rattle.keyspace.specs.Scopes.{one_key, Within}
 use Rattle.cmd_values.proofs.strings.writing.put_lasting.Goals as goal
 
 pub put-requires-clause-intact : goal.put-requires-clause-intact
@@ -16,4 +21,13 @@ returns-clause-held g c = record {
   sound = Put-sound _ _ _ (values.Text c.in_ok-text.text) c.requires.ready.sound c.in_ok-text.ensures.changes _ _ c.put.ensures.sound;
   served = Served-then _ _ _ c.in_ok-text.ensures.served c.put.ensures.served;
   settings = c.put.ensures.settings;
+  within = Put-within _ _ _ (values.Text c.in_ok-text.text) c.requires.ready.sound c.in_ok-text.ensures.changes _ _ _ c.put.ensures.within;
+}
+
+pub returns-in_err-text-clause-held : goal.returns-in_err-text-clause-held
+returns-in_err-text-clause-held g c = record {
+  sound = subst (Sound c.args.keyspace.now.bases) (sym c.in_err-text.ensures.err_blocks) c.requires.ready.sound;
+  served = c.make.ensures.served;
+  settings = same_settings c.args.keyspace.now.bases;
+  within = subst (Within (one_key c.args.at.now.db c.args.key.now) c.args.keyspace.now.bases c.args.keyspace.now.bases (g.B.BlockStore.blocks c.args.keyspace.now.store)) (sym c.in_err-text.ensures.err_blocks) (unmoved (one_key c.args.at.now.db c.args.key.now) c.args.keyspace.now.bases (g.B.BlockStore.blocks c.args.keyspace.now.store));
 }

@@ -4,6 +4,8 @@ use Rattle.plain_model.specs.StringSteps.{replace_all}
 use Rattle.keyspace.specs.Databases.{SameSettings}
 use Rattle.keyspace.specs.Sound.{Sound}
 use Rattle.keyspace.specs.Commands.{seen}
+use Rattle.keyspace.specs.Scopes.{some_keys, first_words, Within}
+use Rattle.cmd_values.proofs.Pairs.{ArePart}
 use Rattle.cmd_values.proofs.strings.writing.put_pairs.Given as goal
 
 abbrev pub invariant-pairs : goal.invariant-pairs
@@ -13,6 +15,8 @@ invariant-pairs g l =
       world : replace_all (seen l.at l.keyspace.bases (blocks l.keyspace.store)) l.rest ≡ replace_all (seen l.at l.fn.keyspace.bases (blocks l.fn.keyspace.store)) l.pairs;
       sound : Sound l.keyspace.bases (blocks l.keyspace.store);
       served : Served g.B.BlockStore.step l.fn.keyspace.store l.keyspace.store;
+      part : ArePart l.rest l.pairs;
+      within : Within (some_keys l.at.db (first_words l.pairs)) l.fn.keyspace.bases l.keyspace.bases (blocks l.fn.keyspace.store) (blocks l.keyspace.store);
       settings : SameSettings l.fn.keyspace.bases l.keyspace.bases;
     }
 
