@@ -1,5 +1,5 @@
 -- A value is lifted, copied and lowered again.
-use Rattle.std.proofs.Common.{◌≡◌, ℕ, ◌≤◌, List, [], ◌++◌, ◌∷◌, Option, Some, true, false, Result, Ok, Err, IfOk, OnOk, OnErr, refl, sym, ap, ◌∙◌, subst, arith}
+use Rattle.std.proofs.Common.{◌≡◌, inl, inr, ℕ, ◌≤◌, List, [], ◌++◌, ◌∷◌, Option, Some, true, false, Result, Ok, Err, IfOk, OnOk, OnErr, refl, sym, ap, ◌∙◌, subst, arith}
 use Rattle.std.specs.Prelude.{pos, is_some, not, ◌==◌, ◌&&◌, bytes_eq, if◌then◌else◌}
 use Rattle.std.specs.FinMap.{get}
 use Rattle.std.proofs.lemmas.Bool.{cond-true, cond-false}
@@ -24,7 +24,10 @@ use Rattle.keyspace.specs.Values.{value_of, value_refs, value_own}
 use Rattle.keyspace.specs.Databases.{Bases, means}
 use Rattle.keyspace.specs.Sound.{IsIntact, SoundBeside}
 use Rattle.keyspace.specs.Calls.{Lifted, IsPlace, IsVacant, Lifts, AreParts}
+use Rattle.held.proofs.Within.{within_store, within_wider}
+use Rattle.keyspace.specs.Scopes.{one_key, two_keys, Within}
 use Rattle.keyspace.specs.Commands.{seen}
+use Rattle.keyspace.proofs.Serving.{further}
 use Rattle.keyspace.proofs.Uses.{Sound-intact, Changed-sound}
 use Rattle.cmd_keys.proofs.KeyLemmas.{some_entry}
 use Rattle.cmd_keys.proofs.Emptying.{same_base}
@@ -75,6 +78,15 @@ module _ (old mid : Bases) (m own after : Blocks) (db moment : ℕ) (key : List 
   module _ (new : Bases) (later : Blocks) (same : later ≡ after) where
     pub copy_sound : ((all rest : List BlockRef) → SoundBeside mid after all → AreParts all (value_refs lifted.value) rest → SoundBeside new after rest) → SoundBeside new later extra
     copy_sound clause = subst (λ b. SoundBeside new b extra) (sym same) (clause (value_refs lifted.value ++ extra) extra beside (λ r. times-append r (value_refs lifted.value) extra))
+
+    -- from the clauses `within` of `lift` and `lower`
+    pub copy_within : Within (one_key db key) old mid m m → ((k : List ℕ) (deadline : Option ℕ) → IsPlace mid after lifted.db lifted.item k deadline → Within (one_key lifted.db k) mid new after after) → Within (one_key db key) old new m later
+    copy_within taken clause =
+        subst (Within (one_key db key) old new m) (sym same)
+        (further (one_key db key) old mid new m m after taken
+        (further (one_key db key) mid mid new m after after
+        (within_store value_refs value_of value_own (one_key db key) mid m after (value_refs lifted.value ++ []) [] extra (Sound-intact mid m (value_refs lifted.value ++ []) sound) p nothing)
+        (subst (λ d. Within (one_key d key) mid new after after) lifts.same_db (clause key lifts.deadline place))))
 
     pub copy_means : ((k : List ℕ) (deadline : Option ℕ) → IsPlace mid after lifted.db lifted.item k deadline → means lifted.db new after ≡ put (means lifted.db mid after) k (record { value = value_of after lifted.value; deadline = deadline }))
         → means db new later ≡ means db old m
@@ -144,3 +156,14 @@ module _ (old : World) (from to : List ℕ) (options : CopyOptions) (number : �
       ∙ cond-true (is_some (look_in old number to) && not options.replace) (counts 0 old) (counts 1 (put_in old number to e.0)) taken
       ∙ ap (λ r. leaves r old) (sym told)
   copy_stopped (Err x) other there taken told = tt
+
+-- ---- what changes: the place of the key that is copied, and the key that the copy is put at
+
+pub copied_within : (db : ℕ) (from : List ℕ) (number : ℕ) (to : List ℕ) (old mid new : Bases) (m own after : Blocks) → Within (one_key db from) old mid m own → Within (one_key number to) mid new own after → Within (two_keys db from number to) old new m after
+copied_within db from number to old mid new m own after p q =
+    further (two_keys db from number to) old mid new m own after
+    (within_wider value_refs (one_key db from) (two_keys db from number to) (λ n here. inl here) (λ n key named. inl named) (λ n no. no) old mid m own p)
+    (within_wider value_refs (one_key number to) (two_keys db from number to) (λ n here. inr here) (λ n key named. inr named) (λ n no. no) mid new own after q)
+
+pub first_within : (db : ℕ) (from : List ℕ) (number : ℕ) (to : List ℕ) (old mid : Bases) (m own : Blocks) → Within (one_key db from) old mid m own → Within (two_keys db from number to) old mid m own
+first_within db from number to old mid m own p = within_wider value_refs (one_key db from) (two_keys db from number to) (λ n here. inl here) (λ n key named. inl named) (λ n no. no) old mid m own p

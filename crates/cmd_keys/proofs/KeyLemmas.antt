@@ -1,12 +1,19 @@
 -- Commands on keys as steps of the model.
 use Rattle.std.proofs.Common.{◌≡◌, ◌<◌, ℕ, List, [], ◌∷◌, Option, Some, None, true, Result, Ok, Err, IfOk, refl, sym, ap, ◌∙◌, subst}
-use Rattle.std.specs.Prelude.{ℤ, is_some}
+use Rattle.std.specs.Prelude.{ℤ, pos, is_some, if◌then◌else◌, FitsSigned}
+use Rattle.std.specs.Int.{w64}
+use Rattle.int_text.specs.Decimal.{is_i64}
+use Rattle.int_text.proofs.NumberOf.{fits_to}
+use Rattle.plain_world.specs.declared.refusal.Refusal.TheVariants.{InvalidExpireTime}
+use Rattle.plain_model.specs.declared.times.Time.{Time}
+use Rattle.plain_model.specs.declared.keys.ExpireOptions.{ExpireOptions}
+use Rattle.plain_model.specs.Deadlines.{due, expire}
 use Rattle.plain_world.specs.Worlds.{World, Entry, live, look, in_time, deadline_of}
 use Rattle.plain_world.specs.declared.reply.Part.{Part}
 use Rattle.plain_world.specs.declared.reply.Part.TheVariants.{Number}
 use Rattle.plain_world.proofs.Lives.{was_in_time}
-use Rattle.plain_model.specs.Outcomes.{IsRefusal, leaves, tells}
-use Rattle.plain_model.specs.KeySteps.{deadline_told, time_told}
+use Rattle.plain_model.specs.Outcomes.{IsOutcome, IsRefusal, leaves, tells, refused}
+use Rattle.plain_model.specs.KeySteps.{key_outcome, may_keys, counts, permits, expire_where_permitted, expire_outcome, deadline_told, time_told}
 use Rattle.plain_model.specs.Meant.{IsAsked}
 use Rattle.plain_model.proofs.Asked.{IsOneOf16, FitsKeys, command_fits}
 use Rattle.plain_model.specs.declared.ctx.Ctx.{Ctx}
@@ -18,10 +25,11 @@ use Rattle.plain_model.specs.ConnectionSteps.{connection_outcome, may_connection
 use Rattle.plain_model.specs.declared.command.Command.TheVariants.{Keys, Connection}
 use Rattle.blocks.specs.Blocks.{Blocks}
 use Rattle.keyspace.specs.Databases.{Keyspace}
+use Rattle.keyspace.specs.Scopes.{connection_scope, key_scope}
 use Rattle.keyspace.specs.Commands.{Ready, Kept, Runs, sight}
 use Rattle.keyspace.proofs.Running.{outcome_is, unchanged}
 use Rattle.cmd_keys.specs.declared.keys.look.Timeless.{Timeless}
-use Rattle.cmd_keys.specs.Found.{Serves, Tells, IsDatabase, IsDeadlineAt, told_of}
+use Rattle.cmd_keys.specs.Found.{Gives, Serves, Tells, IsDatabase, IsDeadlineAt, told_of}
 
 -- what stands at a key of the live world, and its deadline
 pub record StandsUntil (world : World) (moment : ℕ) (key : List ℕ) (deadline : Option ℕ) : Type 0 where
@@ -57,6 +65,19 @@ pub number_calm : {E : Type 0} (n : ℤ) (result : Result (List Part) E) → IfO
 number_calm n (Ok reply) is = λ refused. subst IsRefusal is refused
 number_calm n (Err x) is = tt
 
+-- a key that is there gets a deadline that the options permit
+pub expire_given : {E : Type 0} (old new : World) (moment : ℕ) (key : List ℕ) (time : Time) (options : ExpireOptions) (d : ℤ) (deadline : Option ℕ) (result : Result (List Part) E) → d ≡ due moment time → FitsSigned w64 d → is_some (look old key) ≡ true → deadline ≡ deadline_of (look old key)
+    → permits options deadline d ≡ true → new ≡ expire old moment key d (look old key) → IfOk result (λ reply. reply ≡ Number (pos 1) ∷ []) → IfOk result (λ reply. expire_outcome old moment key time options ≡ leaves reply new)
+expire_given old new moment key time options d deadline (Ok reply) is fits there last allowed world told =
+    ap (λ n. if is_i64 n then expire_where_permitted old moment key options n (look old key) else refused InvalidExpireTime old) (sym is)
+    ∙ ap (λ b. if b then expire_where_permitted old moment key options d (look old key) else refused InvalidExpireTime old) (fits_to d fits)
+    ∙ given (look old key) there last ∙ ap (counts 1) (sym world) ∙ ap (λ r. leaves r new) (sym told)
+  where
+    given : (o : Option Entry) → is_some o ≡ true → deadline ≡ deadline_of o → expire_where_permitted old moment key options d o ≡ counts 1 (expire old moment key d o)
+    given None h l = cc
+    given (Some e) h l = ap (λ b. if b then counts 1 (expire old moment key d (Some e)) else counts 0 old) (ap (λ x. permits options x d) (sym l) ∙ allowed)
+expire_given old new moment key time options d deadline (Err x) is fits there last allowed world told = tt
+
 -- ---- what a command function says is what running the command means
 
 pub fits_keys : (command : KeyCommand) → IsAsked (Keys command) → FitsKeys command
@@ -75,13 +96,34 @@ asked_move command key number asked is = subst FitsKeys is (fits_keys command as
 
 -- a command on the connection or the server ran
 pub served_connection : {S E : Type 0} (blocks : S → Blocks) (step : S → S → Type 0) (old new : Keyspace S) (at : Ctx) (command same : ConnectionCommand) (result : Result (List Part) E)
-    → command ≡ same → Serves blocks old new at same result → Kept blocks step old new result → Runs blocks step old new at (Connection command) result
-served_connection blocks step old new at command same (Ok reply) is given kept =
-    record { answers = subst (λ c. may_connection (sight blocks old at) at.moment c reply (sight blocks new at)) (sym is) (outcome_is (connection_outcome at.moment (sight blocks old at) same) reply (sight blocks new at) given); kept = kept }
-served_connection blocks step old new at command same (Err x) is given kept = record { answers = tt; kept = kept }
+    → command ≡ same → Serves blocks old new at same result → Kept blocks step (connection_scope at.db same) old new result → Runs blocks step old new at (Connection command) result
+served_connection {E = E} blocks step old new at command same (Ok reply) is given kept =
+    record { answers = subst (λ c. may_connection (sight blocks old at) at.moment c reply (sight blocks new at)) (sym is) (outcome_is (connection_outcome at.moment (sight blocks old at) same) reply (sight blocks new at) given); kept = subst (λ c. Kept {E = E} blocks step (connection_scope at.db c) old new (Ok reply)) (sym is) kept }
+served_connection {E = E} blocks step old new at command same (Err x) is given kept = record { answers = tt; kept = subst (λ c. Kept {E = E} blocks step (connection_scope at.db c) old new (Err x)) (sym is) kept }
 
 -- one that tells the same in every world
 pub told_connection : {S E : Type 0} (blocks : S → Blocks) (step : S → S → Type 0) (keyspace : Keyspace S) (at : Ctx) (command same : ConnectionCommand) (result : Result (List Part) E)
     → command ≡ same → Tells same result → Ready blocks keyspace at → Runs blocks step keyspace keyspace at (Connection command) result
 told_connection blocks step keyspace at command same result is told ready =
-    served_connection blocks step keyspace keyspace at command same result is (told at.moment (sight blocks keyspace at)) (unchanged blocks step keyspace result ready.sound)
+    served_connection blocks step keyspace keyspace at command same result is (told at.moment (sight blocks keyspace at)) (unchanged blocks step (connection_scope at.db same) keyspace result ready.sound)
+
+-- a command on keys only looked
+pub asked_keys : {S E : Type 0} (blocks : S → Blocks) (step : S → S → Type 0) (keyspace : Keyspace S) (at : Ctx) (command same : KeyCommand) (result : Result (List Part) E)
+    → command ≡ same → IfOk result (λ reply. may_keys (sight blocks keyspace at) at.moment same reply (sight blocks keyspace at)) → Ready blocks keyspace at → Runs blocks step keyspace keyspace at (Keys command) result
+asked_keys {E = E} blocks step keyspace at command same result is given ready =
+    subst (λ c. Runs {E = E} blocks step keyspace keyspace at (Keys c) result) (sym is) (record { answers = given; kept = unchanged blocks step (key_scope at.db same) keyspace result ready.sound })
+
+-- and told what the model tells
+pub told_keys : {S E : Type 0} (blocks : S → Blocks) (step : S → S → Type 0) (keyspace : Keyspace S) (at : Ctx) (command same : KeyCommand) (result : Result (List Part) E)
+    → ((reply : List Part) (new : World) → IsOutcome (key_outcome at.moment (sight blocks keyspace at) same) reply new → may_keys (sight blocks keyspace at) at.moment same reply new)
+    → command ≡ same → Gives blocks keyspace keyspace at same result → Ready blocks keyspace at → Runs blocks step keyspace keyspace at (Keys command) result
+told_keys {E = E} blocks step keyspace at command same result fixed is given ready = asked_keys blocks step keyspace at command same result is (answers result given) ready
+  where
+    answers : (result : Result (List Part) E) → Gives blocks keyspace keyspace at same result → IfOk result (λ reply. may_keys (sight blocks keyspace at) at.moment same reply (sight blocks keyspace at))
+    answers (Ok reply) given = fixed reply (sight blocks keyspace at) (outcome_is (key_outcome at.moment (sight blocks keyspace at) same) reply (sight blocks keyspace at) given)
+    answers (Err x) given = tt
+
+-- what is asked of a key alone leaves the world
+pub and_stays : {E : Type 0} (P : List Part → Type 0) (world : World) (result : Result (List Part) E) → IfOk result P → IfOk result (λ reply. P reply × (world ≡ world))
+and_stays P world (Ok reply) p = (p, refl)
+and_stays P world (Err x) p = tt

@@ -4,6 +4,7 @@ ghost use Rattle.std.specs.Prelude.{◌≡◌, ◌<◌};
 ghost use Rattle.std.specs.FinMap.{len};
 ghost use Rattle.plain_world.specs.Worlds.{no_keys, with_base};
 ghost use Rattle.plain_model.specs.declared.connection.ConnectionCommand.TheVariants as commands;
+ghost use Rattle.keyspace.specs.Scopes.{no_key, all_keys, everything};
 ghost use Rattle.keyspace.specs.Commands.{Ready, Held, Kept, sight};
 ghost use Rattle.cmd_keys.specs.Found.{Serves, Tells};
 ghost use Rattle.cmd_keys.specs.Emptied.{IsEmpty};
@@ -37,7 +38,7 @@ pub fn echo(alloc: Global, text: &[u8]) -> Result<Reply, Memory>
 fn clear_selected<B: BlockStore>(keyspace: &mut Keyspace<B>, at: &Ctx)
     requires ready { Ready B.blocks keyspace.old at.now }
     ensures world { sight B.blocks keyspace.new at.now ≡ with_base (sight B.blocks keyspace.old at.now) no_keys }
-    ensures held { Held B.blocks B.step keyspace.old keyspace.new }
+    ensures held { Held B.blocks B.step (all_keys at.now.db) keyspace.old keyspace.new }
 {
     keyspace.clear(at.db);
 }
@@ -50,22 +51,20 @@ pub fn quit(alloc: Global) -> Result<Reply, Memory>
 }
 
 /// `FLUSHDB [ASYNC or SYNC]`: OK; the selected database has no key afterwards.
-#[tactic(auto, using(keyspace::proofs::Serving::nothing))]
 pub fn flushdb<B: BlockStore>(keyspace: &mut Keyspace<B>, at: &Ctx) -> Result<Reply, Memory>
     requires ready { Ready B.blocks keyspace.old at.now }
     ensures gives { Serves B.blocks keyspace.old keyspace.new at.now commands.FlushDb result }
-    ensures kept { Kept B.blocks B.step keyspace.old keyspace.new result }
+    ensures kept { Kept B.blocks B.step (all_keys at.now.db) keyspace.old keyspace.new result }
 {
     clear_selected(keyspace, at);
     Reply::simple(keyspace.alloc(), Line::ok())
 }
 
 // Removes all keys of all databases.
-#[tactic(auto, using(keyspace::proofs::Serving::nothing, keyspace::proofs::Serving::both))]
 fn clear_all<B: BlockStore>(keyspace: &mut Keyspace<B>, at: &Ctx)
     requires ready { Ready B.blocks keyspace.old at.now }
     ensures world { IsEmpty (sight B.blocks keyspace.new at.now) at.now.db }
-    ensures held { Held B.blocks B.step keyspace.old keyspace.new }
+    ensures held { Held B.blocks B.step (everything) keyspace.old keyspace.new }
 {
     let _ = at;
     for db in 0..DATABASES {
@@ -74,11 +73,10 @@ fn clear_all<B: BlockStore>(keyspace: &mut Keyspace<B>, at: &Ctx)
 }
 
 /// `FLUSHALL [ASYNC or SYNC]`: OK; no database has a key afterwards.
-#[tactic(auto, using(keyspace::proofs::Serving::nothing))]
 pub fn flushall<B: BlockStore>(keyspace: &mut Keyspace<B>, at: &Ctx) -> Result<Reply, Memory>
     requires ready { Ready B.blocks keyspace.old at.now }
     ensures gives { Serves B.blocks keyspace.old keyspace.new at.now commands.FlushAll result }
-    ensures kept { Kept B.blocks B.step keyspace.old keyspace.new result }
+    ensures kept { Kept B.blocks B.step (everything) keyspace.old keyspace.new result }
 {
     clear_all(keyspace, at);
     Reply::simple(keyspace.alloc(), Line::ok())
@@ -89,18 +87,17 @@ fn count_live<B: BlockStore>(keyspace: &mut Keyspace<B>, at: &Ctx) -> u64
     requires ready { Ready B.blocks keyspace.old at.now }
     ensures count { result ≡ len ((sight B.blocks keyspace.old at.now).bases at.now.db) }
     ensures world { sight B.blocks keyspace.new at.now ≡ sight B.blocks keyspace.old at.now }
-    ensures held { Held B.blocks B.step keyspace.old keyspace.new }
+    ensures held { Held B.blocks B.step (no_key at.now.db) keyspace.old keyspace.new }
 {
     let _ = keyspace.purge(at.db, at.moment);
     keyspace.count(at.db)
 }
 
 /// `DBSIZE`: the number of keys that are there. Those that are gone are removed first.
-#[tactic(auto, using(keyspace::proofs::Serving::nothing))]
 pub fn dbsize<B: BlockStore>(keyspace: &mut Keyspace<B>, at: &Ctx) -> Result<Reply, Memory>
     requires ready { Ready B.blocks keyspace.old at.now }
     ensures gives { Serves B.blocks keyspace.old keyspace.new at.now commands.DbSize result }
-    ensures kept { Kept B.blocks B.step keyspace.old keyspace.new result }
+    ensures kept { Kept B.blocks B.step (no_key at.now.db) keyspace.old keyspace.new result }
 {
     let count = count_live(keyspace, at);
     match i64::try_from(count) {

@@ -17,7 +17,6 @@ use plain_model::{ConnectionCommand, Ctx, KeyCommand, Memory, Reply};
 use rand_pcg::Pcg32;
 
 /// Runs a command on keys by its own function. RANDOMKEY draws from the dice.
-#[tactic(auto, using(keyspace::proofs::Serving::nothing, keyspace::proofs::Running::same_settings))]
 pub fn run_keys<B: BlockStore>(
     keyspace: &mut Keyspace<B>,
     at: &Ctx,
@@ -60,7 +59,6 @@ pub fn run_keys<B: BlockStore>(
 
 /// Runs a command on the connection or the server by its own function. SELECT is none of them: whoever keeps the number of
 /// the selected database answers it.
-#[tactic(auto, using(keyspace::proofs::Serving::nothing, keyspace::proofs::Running::same_settings))]
 pub fn run_connection<B: BlockStore>(
     keyspace: &mut Keyspace<B>,
     at: &Ctx,

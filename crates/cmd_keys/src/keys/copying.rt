@@ -8,6 +8,7 @@ ghost use Rattle.blocks.specs.Blocks.{Served};
 ghost use Rattle.keyspace.specs.Values.{value_of, value_refs};
 ghost use Rattle.keyspace.specs.Databases.{means, SameSettings};
 ghost use Rattle.keyspace.specs.Sound.{Sound, SoundBeside};
+ghost use Rattle.keyspace.specs.Scopes.{one_key, two_keys, number_or, Within};
 ghost use Rattle.keyspace.specs.Commands.{Ready, Held, Kept, sight};
 ghost use Rattle.cmd_keys.specs.Found.{Gives, IsDatabase};
 
@@ -29,6 +30,7 @@ fn copy_value<B: BlockStore>(
     ensures sound { IfOk result (λ value. SoundBeside keyspace.new.bases (B.blocks keyspace.new.store) (value_refs value)) }
     ensures err { OnErr result (Sound keyspace.new.bases (B.blocks keyspace.new.store)) }
     ensures served { Served B.step keyspace.old.store keyspace.new.store }
+    ensures within { Within (one_key at.now.db key.now) keyspace.old.bases keyspace.new.bases (B.blocks keyspace.old.store) (B.blocks keyspace.new.store) }
     ensures settings { SameSettings keyspace.old.bases keyspace.new.bases }
 {
     let Some(lifted) = keyspace.lift(at.db, key, at.moment) else {
@@ -54,7 +56,7 @@ fn copy_to<B: BlockStore>(
     requires there { is_some (look (sight B.blocks keyspace.old at.now) from.now) ≡ true }
     requires number { number < 16 }
     ensures world { OnOk result ((entry : Entry) → look (sight B.blocks keyspace.old at.now) from.now ≡ Some entry → sight B.blocks keyspace.new at.now ≡ put_in (sight B.blocks keyspace.old at.now) number to.now entry) }
-    ensures held { Held B.blocks B.step keyspace.old keyspace.new }
+    ensures held { Held B.blocks B.step (two_keys at.now.db from.now number to.now) keyspace.old keyspace.new }
 {
     let deadline = deadline_at(keyspace, at, from);
     match copy_value(keyspace, at, from) {
@@ -68,6 +70,7 @@ fn number_of(at: &Ctx, db: Option<usize>) -> usize
     requires selected { at.now.db < 16 }
     requires other { IsDatabase db }
     ensures number { (world : World) → world.selected ≡ at.now.db → or_selected world db ≡ result }
+    ensures same { number_or at.now.db db ≡ result }
     ensures within { result < 16 }
 {
     match db {
@@ -94,7 +97,6 @@ fn is_taken<B: BlockStore>(keyspace: &Keyspace<B>, at: &Ctx, key: &[u8], replace
 
 /// `COPY from to [DB db] [REPLACE]`: 1, or 0 where nothing stands at the first key, or something at the other one that isn't
 /// to be replaced. The keys or the databases have to differ.
-#[tactic(auto, using(keyspace::proofs::Serving::nothing))]
 pub fn copy<B: BlockStore>(
     keyspace: &mut Keyspace<B>,
     at: &Ctx,
@@ -105,7 +107,7 @@ pub fn copy<B: BlockStore>(
     requires ready { Ready B.blocks keyspace.old at.now }
     requires database { IsDatabase options.db }
     ensures gives { Gives B.blocks keyspace.old keyspace.new at.now (commands.Copy from.now to.now options) result }
-    ensures kept { Kept B.blocks B.step keyspace.old keyspace.new result }
+    ensures kept { Kept B.blocks B.step (two_keys at.now.db from.now (number_or at.now.db options.db) to.now) keyspace.old keyspace.new result }
 {
     let alloc = keyspace.alloc();
     let number = number_of(at, options.db);

@@ -5,6 +5,7 @@ ghost use Rattle.plain_model.specs.KeySteps as model;
 ghost use Rattle.plain_model.specs.KeySteps.{expire_outcome};
 ghost use Rattle.plain_model.specs.Outcomes.{leaves};
 ghost use Rattle.plain_model.specs.declared.keys.KeyCommand.TheVariants as commands;
+ghost use Rattle.keyspace.specs.Scopes.{no_key};
 ghost use Rattle.keyspace.specs.Commands.{Ready, Held, Kept, sight};
 ghost use Rattle.cmd_keys.specs.Found.{Gives};
 
@@ -28,7 +29,6 @@ fn permits(options: ExpireOptions, deadline: Option<u64>, due: i64) -> bool
 }
 
 // What stands at a key gets the deadline of this time, where the options permit it.
-#[tactic(auto, using(keyspace::proofs::Serving::nothing))]
 fn expire_by<B: BlockStore>(
     keyspace: &mut Keyspace<B>,
     at: &Ctx,
@@ -38,7 +38,7 @@ fn expire_by<B: BlockStore>(
 ) -> Result<Reply, Memory>
     requires ready { Ready B.blocks keyspace.old at.now }
     ensures gives { IfOk result (λ reply. expire_outcome (sight B.blocks keyspace.old at.now) at.now.moment key.now time options ≡ leaves reply (sight B.blocks keyspace.new at.now)) }
-    ensures kept { Kept B.blocks B.step keyspace.old keyspace.new result }
+    ensures kept { Kept B.blocks B.step (no_key at.now.db) keyspace.old keyspace.new result }
 {
     let alloc = keyspace.alloc();
     match time.due(at.moment) {
@@ -67,7 +67,7 @@ pub fn expire<B: BlockStore>(
 ) -> Result<Reply, Memory>
     requires ready { Ready B.blocks keyspace.old at.now }
     ensures gives { Gives B.blocks keyspace.old keyspace.new at.now (commands.Expire key.now n options) result }
-    ensures kept { Kept B.blocks B.step keyspace.old keyspace.new result }
+    ensures kept { Kept B.blocks B.step (no_key at.now.db) keyspace.old keyspace.new result }
 {
     let time = Time {
         unit: TimeUnit::Seconds,
@@ -87,7 +87,7 @@ pub fn pexpire<B: BlockStore>(
 ) -> Result<Reply, Memory>
     requires ready { Ready B.blocks keyspace.old at.now }
     ensures gives { Gives B.blocks keyspace.old keyspace.new at.now (commands.PExpire key.now n options) result }
-    ensures kept { Kept B.blocks B.step keyspace.old keyspace.new result }
+    ensures kept { Kept B.blocks B.step (no_key at.now.db) keyspace.old keyspace.new result }
 {
     let time = Time {
         unit: TimeUnit::Milliseconds,
@@ -107,7 +107,7 @@ pub fn expireat<B: BlockStore>(
 ) -> Result<Reply, Memory>
     requires ready { Ready B.blocks keyspace.old at.now }
     ensures gives { Gives B.blocks keyspace.old keyspace.new at.now (commands.ExpireAt key.now n options) result }
-    ensures kept { Kept B.blocks B.step keyspace.old keyspace.new result }
+    ensures kept { Kept B.blocks B.step (no_key at.now.db) keyspace.old keyspace.new result }
 {
     let time = Time {
         unit: TimeUnit::Seconds,
@@ -127,7 +127,7 @@ pub fn pexpireat<B: BlockStore>(
 ) -> Result<Reply, Memory>
     requires ready { Ready B.blocks keyspace.old at.now }
     ensures gives { Gives B.blocks keyspace.old keyspace.new at.now (commands.PExpireAt key.now n options) result }
-    ensures kept { Kept B.blocks B.step keyspace.old keyspace.new result }
+    ensures kept { Kept B.blocks B.step (no_key at.now.db) keyspace.old keyspace.new result }
 {
     let time = Time {
         unit: TimeUnit::Milliseconds,
@@ -138,7 +138,6 @@ pub fn pexpireat<B: BlockStore>(
 }
 
 /// `PERSIST key`: 1 where the key had a deadline, which goes, and 0 elsewhere.
-#[tactic(auto, using(keyspace::proofs::Serving::nothing))]
 pub fn persist<B: BlockStore>(
     keyspace: &mut Keyspace<B>,
     at: &Ctx,
@@ -146,7 +145,7 @@ pub fn persist<B: BlockStore>(
 ) -> Result<Reply, Memory>
     requires ready { Ready B.blocks keyspace.old at.now }
     ensures gives { Gives B.blocks keyspace.old keyspace.new at.now (commands.Persist key.now) result }
-    ensures kept { Kept B.blocks B.step keyspace.old keyspace.new result }
+    ensures kept { Kept B.blocks B.step (no_key at.now.db) keyspace.old keyspace.new result }
 {
     let had = keyspace::persist(keyspace, at, key)?;
     count_reply(keyspace.alloc(), had as u64)

@@ -6,6 +6,7 @@ ghost use Rattle.plain_model.specs.KeySteps as model;
 ghost use Rattle.plain_model.specs.KeySteps.{IsSomeKey};
 ghost use Rattle.plain_model.specs.declared.keys.KeyCommand.TheVariants as commands;
 ghost use Rattle.cmd_keys.specs.Found.{Gives};
+ghost use Rattle.keyspace.specs.Scopes.{two_keys};
 ghost use Rattle.keyspace.specs.Commands.{Ready, Held, Kept, sight};
 
 use crate::keys::look::{count_reply, is_there};
@@ -44,7 +45,7 @@ fn move_to<B: BlockStore>(
     requires number { number < 16 }
     requires apart { (at.now.db ≡ number) × (from.now ≡ to.now) → ⊥ }
     ensures world { OnOk result ((entry : Entry) → look (sight B.blocks keyspace.old at.now) from.now ≡ Some entry → sight B.blocks keyspace.new at.now ≡ put_in (remove (sight B.blocks keyspace.old at.now) from.now) number to.now entry) }
-    ensures held { Held B.blocks B.step keyspace.old keyspace.new }
+    ensures held { Held B.blocks B.step (two_keys at.now.db from.now number to.now) keyspace.old keyspace.new }
 {
     match keyspace.rename(at.db, from, number, to) {
         Ok(_) => Ok(()),
@@ -53,7 +54,6 @@ fn move_to<B: BlockStore>(
 }
 
 // What stands at a key moves to another key of the database; the same key changes nothing.
-#[tactic(auto, using(keyspace::proofs::Serving::nothing))]
 fn rename_key<B: BlockStore>(
     keyspace: &mut Keyspace<B>,
     at: &Ctx,
@@ -62,7 +62,7 @@ fn rename_key<B: BlockStore>(
 ) -> Result<(), Memory>
     requires ready { Ready B.blocks keyspace.old at.now }
     ensures world { OnOk result ((entry : Entry) → look (sight B.blocks keyspace.old at.now) from.now ≡ Some entry → sight B.blocks keyspace.new at.now ≡ model.rename (sight B.blocks keyspace.old at.now) from.now to.now entry) }
-    ensures held { Held B.blocks B.step keyspace.old keyspace.new }
+    ensures held { Held B.blocks B.step (two_keys at.now.db from.now at.now.db to.now) keyspace.old keyspace.new }
 {
     if from == to {
         return Ok(());
@@ -71,7 +71,6 @@ fn rename_key<B: BlockStore>(
 }
 
 /// `RENAME from to`: OK; what stood at the new key is replaced. An error where nothing stands at the old one.
-#[tactic(auto, using(keyspace::proofs::Serving::nothing))]
 pub fn rename<B: BlockStore>(
     keyspace: &mut Keyspace<B>,
     at: &Ctx,
@@ -80,7 +79,7 @@ pub fn rename<B: BlockStore>(
 ) -> Result<Reply, Memory>
     requires ready { Ready B.blocks keyspace.old at.now }
     ensures gives { Gives B.blocks keyspace.old keyspace.new at.now (commands.Rename from.now to.now) result }
-    ensures kept { Kept B.blocks B.step keyspace.old keyspace.new result }
+    ensures kept { Kept B.blocks B.step (two_keys at.now.db from.now at.now.db to.now) keyspace.old keyspace.new result }
 {
     let alloc = keyspace.alloc();
     if !is_there(keyspace, at, from) {
@@ -91,7 +90,6 @@ pub fn rename<B: BlockStore>(
 }
 
 /// `RENAMENX from to`: 1, or 0 where something stands at the new key. An error where nothing stands at the old one.
-#[tactic(auto, using(keyspace::proofs::Serving::nothing))]
 pub fn renamenx<B: BlockStore>(
     keyspace: &mut Keyspace<B>,
     at: &Ctx,
@@ -100,7 +98,7 @@ pub fn renamenx<B: BlockStore>(
 ) -> Result<Reply, Memory>
     requires ready { Ready B.blocks keyspace.old at.now }
     ensures gives { Gives B.blocks keyspace.old keyspace.new at.now (commands.RenameNx from.now to.now) result }
-    ensures kept { Kept B.blocks B.step keyspace.old keyspace.new result }
+    ensures kept { Kept B.blocks B.step (two_keys at.now.db from.now at.now.db to.now) keyspace.old keyspace.new result }
 {
     let alloc = keyspace.alloc();
     if !is_there(keyspace, at, from) {
@@ -115,7 +113,6 @@ pub fn renamenx<B: BlockStore>(
 
 /// `MOVE key db`: 1, or 0 where nothing stands at the key or something stands at it in the other database. The databases
 /// have to differ.
-#[tactic(auto, using(keyspace::proofs::Serving::nothing))]
 pub fn move_key<B: BlockStore>(
     keyspace: &mut Keyspace<B>,
     at: &Ctx,
@@ -125,7 +122,7 @@ pub fn move_key<B: BlockStore>(
     requires ready { Ready B.blocks keyspace.old at.now }
     requires number { number < 16 }
     ensures gives { Gives B.blocks keyspace.old keyspace.new at.now (commands.MoveKey key.now number) result }
-    ensures kept { Kept B.blocks B.step keyspace.old keyspace.new result }
+    ensures kept { Kept B.blocks B.step (two_keys at.now.db key.now number key.now) keyspace.old keyspace.new result }
 {
     let alloc = keyspace.alloc();
     if number == at.db {

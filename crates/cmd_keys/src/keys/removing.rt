@@ -4,6 +4,7 @@ ghost use Rattle.std.specs.Prelude.{◌≡◌, ◌<◌, ◌^◌, is_some};
 ghost use Rattle.plain_world.specs.Worlds.{look, remove};
 ghost use Rattle.plain_model.specs.KeySteps.{removed, remove_all};
 ghost use Rattle.plain_model.specs.declared.keys.KeyCommand.TheVariants as commands;
+ghost use Rattle.keyspace.specs.Scopes.{no_key};
 ghost use Rattle.keyspace.specs.Commands.{Ready, Held, Kept, sight};
 ghost use Rattle.cmd_keys.specs.Found.{Gives};
 
@@ -17,7 +18,7 @@ pub fn remove_key<B: BlockStore>(keyspace: &mut Keyspace<B>, at: &Ctx, key: &[u8
     requires ready { Ready B.blocks keyspace.old at.now }
     ensures there { result ≡ is_some (look (sight B.blocks keyspace.old at.now) key.now) }
     ensures world { sight B.blocks keyspace.new at.now ≡ remove (sight B.blocks keyspace.old at.now) key.now }
-    ensures held { Held B.blocks B.step keyspace.old keyspace.new }
+    ensures held { Held B.blocks B.step (no_key at.now.db) keyspace.old keyspace.new }
 {
     let there = is_there(keyspace, at, key);
     let _ = keyspace.drop_key(at.db, key);
@@ -25,13 +26,12 @@ pub fn remove_key<B: BlockStore>(keyspace: &mut Keyspace<B>, at: &Ctx, key: &[u8
 }
 
 // Removes these keys, one after the other. The answer is how many were there.
-#[tactic(auto, using(keyspace::proofs::Serving::nothing, keyspace::proofs::Serving::both))]
 fn remove_keys<B: BlockStore>(keyspace: &mut Keyspace<B>, at: &Ctx, keys: &[Bytes]) -> u64
     requires ready { Ready B.blocks keyspace.old at.now }
     ensures count { result ≡ removed (sight B.blocks keyspace.old at.now) keys.now }
     ensures few { result < 2 ^ 63 }
     ensures world { sight B.blocks keyspace.new at.now ≡ remove_all (sight B.blocks keyspace.old at.now) keys.now }
-    ensures held { Held B.blocks B.step keyspace.old keyspace.new }
+    ensures held { Held B.blocks B.step (no_key at.now.db) keyspace.old keyspace.new }
 {
     let mut count: u64 = 0;
     let mut rest = keys;
@@ -43,7 +43,6 @@ fn remove_keys<B: BlockStore>(keyspace: &mut Keyspace<B>, at: &Ctx, keys: &[Byte
 }
 
 /// `DEL key..`: how many of the keys were there, and are removed.
-#[tactic(auto, using(keyspace::proofs::Serving::nothing))]
 pub fn del<B: BlockStore>(
     keyspace: &mut Keyspace<B>,
     at: &Ctx,
@@ -51,14 +50,13 @@ pub fn del<B: BlockStore>(
 ) -> Result<Reply, Memory>
     requires ready { Ready B.blocks keyspace.old at.now }
     ensures gives { Gives B.blocks keyspace.old keyspace.new at.now (commands.Del keys.now) result }
-    ensures kept { Kept B.blocks B.step keyspace.old keyspace.new result }
+    ensures kept { Kept B.blocks B.step (no_key at.now.db) keyspace.old keyspace.new result }
 {
     let count = remove_keys(keyspace, at, keys);
     count_reply(keyspace.alloc(), count)
 }
 
 /// `UNLINK key..`: how many of the keys were there, and are removed, as by DEL.
-#[tactic(auto, using(keyspace::proofs::Serving::nothing))]
 pub fn unlink<B: BlockStore>(
     keyspace: &mut Keyspace<B>,
     at: &Ctx,
@@ -66,7 +64,7 @@ pub fn unlink<B: BlockStore>(
 ) -> Result<Reply, Memory>
     requires ready { Ready B.blocks keyspace.old at.now }
     ensures gives { Gives B.blocks keyspace.old keyspace.new at.now (commands.Unlink keys.now) result }
-    ensures kept { Kept B.blocks B.step keyspace.old keyspace.new result }
+    ensures kept { Kept B.blocks B.step (no_key at.now.db) keyspace.old keyspace.new result }
 {
     let count = remove_keys(keyspace, at, keys);
     count_reply(keyspace.alloc(), count)

@@ -1,7 +1,12 @@
 use Rattle.std.proofs.Common.{[], arith}
-use Rattle.keyspace.proofs.Serving.{both}
+use Rattle.keyspace.proofs.Serving.{both, unmoved, further}
+use Rattle.held.proofs.Within.{within_wider}
+use Rattle.keyspace.specs.Values.{value_refs}
+use Rattle.keyspace.specs.Scopes.{all_keys, everything}
 use Rattle.keyspace.proofs.Calls.{settings_then}
 use Rattle.cmd_keys.proofs.Emptying.{one_emptied, all_emptied}
+use Rattle.keyspace.proofs.Running.{same_settings}
+use Rattle.blocks.specs.Blocks.{no_step}
 use Rattle.cmd_keys.proofs.connection.clear_all.Goals as goal
 
 pub loop-db-preserved : goal.loop-db-preserved
@@ -10,7 +15,12 @@ loop-db-preserved g c = record {
   sound = c.clear.ensures.sound [] c.loop-db.invariant.sound;
   served = both g.B.BlockStore.step _ _ _ c.loop-db.invariant.served c.clear.ensures.served;
   settings = settings_then _ _ _ c.loop-db.invariant.settings c.clear.ensures.settings;
+  within = further everything _ _ _ _ _ _ c.loop-db.invariant.within (within_wider value_refs (all_keys c.loop-db.db) everything (λ n here. tt) (λ n key no. no) (λ n here. tt) c.loop-db.keyspace.bases c.clear.new.self.bases _ _ c.clear.ensures.within);
 }
 
 pub returns-clause-world : goal.returns-clause-world
 returns-clause-world g c = all_emptied c.args.at.now c.loop-db.keyspace.bases _ c.loop-db.invariant.sound.arranged.sixteen c.loop-db.db (omega arith) c.loop-db.invariant.empty
+
+pub loop-db-init : goal.loop-db-init
+loop-db-init g c =
+    record { empty = λ number below. absurd (omega (arith, below)); sound = c.requires.ready.sound; served = no_step; within = unmoved everything c.args.keyspace.now.bases (g.B.BlockStore.blocks c.args.keyspace.now.store); settings = same_settings c.args.keyspace.now.bases }

@@ -10,4 +10,5 @@ returns-clause-held g c = record {
   sound = c.clear.ensures.sound [] c.requires.ready.sound;
   served = c.clear.ensures.served;
   settings = c.clear.ensures.settings;
+  within = c.clear.ensures.within;
 }

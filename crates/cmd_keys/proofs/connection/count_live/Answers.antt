@@ -17,4 +17,5 @@ returns-clause-held g c = record {
   sound = c.purge.ensures.sound [] c.requires.ready.sound;
   served = c.purge.ensures.served;
   settings = c.purge.ensures.settings;
+  within = c.purge.ensures.within;
 }

@@ -1,6 +1,8 @@
 use Rattle.std.proofs.Common.{refl, sym}
 use Rattle.keyspace.specs.Commands.{seen}
 use Rattle.cmd_keys.proofs.Copying.{copy_done, copy_stopped}
+use Rattle.keyspace.proofs.Running.{unchanged}
+use Rattle.keyspace.specs.Scopes.{two_keys, number_or}
 use Rattle.cmd_keys.proofs.keys.copying.copy.Goals as goal
 
 pub returns-then-is_taken-clause-gives : goal.returns-then-is_taken-clause-gives
@@ -15,3 +17,15 @@ returns-clause-gives g c =
     let world = seen c.args.at.now c.args.keyspace.now.bases (blocks c.args.keyspace.now.store) in
     copy_done world c.args.from.now c.args.to.now c.args.options c.number_of-number.result (c.number_of-number.ensures.number world refl) (seen c.args.at.now c.copy_to.new.keyspace.bases (blocks c.copy_to.new.keyspace.store)) c.count_reply-2.result
     (sym c.if-is_same_place.ensures) (sym c.if-not-is_there.ensures) (sym c.if-is_taken.ensures) c.in_ok-copy_to.ensures.world c.count_reply-2.ensures
+
+pub returns-then-is_same_place-clause-kept : goal.returns-then-is_same_place-clause-kept
+returns-then-is_same_place-clause-kept g c =
+    unchanged g.B.BlockStore.blocks g.B.BlockStore.step (two_keys c.args.at.now.db c.args.from.now (number_or c.args.at.now.db c.args.options.db) c.args.to.now) c.args.keyspace.now _ c.requires.ready.sound
+
+pub returns-then-not-is_there-clause-kept : goal.returns-then-not-is_there-clause-kept
+returns-then-not-is_there-clause-kept g c =
+    unchanged g.B.BlockStore.blocks g.B.BlockStore.step (two_keys c.args.at.now.db c.args.from.now (number_or c.args.at.now.db c.args.options.db) c.args.to.now) c.args.keyspace.now _ c.requires.ready.sound
+
+pub returns-then-is_taken-clause-kept : goal.returns-then-is_taken-clause-kept
+returns-then-is_taken-clause-kept g c =
+    unchanged g.B.BlockStore.blocks g.B.BlockStore.step (two_keys c.args.at.now.db c.args.from.now (number_or c.args.at.now.db c.args.options.db) c.args.to.now) c.args.keyspace.now _ c.requires.ready.sound

@@ -3,7 +3,7 @@ use Rattle.blocks.proofs.Serve.{Served-then}
 use Rattle.plain_world.specs.Worlds.{deadline_of}
 use Rattle.keyspace.specs.Values.{value_refs}
 use Rattle.keyspace.proofs.Calls.{settings_then}
-use Rattle.cmd_keys.proofs.Copying.{copied_put, on_ok_so}
+use Rattle.cmd_keys.proofs.Copying.{copied_put, copied_within, first_within, on_ok_so}
 use Rattle.cmd_keys.proofs.keys.copying.copy_to.Goals as goal
 
 pub returns-in-Ok-clause-world : goal.returns-in-Ok-clause-world
@@ -19,4 +19,13 @@ returns-in-Ok-clause-held g c = record {
   sound = c.put.ensures.sound (value_refs c.in-Ok.value) [] c.in-Ok.ensures.sound (λ r. omega arith);
   served = Served-then _ _ _ c.copy_value.ensures.served c.put.ensures.served;
   settings = settings_then c.args.keyspace.now.bases c.copy_value.new.keyspace.bases c.put.new.self.bases c.copy_value.ensures.settings c.put.ensures.settings;
+  within = copied_within c.args.at.now.db c.args.from.now c.args.number c.args.to.now c.args.keyspace.now.bases c.copy_value.new.keyspace.bases c.put.new.self.bases (g.B.BlockStore.blocks c.args.keyspace.now.store) (g.B.BlockStore.blocks c.copy_value.new.keyspace.store) (g.B.BlockStore.blocks c.put.new.self.store) c.copy_value.ensures.within c.put.ensures.within;
+}
+
+pub returns-in-Err-clause-held : goal.returns-in-Err-clause-held
+returns-in-Err-clause-held g c = record {
+  sound = c.in-Err.ensures.err;
+  served = c.copy_value.ensures.served;
+  settings = c.copy_value.ensures.settings;
+  within = first_within c.args.at.now.db c.args.from.now c.args.number c.args.to.now c.args.keyspace.now.bases c.copy_value.new.keyspace.bases (g.B.BlockStore.blocks c.args.keyspace.now.store) (g.B.BlockStore.blocks c.copy_value.new.keyspace.store) c.copy_value.ensures.within;
 }

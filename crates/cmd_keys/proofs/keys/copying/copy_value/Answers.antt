@@ -1,6 +1,6 @@
 use Rattle.std.proofs.Common.{[], ap}
 use Rattle.keyspace.specs.Values.{value_refs}
-use Rattle.cmd_keys.proofs.Copying.{copy_changed, err_changed, copy_intact, copy_sound, copy_means}
+use Rattle.cmd_keys.proofs.Copying.{copy_changed, err_changed, copy_intact, copy_sound, copy_within, copy_means}
 use Rattle.cmd_keys.proofs.keys.copying.copy_value.Goals as goal
 
 pub lower-requires-clause-intact : goal.lower-requires-clause-intact
@@ -32,3 +32,15 @@ returns-in-Err-clause-err g c =
     copy_sound c.args.keyspace.now.bases c.lift.new.self.bases (g.B.BlockStore.blocks c.args.keyspace.now.store) (g.B.BlockStore.blocks c.lift.new.self.store) (g.B.BlockStore.blocks c.copy-copied.new.store) c.args.at.now.db c.args.at.now.moment c.args.key.now c.in-Some.lifted []
     (ap g.B.BlockStore.blocks c.in-Some.ensures.store) c.in-Some.ensures.lifts (c.in-Some.ensures.sound [] c.requires.ready.sound) (err_changed (g.B.BlockStore.blocks c.lift.new.self.store) (g.B.BlockStore.blocks c.copy-copied.new.store) c.in-Err.ensures.err)
     c.lower.new.self.bases (g.B.BlockStore.blocks c.lower.new.self.store) (ap g.B.BlockStore.blocks c.lower.ensures.store) c.lower.ensures.sound
+
+pub returns-in-Ok-clause-within : goal.returns-in-Ok-clause-within
+returns-in-Ok-clause-within g c =
+    copy_within c.args.keyspace.now.bases c.lift.new.self.bases (g.B.BlockStore.blocks c.args.keyspace.now.store) (g.B.BlockStore.blocks c.lift.new.self.store) (g.B.BlockStore.blocks c.copy-copied.new.store) c.args.at.now.db c.args.at.now.moment c.args.key.now c.in-Some.lifted (value_refs c.in-Ok.value)
+    (ap g.B.BlockStore.blocks c.in-Some.ensures.store) c.in-Some.ensures.lifts (c.in-Some.ensures.sound [] c.requires.ready.sound) c.in-Ok.ensures.changes
+    c.lower.new.self.bases (g.B.BlockStore.blocks c.lower.new.self.store) (ap g.B.BlockStore.blocks c.lower.ensures.store) c.in-Some.ensures.within c.lower.ensures.within
+
+pub returns-in-Err-clause-within : goal.returns-in-Err-clause-within
+returns-in-Err-clause-within g c =
+    copy_within c.args.keyspace.now.bases c.lift.new.self.bases (g.B.BlockStore.blocks c.args.keyspace.now.store) (g.B.BlockStore.blocks c.lift.new.self.store) (g.B.BlockStore.blocks c.copy-copied.new.store) c.args.at.now.db c.args.at.now.moment c.args.key.now c.in-Some.lifted []
+    (ap g.B.BlockStore.blocks c.in-Some.ensures.store) c.in-Some.ensures.lifts (c.in-Some.ensures.sound [] c.requires.ready.sound) (err_changed (g.B.BlockStore.blocks c.lift.new.self.store) (g.B.BlockStore.blocks c.copy-copied.new.store) c.in-Err.ensures.err)
+    c.lower.new.self.bases (g.B.BlockStore.blocks c.lower.new.self.store) (ap g.B.BlockStore.blocks c.lower.ensures.store) c.in-Some.ensures.within c.lower.ensures.within

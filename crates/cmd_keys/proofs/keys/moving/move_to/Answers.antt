@@ -10,7 +10,7 @@ returns-in-Ok-clause-world g c =
     c.args.at.now.moment c.args.from.now c.args.to.now c.args.number entry seen (c.in-Ok.ensures.means c.requires.apart)
 
 pub returns-in-Ok-clause-held : goal.returns-in-Ok-clause-held
-returns-in-Ok-clause-held g c = record { sound = c.rename.ensures.sound [] c.requires.ready.sound; served = c.rename.ensures.served; settings = c.rename.ensures.settings }
+returns-in-Ok-clause-held g c = record { sound = c.rename.ensures.sound [] c.requires.ready.sound; served = c.rename.ensures.served; settings = c.rename.ensures.settings; within = c.rename.ensures.within }
 
 pub returns-in-Err-clause-held : goal.returns-in-Err-clause-held
-returns-in-Err-clause-held g c = record { sound = c.rename.ensures.sound [] c.requires.ready.sound; served = c.rename.ensures.served; settings = c.rename.ensures.settings }
+returns-in-Err-clause-held g c = record { sound = c.rename.ensures.sound [] c.requires.ready.sound; served = c.rename.ensures.served; settings = c.rename.ensures.settings; within = c.rename.ensures.within }

@@ -14,4 +14,5 @@ returns-clause-held g c = record {
   sound = c.drop_key.ensures.sound [] c.requires.ready.sound;
   served = c.drop_key.ensures.served;
   settings = c.drop_key.ensures.settings;
+  within = c.drop_key.ensures.within;
 }

@@ -4,6 +4,7 @@ use Rattle.plain_model.specs.KeySteps.{removed, remove_all}
 use Rattle.keyspace.specs.Databases.{SameSettings}
 use Rattle.keyspace.specs.Sound.{Sound}
 use Rattle.keyspace.specs.Commands.{seen}
+use Rattle.keyspace.specs.Scopes.{no_key, Within}
 use Rattle.cmd_keys.proofs.keys.removing.remove_keys.Given as goal
 
 abbrev pub invariant-keys : goal.invariant-keys
@@ -17,6 +18,7 @@ invariant-keys g l =
       world : remove_all world l.rest ≡ remove_all first l.keys;
       sound : Sound l.keyspace.bases (blocks l.keyspace.store);
       served : Served g.B.BlockStore.step l.fn.keyspace.store l.keyspace.store;
+      within : Within (no_key l.at.db) l.fn.keyspace.bases l.keyspace.bases (blocks l.fn.keyspace.store) (blocks l.keyspace.store);
       settings : SameSettings l.fn.keyspace.bases l.keyspace.bases;
     }
 

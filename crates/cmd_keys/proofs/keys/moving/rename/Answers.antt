@@ -1,0 +1,7 @@
+use Rattle.keyspace.proofs.Running.{unchanged}
+use Rattle.keyspace.specs.Scopes.{two_keys}
+use Rattle.cmd_keys.proofs.keys.moving.rename.Goals as goal
+
+pub returns-then-not-is_there-clause-kept : goal.returns-then-not-is_there-clause-kept
+returns-then-not-is_there-clause-kept g c =
+    unchanged g.B.BlockStore.blocks g.B.BlockStore.step (two_keys c.args.at.now.db c.args.from.now c.args.at.now.db c.args.to.now) c.args.keyspace.now _ c.requires.ready.sound
