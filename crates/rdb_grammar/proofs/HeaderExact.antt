@@ -2,6 +2,7 @@
 use Rattle.std.proofs.Common.{◌≡◌, ◌⊎◌, inl, inr, ℕ, ◌+◌, Bool, true, false, cond, List, [], ◌∷◌, ◌++◌, length, take, Result, Ok, Err, refl, sym, ap, ◌∙◌, arith}
 use Rattle.std.proofs.lemmas.List.{length-append, take_at, take_all}
 use Rattle.std.proofs.Math.Seq.{take-nil}
+use Rattle.std.specs.Int.{w64}
 use Rattle.std.specs.Cmp.Lexicographic.{pointwise, same_text}
 use Rattle.std.specs.Prelude.{nat_eq}
 use Rattle.rdb_grammar.specs.declared.fault.LoadKind.TheVariants as kinds
@@ -65,7 +66,7 @@ pub header-exact : Exact header
 header-exact = followed-exact _ _ magic-exact λ text. checked-exact _ _ _ _ (some_bytes-exact 4)
 
 pub sum_field-exact : (before : List ℕ) → Exact (sum_field before)
-sum_field-exact before = checked-exact _ _ _ _ number_le-exact
+sum_field-exact before = checked-exact _ _ _ _ (number_le-exact w64)
 
 pub next_in-exact : (state : State) → Exact (next_in state)
 next_in-exact state = checked-exact _ _ _ _ item-exact

@@ -4,3 +4,4 @@ pub mod Standing
 pub mod HeaderExact
 pub mod Loading
 pub mod OneWorld
+pub mod Fitting

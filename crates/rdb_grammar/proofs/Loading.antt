@@ -39,6 +39,10 @@ pub begins : (bytes text : List ℕ) (moment next : ℕ) → Stands header text 
 unfolding Items
 begins bytes text moment next s = record { version = text; first = next; items = []; begun = s; itemised = (refl, refl) }
 
+pub begins_items : (bytes text : List ℕ) (moment next : ℕ) (s : Stands header text bytes 0 next) → (begins bytes text moment next s).items ≡ []
+unfolding begins
+begins_items bytes text moment next s = refl
+
 pub goes_on : (bytes : List ℕ) (moment at : ℕ) (state : State) (x : Item) (next : ℕ) → Reached bytes moment at state → Stands item x bytes at next → is_end x ≡ false → is_fresh state x ≡ true → Reached bytes moment next (after moment state x)
 goes_on bytes moment at state x next r s e fresh = record {
   version = r.version;
@@ -48,8 +52,16 @@ goes_on bytes moment at state x next r s e fresh = record {
   itemised = more bytes moment r.items r.first new_state at state x next r.itemised (taken state x bytes at next s fresh) e;
 }
 
+pub goes_on_items : (bytes : List ℕ) (moment at : ℕ) (state : State) (x : Item) (next : ℕ) (r : Reached bytes moment at state) (s : Stands item x bytes at next) (e : is_end x ≡ false) (fresh : is_fresh state x ≡ true) → (goes_on bytes moment at state x next r s e fresh).items ≡ r.items ++ x ∷ []
+unfolding goes_on
+goes_on_items bytes moment at state x next r s e fresh = refl
+
 pub is_file : (bytes : List ℕ) (moment at : ℕ) (state : State) (ended sum next : ℕ) → Reached bytes moment at state → Stands item End bytes at ended → Stands (sum_field (take ended bytes)) sum bytes ended next → IsFile bytes moment (file_world state)
 is_file bytes moment at state ended sum next r e s = record { at = at; state = state; ended = ended; sum = sum; next = next; reached = r; ends = e; summed = s; means = refl }
+
+pub is_file_items : (bytes : List ℕ) (moment at : ℕ) (state : State) (ended sum next : ℕ) (r : Reached bytes moment at state) (e : Stands item End bytes at ended) (s : Stands (sum_field (take ended bytes)) sum bytes ended next) → (is_file bytes moment at state ended sum next r e s).reached.items ≡ r.items
+unfolding is_file
+is_file_items bytes moment at state ended sum next r e s = refl
 
 pub header_fault : (bytes : List ℕ) (moment : ℕ) (which : LoadKind) (place : ℕ) → Fails header bytes 0 which place → IsFault bytes moment which place
 header_fault bytes moment which place f = InHeader f

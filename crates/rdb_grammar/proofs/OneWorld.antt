@@ -4,11 +4,13 @@ use Rattle.std.proofs.lemmas.List.{length-drop}
 use Rattle.plain_world.specs.Worlds.{World}
 use Rattle.rdb_grammar.specs.declared.fault.LoadKind.{LoadKind}
 use Rattle.rdb_grammar.specs.declared.fault.LoadKind.TheVariants as kinds
-use Rattle.rdb_grammar.specs.Format.{Fault, ◌>>=◌}
+use Rattle.rdb_grammar.specs.Format.{Fault, Format, ◌>>=◌}
 use Rattle.rdb_grammar.specs.Items.{Item, Passed, Deadline, Database, End, Key, item}
 use Rattle.rdb_grammar.specs.Places.{Stands}
 use Rattle.rdb_grammar.specs.Files.{header, State, new_state, is_end, after, file_world, next_in, Items, Reached, sum_field, IsFile, IsFault, InHeader, InItem, InSum, ExactlyOne}
 use Rattle.rdb_grammar.proofs.HeaderExact.{header-exact, sum_field-exact, next_in-exact}
+use Rattle.rdb_grammar.proofs.PartsExact.{item-exact}
+use Rattle.rdb_grammar.proofs.Exactly.{Exact, ok_parts}
 use Rattle.rdb_grammar.proofs.Standing.{reads, reads_fault, found, broken}
 use Rattle.rdb_grammar.proofs.Loading.{longer, taken, inside, begins, goes_on, is_file}
 
@@ -182,11 +184,47 @@ err_fault d c e = cc
 apart : (a : World) (d : Fault) → world_ok a ≡ fault_err d → ⊥
 apart a d e = absurd cc
 
+-- one part stands at a place
+one_part : {A : Type 0} (one : Format A) → Exact one → (x y : A) (bytes : List ℕ) (at next last : ℕ) → Stands one x bytes at next → Stands one y bytes at last → (x ≡ y) × (next ≡ last)
+one_part one e x y bytes at next last s t =
+    let same = ok_parts x y (drop next bytes) (drop last bytes) (sym (reads one e x bytes at next s) ∙ reads one e y bytes at last t) in
+    let left : length (drop next bytes) ≡ length (drop last bytes) = ap length same.1 in
+    let first : next ≤ length bytes = s.inside in
+    let second : last ≤ length bytes = t.inside in
+    (same.0, omega (arith, left, length-drop next bytes, length-drop last bytes))
+
+-- no item stands where the end does
+past_end : (x : Item) (bytes : List ℕ) (state : State) (at next ended : ℕ) → Stands item End bytes at ended → Stands (next_in state) x bytes at next → is_end x ≡ false → ⊥
+past_end x bytes state at next ended e s more =
+    let same : End ≡ x = (one_part item item-exact End x bytes at ended next e (plain state x bytes at next s)).0 in
+    let both : true ≡ false = ap is_end same ∙ more in
+    cc
+
+-- up to the end one list of items stands
+one_items : (bytes : List ℕ) (moment : ℕ) (xs ys : List Item) (at to last ended past : ℕ) (old new other : State)
+    → Items bytes moment xs at old to new → Stands item End bytes to ended → Items bytes moment ys at old last other → Stands item End bytes last past → xs ≡ ys
+unfolding Items
+one_items bytes moment [] [] at to last ended past old new other h e k f = refl
+one_items bytes moment [] (y ∷ ys) at to last ended past old new other h e k f = absurd (past_end y bytes old at k.0 ended (subst (λ a. Stands item End bytes a ended) h.0 e) k.1 k.2)
+one_items bytes moment (x ∷ xs) [] at to last ended past old new other h e k f = absurd (past_end x bytes old at h.0 past (subst (λ a. Stands item End bytes a past) k.0 f) h.1 h.2)
+one_items bytes moment (x ∷ xs) (y ∷ ys) at to last ended past old new other h e k f =
+    let same = one_part item item-exact x y bytes at h.0 k.0 (plain old x bytes at h.0 h.1) (plain old y bytes at k.0 k.1) in
+    let P : ℕ → Item → Type 0 = λ n z. Items bytes moment ys n (after moment old z) last other in
+    let rest = subst (λ n. P n x) (sym same.1) (subst (P k.0) (sym same.0) k.3) in
+    ap (λ z. x ∷ z) (one_items bytes moment xs ys h.0 to last ended past (after moment old x) new other h.3 e rest f) ∙ ap (λ z. z ∷ ys) same.0
+
+one_list : (bytes : List ℕ) (moment : ℕ) (a b : World) (f : IsFile bytes moment a) (g : IsFile bytes moment b) → f.reached.items ≡ g.reached.items
+one_list bytes moment a b f g =
+    let begun = one_part header header-exact f.reached.version g.reached.version bytes 0 f.reached.first g.reached.first f.reached.begun g.reached.begun in
+    let same = subst (λ n. Items bytes moment g.reached.items n new_state g.at g.state) (sym begun.1) g.reached.itemised in
+    one_items bytes moment f.reached.items g.reached.items f.reached.first f.at g.at f.ended g.ended new_state f.state g.state f.reached.itemised f.ends same g.ends
+
 pub exactly_one : (bytes : List ℕ) (moment : ℕ) → ExactlyOne bytes moment
 exactly_one bytes moment = record {
   either = by_header bytes moment _ refl;
   not_both = λ world which place f g. apart world (which, length bytes - place) (agree bytes moment _ _ (file_settles bytes moment world f) (fault_settles bytes moment which place g));
   one_world = λ a b f g. ok_world a b (agree bytes moment _ _ (file_settles bytes moment a f) (file_settles bytes moment b g));
+  one_list = one_list bytes moment;
   one_fault = λ k l m n f g.
       let e = err_fault (k, length bytes - m) (l, length bytes - n) (agree bytes moment _ _ (fault_settles bytes moment k m f) (fault_settles bytes moment l n g)) in
       let left : length bytes - m ≡ length bytes - n = ap (λ (q : Fault). q.1) e in

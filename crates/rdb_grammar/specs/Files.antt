@@ -1,6 +1,7 @@
 -- A whole file, and what it means (RDB file format, "High level algorithm to parse RDB").
 use Rattle.std.specs.Prelude.{◌≡◌, ◌⊎◌, ℕ, Bool, true, false, Option, Some, None, is_none, List, [], ◌∷◌, length, take, Err, nat_eq, bytes_eq, codes, ◌||◌, ◌==◌, if◌then◌else◌}
 use Rattle.std.specs.Cmp.Lexicographic.{pointwise}
+use Rattle.std.specs.Int.{w64}
 use Rattle.digests.specs.Crc.{crc_of}
 use Rattle.plain_world.specs.Worlds.{World, Value, new_world, in_time, look, put}
 use Rattle.rdb_grammar.specs.declared.fault.LoadKind.{LoadKind}
@@ -105,7 +106,7 @@ abbrev pub is_sum : List ℕ → ℕ → Bool
 is_sum before n = if n == 0 then true else n == crc_of 0 before
 
 abbrev pub sum_field : List ℕ → Format ℕ
-sum_field before = checked kinds.Checksum 0 (is_sum before) number_le
+sum_field before = checked kinds.Checksum 0 (is_sum before) (number_le w64)
 
 -- The bytes are a file of the world, loaded at the moment: a header, items, the end, a checksum field, and any rest.
 pub record IsFile (bytes : List ℕ) (moment : ℕ) (world : World) : Type 0 where
@@ -125,9 +126,10 @@ pub data IsFault (bytes : List ℕ) (moment : ℕ) (kind : LoadKind) (place : �
   InItem : (at : ℕ) (state : State) → Reached bytes moment at state → Fails (next_in state) bytes at kind place → IsFault bytes moment kind place
   InSum : (at ended : ℕ) (state : State) → Reached bytes moment at state → Stands item End bytes at ended → Fails (sum_field (take ended bytes)) bytes ended kind place → IsFault bytes moment kind place
 
--- a file of one world, or of one first fault
+-- a file of one world and one list of items, or of one first fault
 pub record ExactlyOne (bytes : List ℕ) (moment : ℕ) : Type 0 where
   pub either : ((world : World) × IsFile bytes moment world) ⊎ ((kind : LoadKind) × (place : ℕ) × IsFault bytes moment kind place)
   pub not_both : (world : World) (kind : LoadKind) (place : ℕ) → IsFile bytes moment world → IsFault bytes moment kind place → ⊥
   pub one_world : (a b : World) → IsFile bytes moment a → IsFile bytes moment b → a ≡ b
+  pub one_list : (a b : World) (f : IsFile bytes moment a) (g : IsFile bytes moment b) → f.reached.items ≡ g.reached.items
   pub one_fault : (k l : LoadKind) (m n : ℕ) → IsFault bytes moment k m → IsFault bytes moment l n → (k ≡ l) × (m ≡ n)

@@ -9,9 +9,9 @@ use Rattle.rdb_grammar.specs.Format.{Format, give, some_bytes, followed, Branch,
 abbrev pub number : Width → Format ℕ
 number w = followed (some_bytes (byte_len w)) λ bytes. give (from_be_bytes w bytes)
 
--- a number of 64 bits, lowest byte first
-abbrev pub number_le : Format ℕ
-number_le = followed (some_bytes (byte_len w64)) λ bytes. give (from_le_bytes w64 bytes)
+-- a number, lowest byte first
+abbrev pub number_le : Width → Format ℕ
+number_le w = followed (some_bytes (byte_len w)) λ bytes. give (from_le_bytes w bytes)
 
 -- A length by its first byte: top bits 00, its low six bits; 01, 14 bits, high bits first; 80 and 81, 32 and 64 bits that
 -- follow, highest byte first. No other byte begins a length.

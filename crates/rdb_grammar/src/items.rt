@@ -1,14 +1,16 @@
 //! Items: what stands behind an opcode or the type of a value.
 
 ghost use Rattle.std.specs.Prelude.{◌≡◌, ℕ, List};
-ghost use Rattle.rdb_grammar.specs.Format.{branch_read};
+ghost use Rattle.rdb_grammar.specs.Format.{Refuses, branch_read};
 ghost use Rattle.rdb_grammar.specs.Items.{key_with, item_behind as item_behind_of, item};
 ghost use Rattle.rdb_grammar.specs.Values.{string_value};
 ghost use Rattle.rdb_grammar.specs.Views.{item_of as item_seen};
 ghost use Rattle.rdb_grammar.specs.Gives.{Gives};
 
 use crate::fault::{LoadKind, Refused};
-use crate::lengths::length_of;
+use crate::opcodes::{
+    database, deadline_in_ms, deadline_in_seconds, frequency, idle_time, name_and_text, sizes,
+};
 use crate::strings::{Chunk, string_of};
 use crate::values::{FileValue, text_value};
 
@@ -39,29 +41,34 @@ fn text_item_of(bytes: &[u8]) -> Result<(Meaning<'_>, &[u8]), Refused>
     Ok((Meaning::Key { name, value }, rest))
 }
 
+// The byte before these is refused.
+fn refused(kind: LoadKind, rest: &[u8]) -> Result<(Meaning<'_>, &[u8]), Refused>
+    ensures { Gives (λ x. (item_seen x.0, x.1.now)) result (branch_read (Refuses kind) rest.now) }
+{
+    Err(Refused {
+        kind,
+        left: rest.len() + 1,
+    })
+}
+
 fn item_behind(first: u8, rest: &[u8]) -> Result<(Meaning<'_>, &[u8]), Refused>
     ensures { Gives (λ x. (item_seen x.0, x.1.now)) result (branch_read (item_behind_of first) rest.now) }
 {
-    if first == 254 {
-        let (number, after) = length_of(rest)?;
-        if number != 0 {
-            return Err(Refused {
-                kind: LoadKind::Database,
-                left: rest.len(),
-            });
-        }
-        return Ok((Meaning::Database(0), after));
+    match first {
+        0 => text_item_of(rest),
+        248 => idle_time(rest),
+        249 => frequency(rest),
+        250 => name_and_text(rest),
+        251 => sizes(rest),
+        252 => deadline_in_ms(rest),
+        253 => deadline_in_seconds(rest),
+        254 => database(rest),
+        255 => Ok((Meaning::End, rest)),
+        3 | 9 | 10 | 12 | 13 | 14 => refused(LoadKind::OldKind, rest),
+        6 | 7 | 247 => refused(LoadKind::Module, rest),
+        245 | 246 => refused(LoadKind::Functions, rest),
+        _ => refused(LoadKind::Kind, rest),
     }
-    if first == 255 {
-        return Ok((Meaning::End, rest));
-    }
-    if first == 0 {
-        return text_item_of(rest);
-    }
-    Err(Refused {
-        kind: LoadKind::Kind,
-        left: rest.len() + 1,
-    })
 }
 
 /// The item that the bytes begin with.

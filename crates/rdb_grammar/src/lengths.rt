@@ -54,8 +54,18 @@ fn u64_at(bytes: &[u8]) -> Result<(u64, &[u8]), Refused>
     Ok((number, rest))
 }
 
+pub(crate) fn u32_le_at(bytes: &[u8]) -> Result<(u32, &[u8]), Refused>
+    ensures { Gives (λ x. (x.0, x.1.now)) result ((number_le w32).read bytes.now) }
+{
+    let (front, rest) = part_of(bytes, 4)?;
+    Ok((
+        u32::from_le_bytes([front[0], front[1], front[2], front[3]]),
+        rest,
+    ))
+}
+
 pub(crate) fn u64_le_at(bytes: &[u8]) -> Result<(u64, &[u8]), Refused>
-    ensures { Gives (λ x. (x.0, x.1.now)) result (number_le.read bytes.now) }
+    ensures { Gives (λ x. (x.0, x.1.now)) result ((number_le w64).read bytes.now) }
 {
     let (front, rest) = part_of(bytes, 8)?;
     let number = u64::from_le_bytes([

@@ -6,6 +6,7 @@ mod file;
 mod items;
 mod lengths;
 mod next;
+mod opcodes;
 mod strings;
 mod values;
 

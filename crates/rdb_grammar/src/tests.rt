@@ -65,22 +65,134 @@ fn headers_are_refused_at_the_byte_that_settles_it(rt: HostRuntime) {
     }
 }
 
+// An item of one opcode, what it says, and the offset behind it.
+struct Told(&'static [u8], Wanted, usize);
+
+// What is told of an item that is no key.
+#[derive(Clone, Copy)]
+enum Wanted {
+    Passed,
+    Deadline(u64),
+    Database(usize),
+}
+
+const OPCODES: [Told; 18] = [
+    Told(&[248, 0], Wanted::Passed, 2),
+    Told(&[248, 0x7f, 0xff, 9], Wanted::Passed, 3),
+    Told(&[248, 0x81, 0, 0, 0, 0, 0, 0, 0, 1], Wanted::Passed, 10),
+    Told(&[249, 255], Wanted::Passed, 2),
+    // a name with a text, and two numbers
+    Told(b"\xfa\x01n\x02tt", Wanted::Passed, 6),
+    Told(b"\xfa\xc0\x05\xc2\x01\x02\x03\x04", Wanted::Passed, 8),
+    Told(&[251, 5, 0x40, 2], Wanted::Passed, 4),
+    Told(&[252, 0, 0, 0, 0, 0, 0, 0, 0], Wanted::Deadline(0), 9),
+    Told(&[252, 1, 2, 0, 0, 0, 0, 0, 0], Wanted::Deadline(513), 9),
+    Told(
+        &[252, 255, 255, 255, 255, 255, 255, 255, 127],
+        Wanted::Deadline(9_223_372_036_854_775_807),
+        9,
+    ),
+    Told(&[253, 0, 0, 0, 0], Wanted::Deadline(0), 5),
+    Told(&[253, 1, 2, 0, 0], Wanted::Deadline(513_000), 5),
+    Told(
+        &[253, 255, 255, 255, 127],
+        Wanted::Deadline(2_147_483_647_000),
+        5,
+    ),
+    Told(&[254, 0], Wanted::Database(0), 2),
+    Told(&[254, 1], Wanted::Database(1), 2),
+    Told(&[254, 15], Wanted::Database(15), 2),
+    // 15 in longer forms
+    Told(&[254, 0x40, 15], Wanted::Database(15), 3),
+    Told(&[254, 0x80, 0, 0, 0, 15], Wanted::Database(15), 6),
+];
+
+#[test]
+fn each_opcode_is_told(rt: HostRuntime) -> Result<(), Fail> {
+    for Told(bytes, wanted, next) in &OPCODES {
+        let item = next_item(rt.alloc(), bytes, 0)?;
+        assert_eq!(rt; item.next, *next);
+        assert!(rt;
+            match (item.meaning, *wanted) {
+                (Meaning::Passed, Wanted::Passed) => true,
+                (Meaning::Deadline(is), Wanted::Deadline(due)) => is == due,
+                (Meaning::Database(is), Wanted::Database(due)) => is == due,
+                _ => false,
+            }
+        );
+    }
+    Ok(())
+}
+
 #[test]
 fn items_are_refused_at_the_part_that_is_at_fault(rt: HostRuntime) {
-    let rows: [(&[u8], LoadKind, u64); 9] = [
+    let rows: [(&[u8], LoadKind, u64); 31] = [
         (&[], LoadKind::Ended, 0),
-        (&[0xfe, 1], LoadKind::Database, 1),
-        (&[0xfe, 0x82], LoadKind::Length, 1),
-        (&[0xfa, 0, 0], LoadKind::Kind, 0),
+        (&[254, 16], LoadKind::Database, 1),
+        (&[254, 0x40, 16], LoadKind::Database, 1),
+        (&[254, 0x81, 1, 0, 0, 0, 0, 0, 0, 0], LoadKind::Database, 1),
+        (&[254, 0x82], LoadKind::Length, 1),
+        (&[254, 0x40], LoadKind::Ended, 2),
+        (&[248, 0xc0], LoadKind::Length, 1),
+        (&[248, 0x80, 0, 0, 0], LoadKind::Ended, 5),
+        (&[249], LoadKind::Ended, 1),
+        (&[250, 0, 0xc3], LoadKind::Compressed, 2),
+        (&[250, 0xc3, 0], LoadKind::Compressed, 1),
+        (&[250, 0xff], LoadKind::SpecialString, 1),
+        (&[250, 0, 0x80, 0x20, 0, 0, 1], LoadKind::TooLong, 2),
+        (&[250, 1, 97], LoadKind::Ended, 3),
+        (&[251, 0, 0x82], LoadKind::Length, 2),
+        (&[251, 0xff, 0], LoadKind::Length, 1),
+        (&[251, 0], LoadKind::Ended, 2),
+        (&[252, 0, 0, 0, 0, 0, 0, 0, 0x80], LoadKind::Deadline, 1),
+        (
+            &[252, 255, 255, 255, 255, 255, 255, 255, 255],
+            LoadKind::Deadline,
+            1,
+        ),
+        (&[252, 0, 0, 0, 0, 0, 0, 0], LoadKind::Ended, 8),
+        (&[253, 0, 0, 0, 0x80], LoadKind::Deadline, 1),
+        (&[253, 255, 255, 255, 255], LoadKind::Deadline, 1),
+        (&[253, 0, 0, 0], LoadKind::Ended, 4),
         (&[0, 1, 97, 0xc3], LoadKind::Compressed, 3),
         (&[0, 1, 97, 0x82], LoadKind::SpecialString, 3),
         (&[0, 0x80, 0x20, 0, 0, 1], LoadKind::TooLong, 1),
         (&[0, 0x80, 0x20, 0, 0, 0], LoadKind::Ended, 6),
         (&[0, 0x40, 2, 97], LoadKind::Ended, 4),
+        (&[245, 0], LoadKind::Functions, 0),
+        (&[247, 0, 0], LoadKind::Module, 0),
+        (&[14, 1, 97], LoadKind::OldKind, 0),
     ];
     for &(bytes, kind, at) in &rows {
         let wanted = Some(ItemFault::Refused { kind, at });
         assert_eq!(rt; next_item(rt.alloc(), bytes, 0).err(), wanted);
+    }
+}
+
+// The first and the last of some first bytes, and the fault of a file's item that has no other byte.
+const FIRST_BYTES: [(u8, u8, LoadKind, u64); 13] = [
+    (0, 0, LoadKind::Ended, 1),
+    (1, 2, LoadKind::Kind, 0),
+    (3, 3, LoadKind::OldKind, 0),
+    (4, 5, LoadKind::Kind, 0),
+    (6, 7, LoadKind::Module, 0),
+    (8, 8, LoadKind::Kind, 0),
+    (9, 10, LoadKind::OldKind, 0),
+    (11, 11, LoadKind::Kind, 0),
+    (12, 14, LoadKind::OldKind, 0),
+    (15, 244, LoadKind::Kind, 0),
+    (245, 246, LoadKind::Functions, 0),
+    (247, 247, LoadKind::Module, 0),
+    (248, 255, LoadKind::Ended, 1),
+];
+
+#[test]
+fn each_first_byte_alone_is_refused(rt: HostRuntime) {
+    for &(from, to, kind, at) in &FIRST_BYTES {
+        for first in from..=to {
+            let wanted = Some(ItemFault::Refused { kind, at });
+            assert_eq!(rt; next_item(rt.alloc(), &[first], 0).err(), wanted);
+        }
     }
 }
 

@@ -1,0 +1,68 @@
+-- What the items of a file say lies in the bounds that the code keeps.
+use Rattle.std.proofs.Common.{◌≡◌, ◌==◌, ◌||◌, ℕ, ◌*◌, ◌-◌, ◌<◌, ◌^◌, Bool, true, false, List, sym, subst, arith}
+use Rattle.std.specs.Int.{Width, w32, w64, byte_len}
+use Rattle.std.proofs.lemmas.Bool.{ltb-true}
+use Rattle.plain_world.specs.Worlds.{Value}
+use Rattle.rdb_grammar.specs.Format.{Format, give, some_bytes, followed, Branch, Goes, Refuses, BranchSpells, pick}
+use Rattle.rdb_grammar.specs.Lengths.{a_length}
+use Rattle.rdb_grammar.specs.Strings.{string}
+use Rattle.rdb_grammar.specs.Values.{value_behind}
+use Rattle.rdb_grammar.specs.Items.{Item, Passed, Deadline, Database, End, Key, keyed, passed, two, deadline_in, database, item_behind, item}
+use Rattle.rdb_grammar.specs.Places.{Stands}
+
+-- a deadline of 63 bits, and a database of 16
+abbrev Fits : Item → Type 0
+Fits Passed = Unit {0}
+Fits (Deadline n) = n < 2 ^ 63
+Fits (Database n) = n < 16
+Fits End = Unit {0}
+Fits (Key name value) = Unit {0}
+
+-- what a branch spells fits
+abbrev AllFit : Branch Item → Type 0
+AllFit branch = (x : Item) (word : List ℕ) → BranchSpells branch x word → Fits x
+
+fit_as : (x y : Item) → x ≡ y → Fits y → Fits x
+fit_as x y e f = subst Fits (sym e) f
+
+pick_fits : (test : Bool) (one other : Branch Item) → AllFit one → AllFit other → AllFit (pick test one other)
+pick_fits true one other f g = f
+pick_fits false one other f g = g
+
+passed_fits : {A : Type 0} (one : Format A) → AllFit (passed one)
+passed_fits one x word s = fit_as x Passed s.5.0 tt
+
+deadline_in_fits : (w : Width) (unit : ℕ) → ((n : ℕ) → n < 2 ^ (8 * byte_len w - 1) → n * unit < 2 ^ 63) → AllFit (Goes (deadline_in w unit))
+deadline_in_fits w unit f x word s = fit_as x (Deadline (s.0 * unit)) s.5.0 (f s.0 (ltb-true _ _ s.4.1))
+
+database_all : AllFit (Goes (followed database λ n. give (Database n)))
+database_all x word s = fit_as x (Database s.0) s.5.0 (ltb-true _ _ s.4.1)
+
+end_fits : AllFit (Goes (give End))
+end_fits x word s = fit_as x End s.0 tt
+
+keyed_fits : (branch : Branch Value) → AllFit (keyed branch)
+keyed_fits (Goes value) x word s = fit_as x (Key s.0 s.5.0) s.5.5.0 tt
+keyed_fits (Refuses is) x word s = absurd s
+
+behind_fits : (b : ℕ) → AllFit (item_behind b)
+behind_fits b =
+    pick_fits (b == 245 || b == 246) _ _ (λ x word s. absurd s)
+    (pick_fits (b == 247) _ _ (λ x word s. absurd s)
+    (pick_fits (b == 248) _ _ (passed_fits a_length)
+    (pick_fits (b == 249) _ _ (passed_fits (some_bytes 1))
+    (pick_fits (b == 250) _ _ (passed_fits (two string))
+    (pick_fits (b == 251) _ _ (passed_fits (two a_length))
+    (pick_fits (b == 252) _ _ (deadline_in_fits w64 1 (λ n lt. omega (arith, lt)))
+    (pick_fits (b == 253) _ _ (deadline_in_fits w32 1000 (λ n lt. omega (arith, lt)))
+    (pick_fits (b == 254) _ _ database_all
+    (pick_fits (b == 255) _ _ end_fits (keyed_fits (value_behind b)))))))))))
+
+item_fits : (x : Item) (bytes : List ℕ) (at next : ℕ) → Stands item x bytes at next → Fits x
+item_fits x bytes at next s = behind_fits s.spelled.0 x s.spelled.1 s.spelled.3
+
+pub deadline_fits : (n : ℕ) (bytes : List ℕ) (at next : ℕ) → Stands item (Deadline n) bytes at next → n < 2 ^ 63
+deadline_fits n = item_fits (Deadline n)
+
+pub database_fits : (n : ℕ) (bytes : List ℕ) (at next : ℕ) → Stands item (Database n) bytes at next → n < 16
+database_fits n = item_fits (Database n)
