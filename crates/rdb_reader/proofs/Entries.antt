@@ -1,7 +1,9 @@
 -- A key of a file is looked up and put.
-use Rattle.std.proofs.Common.{◌≡◌, ℕ, List, [], None, Bool, true, false, cond, arith, Result, Ok, Err, OnOk, refl, sym, ap, ◌∙◌}
+use Rattle.std.proofs.Common.{◌≡◌, ℕ, ◌+◌, List, [], None, Bool, true, false, cond, arith, Result, Ok, Err, OnOk, refl, sym, ap, ◌∙◌}
 use Rattle.std.specs.Prelude.{Option, Some, is_some, IfSome, IfNone}
-use Rattle.std.proofs.lemmas.Bool.{cond-true, le-leb}
+use Rattle.std.proofs.lemmas.Bool.{cond-true, eq-eqb, le-leb}
+use Rattle.std.specs.FinMap.{len, len-insert}
+use Rattle.std.specs.Cmp.Lexicographic.{nat_list_cmp_total}
 use Rattle.blocks.specs.Blocks.{Blocks, Changes}
 use Rattle.plain_world.specs.Worlds.{World, Value, Entry, look, put, live, in_time}
 use Rattle.keyspace.specs.declared.value.Value as code
@@ -11,13 +13,14 @@ use Rattle.keyspace.specs.Sound.{Sound}
 use Rattle.keyspace.specs.Calls.{Found}
 use Rattle.plain_world.proofs.Lives.{shown, look_live}
 use Rattle.keyspace.proofs.Uses.{Made-means}
+use Rattle.rdb_reader.specs.declared.keys.Put.TheVariants as puts
 use Rattle.rdb_reader.specs.Loads.{Puts}
 
 -- whether something stands there, by what was found
-module _ (bases : Bases) (m : Blocks) (key : List ℕ) where
+module _ (db : ℕ) (bases : Bases) (m : Blocks) (key : List ℕ) where
   -- no deadline is past at moment 0
-  at_zero : look (live (means 0 bases m) 0) key ≡ look (means 0 bases m) key
-  at_zero = look_live (means 0 bases m) 0 key ∙ all (look (means 0 bases m) key)
+  at_zero : look (live (means db bases m) 0) key ≡ look (means db bases m) key
+  at_zero = look_live (means db bases m) 0 key ∙ all (look (means db bases m) key)
     where
       lasting : (e : Entry) (d : Option ℕ) → cond (in_time 0 d) (Some e) None ≡ Some e
       lasting e None = refl
@@ -27,26 +30,49 @@ module _ (bases : Bases) (m : Blocks) (key : List ℕ) where
       all None = refl
       all (Some e) = lasting e e.deadline
 
-  pub is_found : {A : Type 0} (view : A → code.Value) (o : Option A) → IfSome o (λ a. Found bases m 0 key 0 (view a)) → IfNone o (look (live (means 0 bases m) 0) key ≡ None) → is_some o ≡ is_some (look (means 0 bases m) key)
+  pub is_found : {A : Type 0} (view : A → code.Value) (o : Option A) → IfSome o (λ a. Found bases m db key 0 (view a)) → IfNone o (look (live (means db bases m) 0) key ≡ None) → is_some o ≡ is_some (look (means db bases m) key)
   is_found view (Some a) found none = sym (ap is_some found.stands) ∙ ap is_some at_zero
   is_found view None found none = sym (ap is_some none) ∙ ap is_some at_zero
 
 -- a value that was made is put
-pub value_put : {E : Type 0} (bases : Bases) (m after : Blocks) (made : code.Value) (sound : Sound bases m) (p : Changes m after [] (values.value_refs made)) (new : Bases) (later : Blocks) (key : List ℕ) (value : Value)
+pub value_put : {E : Type 0} (db : ℕ) (bases : Bases) (m after : Blocks) (made : code.Value) (sound : Sound bases m) (p : Changes m after [] (values.value_refs made)) (new : Bases) (later : Blocks) (key : List ℕ) (value : Value) (deadline : Option ℕ)
     → values.value_of after made ≡ value → (result : Result (Unit {0}) E)
-    → OnOk result (means 0 new later ≡ put (means 0 bases after) key (record { value = values.value_of after made; deadline = None }))
-    → OnOk result (means 0 new later ≡ put (means 0 bases m) key (record { value = value; deadline = None }))
-value_put bases m after made sound p new later key value is (Ok u) h = h ∙ (λ i. put (Made-means bases m after made sound p 0 i) key (record { value = is i; deadline = None }))
-value_put bases m after made sound p new later key value is (Err e) h = tt
+    → OnOk result (means db new later ≡ put (means db bases after) key (record { value = values.value_of after made; deadline = deadline }))
+    → OnOk result (means db new later ≡ put (means db bases m) key (record { value = value; deadline = deadline }))
+value_put db bases m after made sound p new later key value deadline is (Ok u) h = h ∙ (λ i. put (Made-means bases m after made sound p db i) key (record { value = is i; deadline = deadline }))
+value_put db bases m after made sound p new later key value deadline is (Err e) h = tt
 
--- what looking said, and what was put
-module _ (old : World) (key : List ℕ) (value : Value) (there : Bool) (is : there ≡ is_some (look old key)) where
-  pub not_put : there ≡ true → Puts old old key value false
-  not_put stood = (λ none. (let e : true ≡ false = sym stood ∙ is ∙ ap is_some none in cc), refl)
+-- what looking said of a key whose deadline is past
+module _ (moment : ℕ) (old : World) (key : List ℕ) (entry : Entry) (there : Bool) (is : there ≡ is_some (look old key)) where
+  nothing : (o : Option Entry) → is_some o ≡ false → o ≡ None
+  nothing None h = refl
+  nothing (Some x) h = cc
 
-  pub is_put : there ≡ false → (new : World) → new ≡ put old key (record { value = value; deadline = None }) → Puts old new key value true
-  is_put lacked new e = (nothing (look old key) (sym is ∙ lacked), e)
-    where
-      nothing : (o : Option Entry) → is_some o ≡ false → o ≡ None
-      nothing None h = refl
-      nothing (Some x) h = cc
+  pub stood : there ≡ true → Puts moment old old key entry puts.Twice
+  stood found none = let e : true ≡ false = sym found ∙ is ∙ ap is_some none in cc
+
+  pub passed_over : there ≡ false → in_time moment entry.deadline ≡ false → Puts moment old old key entry puts.Passed
+  passed_over lacked late = (nothing (look old key) (sym is ∙ lacked), late, refl)
+
+-- what the count of keys says of a key that was put
+module _ (moment : ℕ) (old new : World) (key : List ℕ) (entry : Entry) (e : new ≡ put old key entry) where
+  abbrev pub count : ℕ
+  count = len (old.bases old.selected)
+
+  counted : (o : Option Entry) → look old key ≡ o → len (new.bases old.selected) ≡ cond (is_some o) count (count + 1)
+  counted o is =
+      ap (λ (w : World). len (w.bases old.selected)) e
+      ∙ ap len (cond-true _ _ _ (eq-eqb old.selected old.selected refl))
+      ∙ len-insert nat_list_cmp_total (old.bases old.selected) key entry
+      ∙ ap (λ o. cond (is_some o) count (count + 1)) is
+
+  module _ (before after : ℕ) (first : before ≡ count) (last : after ≡ len (new.bases old.selected)) where
+    pub put_twice : after ≡ before → Puts moment old new key entry puts.Twice
+    put_twice same none = omega (arith, first, last, same, counted None none)
+
+    pub put_once : (after ≡ before → ⊥) → in_time moment entry.deadline ≡ true → Puts moment old new key entry puts.Kept
+    put_once other in_time = (lacked (look old key) refl, in_time, e)
+      where
+        lacked : (o : Option Entry) → look old key ≡ o → o ≡ None
+        lacked None is = refl
+        lacked (Some x) is = absurd (other (last ∙ counted (Some x) is ∙ sym first))

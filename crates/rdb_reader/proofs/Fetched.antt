@@ -1,9 +1,9 @@
 -- The bytes of a file, taken piece by piece.
-use Rattle.std.proofs.Common.{◌≡◌, ℕ, ◌<◌, ◌≤◌, List, [], ◌++◌, Option, Some, None, Ok, Err, Bool, true, false, inl, inr, length, refl, sym, ap, subst, ◌∙◌, arith, length-append}
+use Rattle.std.proofs.Common.{◌≡◌, ℕ, ◌<◌, List, [], ◌++◌, Option, Some, None, Ok, Err, Bool, true, false, length, refl, sym, ap, subst, ◌∙◌, arith, length-append}
 use Rattle.std.specs.Prelude.{IsSome}
 use Rattle.std.specs.Global.{Vec}
 use Rattle.std.specs.Io.KnownBytes.{Consumes, IsAtEnd}
-use Rattle.std.proofs.lemmas.List.{append_assoc, append-nil}
+use Rattle.std.proofs.lemmas.List.{append-nil}
 use Rattle.outside.specs.Streams.{SourceSeen, TakesAll, TakesNone}
 use Rattle.outside.specs.Files.{Files, HostSeen, HasLeft, IsListed, Begins}
 use Rattle.outside.specs.declared.faults.HostFault.{HostFault}

@@ -1,9 +1,9 @@
 -- The world of a file is live at the moment of loading: a key whose deadline is past is passed over.
-use Rattle.std.proofs.Common.{◌≡◌, ℕ, Bool, true, false, cond, List, [], ◌∷◌, Option, Some, None, Ok, Err, Result, refl, sym, ap, ◌∙◌, subst}
+use Rattle.std.proofs.Common.{◌≡◌, ℕ, Bool, true, false, cond, List, [], ◌∷◌, Ok, Err, Result, refl, sym, ap, ◌∙◌, subst}
 use Rattle.plain_world.specs.Worlds.{World, Entry, new_world, in_time, live, put}
 use Rattle.plain_world.proofs.Lives.{live_none, live_put_in_time}
 use Rattle.rdb_grammar.specs.Items.{Item, Passed, Deadline, Database, End, Key}
-use Rattle.rdb_grammar.specs.Files.{State, new_state, with_key, after, file_world, Items, IsFile}
+use Rattle.rdb_grammar.specs.Files.{State, new_state, after, Items, IsFile}
 use Rattle.rdb_reader.specs.declared.fault.LoadFault.{LoadFault}
 use Rattle.rdb_reader.specs.declared.fault.LoadFault.TheVariants as faults
 use Rattle.rdb_reader.specs.declared.loading.Loaded.{Loaded}
@@ -39,7 +39,7 @@ module _ (moment : ℕ) where
 
   -- what is loaded is live
   pub loads_live : (files : Files) (name : List ℕ) (limit : ℕ) (world : World) (result : Result Loaded LoadFault) → Loads files name limit moment world result → Loads files name limit moment (live world moment) result
-  loads_live files name limit world (Ok loaded) l = subst (λ w. LoadsFile files name limit moment w loaded) (sym (file_live l.bytes world l.file)) l
+  loads_live files name limit world (Ok loaded) l = subst (λ w. LoadsFile files name limit moment w loaded) (sym (file_live l.bytes world l.read.file)) l
   loads_live files name limit world (Err (faults.Refused what at)) l = (l.0, ap (λ w. live w moment) l.1 ∙ new_live moment)
   loads_live files name limit world (Err faults.Host) l = ap (λ w. live w moment) l ∙ new_live moment
   loads_live files name limit world (Err faults.Limit) l = (l.0, ap (λ w. live w moment) l.1 ∙ new_live moment)

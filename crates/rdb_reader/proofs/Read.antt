@@ -1,141 +1,141 @@
 -- One turn of the loader.
-use Rattle.std.proofs.Common.{◌≡◌, ◌==◌, ℕ, ◌+◌, ◌≤◌, List, Option, Some, None, Err, Bool, true, false, cond, length, take, refl, sym, ap, subst, ◌∙◌}
+use Rattle.std.proofs.Common.{◌≡◌, ℕ, zero, suc, ◌+◌, ◌<◌, ◌≤◌, List, [], ◌∷◌, ◌++◌, Option, Some, None, Err, true, false, cond, inl, inr, length, take, refl, sym, ap, subst, ◌∙◌, arith, lit<}
 use Rattle.std.specs.Prelude.{is_none, is_some}
-use Rattle.std.specs.FinMap.{get, len, len-insert, len-empty}
-use Rattle.std.specs.Ordering.{nat_cmp}
+use Rattle.std.specs.FinMap.{len, len-insert, len-empty}
 use Rattle.std.specs.Cmp.Lexicographic.{slice_cmp, nat_list_cmp_total}
-use Rattle.std.proofs.lemmas.Bool.{eqb-true}
-use Rattle.plain_world.specs.Worlds.{World, Database, Entry, Value, new_world, look, put}
-use Rattle.rdb_grammar.specs.Format.{Branch, Goes, Refuses, BranchSpells, pick, followed, give}
-use Rattle.rdb_grammar.specs.Items.{Item, Passed, Deadline, Database as Base, End, Key, item, database, keyed}
-use Rattle.rdb_grammar.specs.Values.{value_behind}
-use Rattle.rdb_grammar.specs.declared.fault.LoadKind.{LoadKind}
+use Rattle.std.specs.Ordering.{nat_cmp}
+use Rattle.std.proofs.lemmas.Bool.{cases_lt, eq-eqb, ne_eqb, cond-true, cond-false}
+use Rattle.plain_world.specs.Worlds.{World, Database as Keys, Entry, Value, new_world, look, put, selecting}
+use Rattle.rdb_grammar.specs.Items.{Item, Passed, Deadline, Database, End, Key, item}
 use Rattle.rdb_grammar.specs.declared.fault.LoadKind.TheVariants as kinds
-use Rattle.rdb_grammar.specs.Places.{Stands, Fails}
-use Rattle.rdb_grammar.specs.Files.{new_state, header, after, is_fresh, with_key, file_world, sum_field, IsFile, IsFault}
-use Rattle.rdb_grammar.proofs.Loading.{begins, goes_on, longer, inside, is_file, item_fault, twice, sum_fault}
+use Rattle.rdb_grammar.specs.Places.{Stands}
+use Rattle.rdb_grammar.specs.Files.{State, Reached, header, after, is_fresh, is_end, sum_field, IsFault}
+use Rattle.rdb_grammar.proofs.Loading.{begins, begins_items, goes_on, goes_on_items, longer, is_file, is_file_items, item_fault, twice, sum_fault}
+use Rattle.rdb_grammar.proofs.Fitting.{deadline_fits, database_fits}
 use Rattle.rdb_grammar.specs.declared.fault.ItemFault.{ItemFault}
 use Rattle.rdb_grammar.specs.declared.fault.ItemFault.TheVariants as faults
 use Rattle.rdb_grammar.specs.Gives.{SaysFault}
 use Rattle.rdb_grammar.specs.Gives.IsItemFault.{OfItem, OfSum}
-use Rattle.rdb_reader.specs.Loads.{Holds, Advances, Reads, load_fault}
+use Rattle.rdb_reader.specs.declared.items.Progress.{Progress}
+use Rattle.rdb_reader.specs.declared.keys.Put.TheVariants as puts
+use Rattle.rdb_reader.specs.Loads.{keys_below, keys_of, keys_among, Puts, state_at, Holds, IsRead, Reads, load_fault}
 
--- the items that are taken: no deadline, and no database but the first
-abbrev pub IsTaken : Item → Type 0
-IsTaken Passed = Unit {0}
-IsTaken (Deadline n) = ⊥
-IsTaken (Base n) = n ≡ 0
-IsTaken End = Unit {0}
-IsTaken (Key name value) = Unit {0}
+-- ---- the counts
 
-keyed_taken : (b : Branch Value) (x : Item) (word : List ℕ) → BranchSpells (keyed b) x word → IsTaken x
-keyed_taken (Goes value) x word s = let P : Item → Type 0 = IsTaken in subst P (sym s.5.5.0) tt
-keyed_taken (Refuses is) x word s = absurd s
+among_more : (xs : List Item) (x : Item) → keys_among (xs ++ x ∷ []) ≡ keys_among xs + keys_of x
+among_more [] x = omega arith
+among_more (y ∷ ys) x = omega (arith, among_more ys x)
 
-base_taken : (x : Item) (word : List ℕ) → BranchSpells (Goes (followed database λ n. give (Base n))) x word → IsTaken x
-base_taken x word s = let P : Item → Type 0 = IsTaken in subst P (sym s.5.0) (eqb-true s.0 0 s.4.1)
+module _ (world : World) (name : List ℕ) (entry : Entry) where
+  abbrev pub db : ℕ
+  db = world.selected
 
-behind_taken : (base end : Bool) (b : Branch Value) (x : Item) (word : List ℕ) → BranchSpells (pick base (Goes (followed database λ n. give (Base n))) (pick end (Goes (give End)) (keyed b))) x word → IsTaken x
-behind_taken true end b x word s = base_taken x word s
-behind_taken false true b x word s = let P : Item → Type 0 = IsTaken in subst P (sym s.0) tt
-behind_taken false false b x word s = keyed_taken b x word s
+  abbrev pub new : ℕ → Keys
+  new = (put world name entry).bases
 
-pub item_taken : (x : Item) (bytes : List ℕ) (at next : ℕ) → Stands item x bytes at next → IsTaken x
-item_taken x bytes at next s = let w = s.spelled in behind_taken (w.0 == 254) (w.0 == 255) (value_behind w.0) x w.1 w.3
+  below : (n : ℕ) → n ≤ db → keys_below n new ≡ keys_below n world.bases
+  unfolding keys_below
+  below zero le = refl
+  below (suc n) le =
+      let other : len (new n) ≡ len (world.bases n) = ap len (cond-false _ _ _ (ne_eqb n db (λ e. absurd (omega (arith, e, le))))) in
+      omega (arith, below n (omega (arith, le)), other)
 
--- an item that puts no key
-abbrev pub IsOther : Item → Type 0
-IsOther Passed = Unit {0}
-IsOther (Deadline n) = Unit {0}
-IsOther (Base n) = Unit {0}
-IsOther End = ⊥
-IsOther (Key name value) = ⊥
+  -- a key that joins a database is one more of all
+  pub one_more : (n : ℕ) → db < n → look world name ≡ None → keys_below n new ≡ keys_below n world.bases + 1
+  unfolding keys_below
+  one_more zero lt none = absurd (omega (arith, lt))
+  one_more (suc n) lt none = elim (cases_lt db n) [
+    | inl earlier ↦
+        let other : len (new n) ≡ len (world.bases n) = ap len (cond-false _ _ _ (ne_eqb n db (λ e. absurd (omega (arith, e, earlier))))) in
+        omega (arith, one_more n earlier none, other)
+    | inr here ↦
+        let same : n ≡ db = omega (arith, here, lt) in
+        let joined : len (new n) ≡ len (world.bases n) + 1 =
+        ap len (cond-true _ _ _ (eq-eqb n db same)) ∙ len-insert nat_list_cmp_total (world.bases db) name entry ∙ ap (λ o. cond (is_some o) (len (world.bases db)) (len (world.bases db) + 1)) none ∙ ap (λ k. len (world.bases k) + 1) (sym same) in
+        omega (arith, below n (omega (arith, here)), joined)
+  ]
 
--- what a file's key puts
-abbrev pub plain : Value → Entry
-plain value = record { value = value; deadline = None }
+none_below : (n : ℕ) → keys_below n (new_world.bases) ≡ 0
+unfolding keys_below
+none_below zero = refl
+none_below (suc n) = omega (arith, none_below n, len-empty (slice_cmp nat_cmp) Entry)
 
--- the world of databases of which the first is selected
-abbrev pub at_zero : (ℕ → Database) → World
-at_zero bases = record { bases = bases; selected = 0 }
+-- ---- a turn
 
--- a key more in the first database
-pub one_more : (bases : ℕ → Database) (key : List ℕ) (value : Value) → look (at_zero bases) key ≡ None → len ((put (at_zero bases) key (plain value)).bases 0) ≡ len (bases 0) + 1
-one_more bases key value none = len-insert nat_list_cmp_total (bases 0) key (plain value) ∙ ap (λ o. cond (is_some o) (len (bases 0)) (len (bases 0) + 1)) none
+module _ (bytes : List ℕ) (moment : ℕ) (world : World) (p : Progress) (h : Holds bytes moment world p) where
+  abbrev state : State
+  state = state_at world p
 
-module _ (bytes : List ℕ) (moment at : ℕ) (bases : ℕ → Database) (h : Holds bytes moment at (at_zero bases)) where
-  -- nothing or something stands at a key
-  fresh_key : (name : List ℕ) (value : Value) → look (at_zero bases) name ≡ None → is_fresh h.state (Key name value) ≡ true
-  fresh_key name value none = ap is_none (ap (λ w. look w name) h.leads ∙ none)
+  -- an item more, with the count of its keys
+  abbrev Further : ℕ → State → ℕ → Type 0
+  Further next to count = (r : Reached bytes moment next to) × (p.keys + p.passed + count ≡ keys_among r.items)
 
-  stale_key : (name : List ℕ) (value : Value) → (look (at_zero bases) name ≡ None → ⊥) → is_fresh h.state (Key name value) ≡ false
-  stale_key name value some =
-      ap is_none (ap (λ w. look w name) h.leads) ∙ elim (get (bases 0) name) as (λ o. (o ≡ None → ⊥) → is_none o ≡ false) [ None ↦ λ e. absurd (e refl) | Some x ↦ λ e. refl ] some
+  further : (x : Item) (next : ℕ) → Stands item x bytes p.at next → is_end x ≡ false → is_fresh state x ≡ true → Further next (after moment state x) (keys_of x)
+  further x next s e fresh = (goes_on bytes moment p.at state x next h.reached s e fresh, omega (arith, h.items, among_more h.reached.items x, ap keys_among (goes_on_items bytes moment p.at state x next h.reached s e fresh)))
 
-  -- the world behind a key without a deadline, and behind the number of the first database
-  key_world : (name : List ℕ) (value : Value) → (after moment h.state (Key name value)).world ≡ put (at_zero bases) name (plain value)
-  key_world name value =
-      let P : World → Option ℕ → World = λ w t. with_key moment (record { world = w; deadline = t }) name value in
-      ap (λ w. P w h.state.deadline) h.leads ∙ ap (P (at_zero bases)) h.deadline
-
-  base_world : (n : ℕ) → n ≡ 0 → (after moment h.state (Base n)).world ≡ at_zero bases
-  base_world n z = ap (λ m. record { bases = h.state.world.bases; selected = m }) z ∙ ap (λ (w : World). at_zero w.bases) h.leads
+  pub lies_inside : p.at ≤ length bytes
+  lies_inside = h.within
 
   module _ (next : ℕ) where
-    holds_key : (name : List ℕ) (value : Value) → Stands item (Key name value) bytes at next → look (at_zero bases) name ≡ None → Advances bytes moment at next (put (at_zero bases) name (plain value))
-    holds_key name value s none = record {
-      holds = record {
-        state = after moment h.state (Key name value);
-        reached = goes_on bytes moment at h.state (Key name value) next h.reached s refl (fresh_key name value none);
-        leads = key_world name value;
-        deadline = refl;
-      };
-      further = longer (Key name value) bytes at next s;
-      within = s.inside;
+    pub passed_read : Stands item Passed bytes p.at next → Holds bytes moment world (record p { at = next }) × (p.at < next)
+    passed_read s = let f = further Passed next s refl refl in let lt : p.at < next = longer Passed bytes p.at next s in
+        (record { reached = f.0; items = omega (arith, f.1); keys = h.keys; few = omega (arith, h.few, lt); within = s.inside; selected = h.selected; latest = h.latest }, lt)
+
+    pub deadline_read : (n : ℕ) → Stands item (Deadline n) bytes p.at next → Holds bytes moment world (record p { at = next; deadline = Some n }) × (p.at < next)
+    deadline_read n s = let f = further (Deadline n) next s refl refl in let lt : p.at < next = longer (Deadline n) bytes p.at next s in
+        (record { reached = f.0; items = omega (arith, f.1); keys = h.keys; few = omega (arith, h.few, lt); within = s.inside; selected = h.selected; latest = deadline_fits n bytes p.at next s }, lt)
+
+    pub database_read : (n : ℕ) → Stands item (Database n) bytes p.at next → Holds bytes moment world (record p { at = next; db = n }) × (p.at < next)
+    database_read n s = let f = further (Database n) next s refl refl in let lt : p.at < next = longer (Database n) bytes p.at next s in
+        (record { reached = f.0; items = omega (arith, f.1); keys = h.keys; few = omega (arith, h.few, lt); within = s.inside; selected = database_fits n bytes p.at next s; latest = h.latest }, lt)
+
+    module _ (name : List ℕ) (value : Value) (s : Stands item (Key name value) bytes p.at next) where
+      lt : p.at < next
+      lt = longer (Key name value) bytes p.at next s
+
+      abbrev pub entry : Entry
+      entry = record { value = value; deadline = p.deadline }
+
+      behind : (look (selecting world p.db) name ≡ None) → Further next (after moment state (Key name value)) 1
+      behind none = further (Key name value) next s refl (ap is_none none)
+
+      pub key_kept : (new : World) → Puts moment (selecting world p.db) (selecting new p.db) name entry puts.Kept → Holds bytes moment new (record p { at = next; deadline = None; keys = p.keys + 1 }) × (p.at < next)
+      key_kept new k =
+          let leads : (after moment state (Key name value)).world ≡ selecting new p.db = cond-true _ _ _ k.1 ∙ sym k.2 in
+          let f = subst (λ w. Further next (record { world = w; deadline = None }) 1) leads (behind k.0) in
+          let more : keys_below 16 new.bases ≡ keys_below 16 world.bases + 1 = ap (λ (w : World). keys_below 16 w.bases) k.2 ∙ one_more (selecting world p.db) name entry 16 h.selected k.0 in
+          (record { reached = f.0; items = omega (arith, f.1); keys = omega (arith, h.keys, more); few = omega (arith, h.few, lt); within = s.inside; selected = h.selected; latest = tt }, lt)
+
+      pub key_passed : (new : World) → Puts moment (selecting world p.db) (selecting new p.db) name entry puts.Passed → Holds bytes moment new (record p { at = next; deadline = None; passed = p.passed + 1 }) × (p.at < next)
+      key_passed new k =
+          let leads : (after moment state (Key name value)).world ≡ selecting new p.db = cond-false _ _ _ k.1 ∙ sym k.2 in
+          let f = subst (λ w. Further next (record { world = w; deadline = None }) 1) leads (behind k.0) in
+          let same : keys_below 16 new.bases ≡ keys_below 16 world.bases = ap (λ (w : World). keys_below 16 w.bases) k.2 in
+          (record { reached = f.0; items = omega (arith, f.1); keys = h.keys ∙ sym same; few = omega (arith, h.few, lt); within = s.inside; selected = h.selected; latest = tt }, lt)
+
+      pub key_again : ((look (selecting world p.db) name ≡ None) → ⊥) → IsFault bytes moment kinds.DuplicateKey (p.at + 1)
+      key_again some = twice bytes moment p.at state (Key name value) next h.reached s (there (look (selecting world p.db) name) some)
+        where
+          there : (o : Option Entry) → (o ≡ None → ⊥) → is_none o ≡ false
+          there None e = absurd (e refl)
+          there (Some x) e = refl
+
+    pub file_ends : (sum last : ℕ) → Stands item End bytes p.at next → Stands (sum_field (take next bytes)) sum bytes next last
+        → IsRead bytes moment (selecting world 0) (record { keys = p.keys; passed = p.passed })
+    file_ends sum last s k = record {
+      file = is_file bytes moment p.at state next sum last h.reached s k;
+      keys = h.keys;
+      passed = h.items ∙ sym (ap keys_among (is_file_items bytes moment p.at state next sum last h.reached s k));
     }
-
-    pub other_read : (x : Item) → Stands item x bytes at next → IsOther x → Advances bytes moment at next (at_zero bases)
-    other_read Passed s o = record {
-      holds = record { state = h.state; reached = goes_on bytes moment at h.state Passed next h.reached s refl refl; leads = h.leads; deadline = h.deadline };
-      further = longer Passed bytes at next s;
-      within = s.inside;
-    }
-    other_read (Deadline n) s o = absurd (item_taken (Deadline n) bytes at next s)
-    other_read (Base n) s o = record {
-      holds = record { state = after moment h.state (Base n); reached = goes_on bytes moment at h.state (Base n) next h.reached s refl refl; leads = base_world n (item_taken (Base n) bytes at next s); deadline = h.deadline };
-      further = longer (Base n) bytes at next s;
-      within = s.inside;
-    }
-    other_read End s o = absurd o
-    other_read (Key name value) s o = absurd o
-
-    pub key_put : (name : List ℕ) (value : Value) (new : World) → Stands item (Key name value) bytes at next → look (at_zero bases) name ≡ None → new ≡ put (at_zero bases) name (plain value) → Advances bytes moment at next new × (len (new.bases 0) ≡ len (bases 0) + 1)
-    key_put name value new s none e =
-        let P : World → Type 0 = λ w. Advances bytes moment at next w in
-        (subst P (sym e) (holds_key name value s none), ap (λ (w : World). len (w.bases 0)) e ∙ one_more bases name value none)
-
-    pub key_again : (name : List ℕ) (value : Value) → Stands item (Key name value) bytes at next → (look (at_zero bases) name ≡ None → ⊥) → IsFault bytes moment kinds.DuplicateKey (at + 1)
-    key_again name value s some = twice bytes moment at h.state (Key name value) next h.reached s (stale_key name value some)
-
-    pub file_ends : (sum last : ℕ) → Stands item End bytes at next → Stands (sum_field (take next bytes)) sum bytes next last → IsFile bytes moment (at_zero bases)
-    file_ends sum last s k =
-        let P : World → Type 0 = λ w. IsFile bytes moment w in
-        let same : file_world h.state ≡ at_zero bases = ap (λ (w : World). at_zero w.bases) h.leads in
-        subst P same (is_file bytes moment at h.state next sum last h.reached s k)
 
   -- what a fault of an item makes of loading
-  pub fault_read : (new : World) (f : ItemFault) → SaysFault bytes at f → Reads bytes moment at (at_zero bases) new (Err (load_fault f))
-  fault_read new faults.Memory i = tt
-  fault_read new (faults.Refused what place) (OfItem f) = item_fault bytes moment at h.state what place h.reached f
-  fault_read new (faults.Refused what place) (OfSum ended s f) = sum_fault bytes moment at h.state ended what place h.reached s f
-
-  pub lies_inside : at ≤ length bytes
-  lies_inside = inside bytes moment at h.state h.reached
+  pub fault_read : (later : World) (f : ItemFault) → SaysFault bytes p.at f → Reads bytes moment p world later (Err (load_fault f))
+  fault_read later faults.Memory i = tt
+  fault_read later (faults.Refused what place) (OfItem f) = item_fault bytes moment p.at state what place h.reached f
+  fault_read later (faults.Refused what place) (OfSum ended s f) = sum_fault bytes moment p.at state ended what place h.reached s f
 
 -- nothing is read yet
-pub holds_nothing : (bytes text : List ℕ) (moment next : ℕ) (world : World) → world ≡ new_world → Stands header text bytes 0 next → Holds bytes moment next world
-holds_nothing bytes text moment next world e s = record { state = new_state; reached = begins bytes text moment next s; leads = sym e; deadline = refl }
-
--- no key is held
-pub none_held : (world : World) → world ≡ new_world → 0 ≡ len (world.bases 0)
-none_held world e = sym (ap (λ (w : World). len (w.bases 0)) e ∙ len-empty (slice_cmp nat_cmp) Entry)
+pub holds_nothing : (bytes text : List ℕ) (moment next : ℕ) (world : World) → world ≡ new_world → Stands header text bytes 0 next → Holds bytes moment world (record { at = next; db = 0; deadline = None; keys = 0; passed = 0 })
+holds_nothing bytes text moment next world e s =
+    let P : World → Type 0 = λ w. Holds bytes moment w (record { at = next; db = 0; deadline = None; keys = 0; passed = 0 }) in
+    subst P (sym e) (record { reached = begins bytes text moment next s; items = sym (ap keys_among (begins_items bytes text moment next s)); keys = sym (none_below 16); few = omega arith; within = s.inside; selected = lit< tt; latest = tt })

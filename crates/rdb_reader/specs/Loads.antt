@@ -1,68 +1,95 @@
 -- What loading does: the file's world or its first fault.
-use Rattle.std.specs.Prelude.{◌≡◌, ℕ, ◌+◌, ◌<◌, ◌≤◌, List, length, Option, None, Result, Ok, Err, Bool, true, false}
+use Rattle.std.specs.Prelude.{◌≡◌, ℕ, zero, suc, ◌+◌, ◌<◌, ◌≤◌, List, [], ◌∷◌, length, None, Result, Ok, Err, true, false}
 use Rattle.std.specs.FinMap.{len}
-use Rattle.plain_world.specs.Worlds.{World, Value, new_world, look, put}
+use Rattle.plain_world.specs.Worlds.{World, Database as Keys, Entry, new_world, in_time, look, put, selecting}
 use Rattle.rdb_grammar.specs.declared.fault.LoadKind.{LoadKind}
 use Rattle.rdb_grammar.specs.declared.fault.ItemFault.{ItemFault}
 use Rattle.rdb_grammar.specs.declared.fault.ItemFault.TheVariants as items
+use Rattle.rdb_grammar.specs.Items.{Item, Passed, Deadline, Database, End, Key}
 use Rattle.rdb_grammar.specs.Files.{State, Reached, IsFile, IsFault}
+use Rattle.held.specs.Calls.{IsDeadline}
 use Rattle.outside.specs.Files.{Files}
 use Rattle.rdb_reader.specs.Fetching.{IsFileOf, IsLongFile}
 use Rattle.rdb_reader.specs.declared.fault.LoadFault.{LoadFault}
 use Rattle.rdb_reader.specs.declared.fault.LoadFault.TheVariants as faults
+use Rattle.rdb_reader.specs.declared.items.Progress.{Progress}
 use Rattle.rdb_reader.specs.declared.items.Read.{Read}
 use Rattle.rdb_reader.specs.declared.items.Read.TheVariants as read
+use Rattle.rdb_reader.specs.declared.keys.Put.{Put}
+use Rattle.rdb_reader.specs.declared.keys.Put.TheVariants as puts
 use Rattle.rdb_reader.specs.declared.loading.Loaded.{Loaded}
 
--- a key was put, which wasn't there; or it was there, and nothing is put
-abbrev pub Puts : World → World → List ℕ → Value → Bool → Type 0
-Puts old new key value true = (look old key ≡ None) × (new ≡ put old key (record { value = value; deadline = None }))
-Puts old new key value false = ((look old key ≡ None) → ⊥) × (new ≡ old)
+-- how many keys the databases below a number have
+unfoldable pub keys_below : ℕ → (ℕ → Keys) → ℕ
+keys_below zero bases = 0
+keys_below (suc number) bases = keys_below number bases + len (bases number)
 
--- up to this place the bytes are a header and whole items, which lead to this world
-pub record Holds (bytes : List ℕ) (moment at : ℕ) (world : World) : Type 0 where
-  pub state : State
-  pub reached : Reached bytes moment at state
-  pub leads : state.world ≡ world
-  pub deadline : state.deadline ≡ None
+-- how many items are keys
+abbrev pub keys_of : Item → ℕ
+keys_of Passed = 0
+keys_of (Deadline n) = 0
+keys_of (Database n) = 0
+keys_of End = 0
+keys_of (Key name value) = 1
+
+abbrev pub keys_among : List Item → ℕ
+keys_among [] = 0
+keys_among (x ∷ xs) = keys_of x + keys_among xs
+
+-- A key that wasn't there was put, or was passed over; or it was there.
+abbrev pub Puts : ℕ → World → World → List ℕ → Entry → Put → Type 0
+Puts moment old new key entry puts.Kept = (look old key ≡ None) × (in_time moment entry.deadline ≡ true) × (new ≡ put old key entry)
+Puts moment old new key entry puts.Passed = (look old key ≡ None) × (in_time moment entry.deadline ≡ false) × (new ≡ old)
+Puts moment old new key entry puts.Twice = (look old key ≡ None) → ⊥
+
+-- what the items so far have made
+abbrev pub state_at : World → Progress → State
+state_at world so_far = record { world = selecting world so_far.db; deadline = so_far.deadline }
+
+-- So far the bytes are a header and whole items, which lead to this world. Of their keys so many are kept, and the others passed over.
+pub record Holds (bytes : List ℕ) (moment : ℕ) (world : World) (so_far : Progress) : Type 0 where
+  pub reached : Reached bytes moment so_far.at (state_at world so_far)
+  pub items : so_far.keys + so_far.passed ≡ keys_among reached.items
+  pub keys : so_far.keys ≡ keys_below 16 world.bases
+  pub few : so_far.keys + so_far.passed ≤ so_far.at
+  pub within : so_far.at ≤ length bytes
+  pub selected : so_far.db < 16
+  pub latest : IsDeadline so_far.deadline
 
 -- the fault of an item, as one of loading
 abbrev pub load_fault : ItemFault → LoadFault
 load_fault items.Memory = faults.Memory
 load_fault (items.Refused what place) = faults.Refused what place
 
--- an item is read, and the next one begins there
-pub record Advances (bytes : List ℕ) (moment at next : ℕ) (new : World) : Type 0 where
-  pub holds : Holds bytes moment next new
-  pub further : at < next
-  pub within : next ≤ length bytes
+-- The bytes are a file of the world. So many of its keys are kept, those of all databases, and the others passed over.
+pub record IsRead (bytes : List ℕ) (moment : ℕ) (world : World) (loaded : Loaded) : Type 0 where
+  pub file : IsFile bytes moment world
+  pub keys : loaded.keys ≡ keys_below 16 world.bases
+  pub passed : loaded.keys + loaded.passed ≡ keys_among file.reached.items
 
 -- the next item is read
-abbrev pub Reads : List ℕ → ℕ → ℕ → World → World → Result Read LoadFault → Type 0
-Reads bytes moment at old new (Ok (read.Key next)) = Advances bytes moment at next new × (len (new.bases 0) ≡ len (old.bases 0) + 1)
-Reads bytes moment at old new (Ok (read.Other next)) = Advances bytes moment at next new × (new ≡ old)
-Reads bytes moment at old new (Ok read.End) = IsFile bytes moment new × (new ≡ old)
-Reads bytes moment at old new (Err (faults.Refused what place)) = IsFault bytes moment what place
-Reads bytes moment at old new (Err faults.Host) = ⊥
-Reads bytes moment at old new (Err faults.Limit) = ⊥
-Reads bytes moment at old new (Err faults.Memory) = Unit {0}
+abbrev pub Reads : List ℕ → ℕ → Progress → World → World → Result Read LoadFault → Type 0
+Reads bytes moment old before after (Ok (read.More new)) = Holds bytes moment after new × (old.at < new.at)
+Reads bytes moment old before after (Ok read.End) = IsRead bytes moment after (record { keys = old.keys; passed = old.passed })
+Reads bytes moment old before after (Err (faults.Refused what place)) = IsFault bytes moment what place
+Reads bytes moment old before after (Err faults.Host) = ⊥
+Reads bytes moment old before after (Err faults.Limit) = ⊥
+Reads bytes moment old before after (Err faults.Memory) = Unit {0}
 
--- all items are read, and so many keys
-abbrev pub ReadsAll : List ℕ → ℕ → World → Result ℕ LoadFault → Type 0
-ReadsAll bytes moment new (Ok keys) = IsFile bytes moment new × (keys ≡ len (new.bases 0))
+-- all items are read
+abbrev pub ReadsAll : List ℕ → ℕ → World → Result Loaded LoadFault → Type 0
+ReadsAll bytes moment new (Ok loaded) = IsRead bytes moment new loaded
 ReadsAll bytes moment new (Err (faults.Refused what place)) = IsFault bytes moment what place
 ReadsAll bytes moment new (Err faults.Host) = ⊥
 ReadsAll bytes moment new (Err faults.Limit) = ⊥
 ReadsAll bytes moment new (Err faults.Memory) = Unit {0}
 
--- the file's world is loaded: its keys are all kept, and none is passed over
+-- the file's world is loaded
 pub record LoadsFile (files : Files) (name : List ℕ) (limit moment : ℕ) (world : World) (loaded : Loaded) : Type 0 where
   pub bytes : List ℕ
   pub is : IsFileOf files name bytes
   pub few : length bytes ≤ limit
-  pub file : IsFile bytes moment world
-  pub keys : loaded.keys ≡ len (world.bases 0)
-  pub passed : loaded.passed ≡ 0
+  pub read : IsRead bytes moment world loaded
 
 -- the file has this first fault
 pub record RefusesFile (files : Files) (name : List ℕ) (limit moment : ℕ) (what : LoadKind) (at : ℕ) : Type 0 where

@@ -8,19 +8,33 @@ ghost use Rattle.keyspace.specs.Sound.{Sound};
 ghost use Rattle.rdb_reader.specs.Loads.{Holds, Reads, ReadsAll, load_fault};
 
 use crate::fault::LoadFault;
-use crate::keys::put_key;
+use crate::keys::{Put, put_key};
+use crate::loading::Loaded;
 use blocks::BlockStore;
 use keyspace::Keyspace;
 use rdb_grammar::{FileFault, ItemFault, LoadKind, Meaning, check_header, next_item};
 use std::alloc::Global;
 
+/// How far a file is read.
+#[derive(Clone, Copy)]
+pub struct Progress {
+    /// The offset of the next item in bytes.
+    pub at: usize,
+    /// The database of the keys that follow, 0 to 15.
+    pub db: usize,
+    /// The deadline that waits for the next key, in milliseconds.
+    pub deadline: Option<u64>,
+    /// How many keys are kept.
+    pub keys: u64,
+    /// How many keys were passed over.
+    pub passed: u64,
+}
+
 /// What the reading of an item led to.
 #[derive(Clone, Copy)]
 pub enum Read {
-    /// A key was put, and the next item begins there.
-    Key(usize),
-    /// No key was put, and the next item begins there.
-    Other(usize),
+    /// More items follow.
+    More(Progress),
     /// The file ended.
     End,
 }
@@ -45,43 +59,64 @@ fn not_read(fault: ItemFault) -> LoadFault
     }
 }
 
-// Reads the item at an offset.
+// Reads the next item.
 #[tactic(auto, using(keyspace::proofs::Serving::nothing, keyspace::proofs::Serving::both))]
 fn read_item<B: BlockStore>(
     alloc: Global,
     bytes: &[u8],
-    at: usize,
     keyspace: &mut Keyspace<B>,
+    so_far: Progress,
     moment: u64,
 ) -> Result<Read, LoadFault>
-    requires held { Holds bytes.now moment at (means 0 keyspace.old.bases (B.blocks keyspace.old.store)) }
+    requires held { Holds bytes.now moment (means 0 keyspace.old.bases (B.blocks keyspace.old.store)) so_far }
     requires sound { Sound keyspace.old.bases (B.blocks keyspace.old.store) }
-    ensures reads { Reads bytes.now moment at (means 0 keyspace.old.bases (B.blocks keyspace.old.store)) (means 0 keyspace.new.bases (B.blocks keyspace.new.store)) result }
+    ensures reads { Reads bytes.now moment so_far (means 0 keyspace.old.bases (B.blocks keyspace.old.store)) (means 0 keyspace.new.bases (B.blocks keyspace.new.store)) result }
     ensures sound { Sound keyspace.new.bases (B.blocks keyspace.new.store) }
     ensures served { Served B.step keyspace.old.store keyspace.new.store }
     ensures settings { SameSettings keyspace.old.bases keyspace.new.bases }
 {
-    let item = match next_item(alloc, bytes, at) {
+    let item = match next_item(alloc, bytes, so_far.at) {
         Ok(item) => item,
         Err(fault) => return Err(not_read(fault)),
     };
+    let behind = Progress {
+        at: item.next,
+        ..so_far
+    };
     match item.meaning {
         Meaning::End => Ok(Read::End),
-        Meaning::Key { name, value } => match put_key(keyspace, &name, &value) {
-            Ok(true) => Ok(Read::Key(item.next)),
-            Ok(false) => Err(LoadFault::Refused {
-                kind: LoadKind::DuplicateKey,
-                at: at as u64 + 1,
-            }),
-            Err(_) => Err(LoadFault::Memory),
-        },
-        Meaning::Passed => Ok(Read::Other(item.next)),
-        Meaning::Deadline(_) => Ok(Read::Other(item.next)),
-        Meaning::Database(_) => Ok(Read::Other(item.next)),
+        Meaning::Passed => Ok(Read::More(behind)),
+        Meaning::Deadline(deadline) => Ok(Read::More(Progress {
+            deadline: Some(deadline),
+            ..behind
+        })),
+        Meaning::Database(db) => Ok(Read::More(Progress { db, ..behind })),
+        Meaning::Key { name, value } => {
+            let used_up = Progress {
+                deadline: None,
+                ..behind
+            };
+            match put_key(keyspace, so_far.db, &name, &value, so_far.deadline, moment) {
+                Ok(Put::Kept) => Ok(Read::More(Progress {
+                    keys: used_up.keys + 1,
+                    ..used_up
+                })),
+                Ok(Put::Passed) => Ok(Read::More(Progress {
+                    passed: used_up.passed + 1,
+                    ..used_up
+                })),
+                Ok(Put::Twice) => Err(LoadFault::Refused {
+                    kind: LoadKind::DuplicateKey,
+                    at: so_far.at as u64 + 1,
+                }),
+                Err(_) => Err(LoadFault::Memory),
+            }
+        }
     }
 }
 
-/// Reads the items of a file into a keyspace without a key at a moment, in milliseconds, and says how many keys it has.
+/// Reads the items of a file into a keyspace without a key at a moment, in milliseconds, and says how many keys it has, and
+/// how many were passed over.
 ///
 /// `Refused` comes exactly by the file's first fault, and `Memory` for want of memory. Some keys may stand after a fault.
 #[tactic(auto, using(keyspace::proofs::Serving::nothing, keyspace::proofs::Serving::both))]
@@ -90,7 +125,7 @@ pub fn read_items<B: BlockStore>(
     bytes: &[u8],
     keyspace: &mut Keyspace<B>,
     moment: u64,
-) -> Result<u64, LoadFault>
+) -> Result<Loaded, LoadFault>
     requires empty { means 0 keyspace.old.bases (B.blocks keyspace.old.store) ≡ new_world }
     requires sound { Sound keyspace.old.bases (B.blocks keyspace.old.store) }
     ensures reads { ReadsAll bytes.now moment (means 0 keyspace.new.bases (B.blocks keyspace.new.store)) result }
@@ -98,19 +133,26 @@ pub fn read_items<B: BlockStore>(
     ensures served { Served B.step keyspace.old.store keyspace.new.store }
     ensures settings { SameSettings keyspace.old.bases keyspace.new.bases }
 {
-    let mut at = match check_header(bytes) {
+    let at = match check_header(bytes) {
         Ok(at) => at,
         Err(fault) => return Err(refused(fault)),
     };
-    let mut keys: u64 = 0;
+    let mut so_far = Progress {
+        at,
+        db: 0,
+        deadline: None,
+        keys: 0,
+        passed: 0,
+    };
     'items: loop {
-        match read_item(alloc, bytes, at, keyspace, moment) {
-            Ok(Read::Key(next)) => {
-                keys += 1;
-                at = next;
+        match read_item(alloc, bytes, keyspace, so_far, moment) {
+            Ok(Read::More(further)) => so_far = further,
+            Ok(Read::End) => {
+                return Ok(Loaded {
+                    keys: so_far.keys,
+                    passed: so_far.passed,
+                });
             }
-            Ok(Read::Other(next)) => at = next,
-            Ok(Read::End) => return Ok(keys),
             Err(fault) => return Err(fault),
         }
     }

@@ -1,11 +1,12 @@
 //! Keys of a file, put into a keyspace.
 
-ghost use Rattle.std.specs.Prelude.{◌≡◌, [], OnOk, OnErr, IfOk, None, is_some};
+ghost use Rattle.std.specs.Prelude.{◌≡◌, ◌<◌, [], OnOk, OnErr, IfOk, is_some};
 ghost use Rattle.blocks.specs.Blocks.{Changes, Served};
-ghost use Rattle.plain_world.specs.Worlds.{look, put};
+ghost use Rattle.plain_world.specs.Worlds.{in_time, look, put};
 ghost use Rattle.keyspace.specs.Databases.{means, SameSettings};
 ghost use Rattle.keyspace.specs.Sound.{Sound};
 ghost use Rattle.keyspace.specs.Values as values;
+ghost use Rattle.held.specs.Calls.{IsDeadline};
 ghost use Rattle.rdb_grammar.specs.Views.{text_of, value_of};
 ghost use Rattle.rdb_reader.specs.Loads.{Puts};
 
@@ -41,49 +42,90 @@ fn make_value<B: BlockStore>(store: &mut B, value: &FileValue<'_>) -> Result<Val
     }
 }
 
-// Lets a value of the file stand at a key of database 0.
+// Lets a value of the file stand at a key of a database, with this deadline or without one.
 #[tactic(auto, using(keyspace::proofs::Serving::nothing, keyspace::proofs::Serving::both))]
 fn put_value<B: BlockStore>(
     keyspace: &mut Keyspace<B>,
+    db: usize,
     name: &[u8],
     value: &FileValue<'_>,
+    deadline: Option<u64>,
 ) -> Result<(), Memory>
+    requires db { db < 16 }
+    requires latest { IsDeadline deadline }
     requires sound { Sound keyspace.old.bases (B.blocks keyspace.old.store) }
-    ensures world { OnOk result (means 0 keyspace.new.bases (B.blocks keyspace.new.store) ≡ put (means 0 keyspace.old.bases (B.blocks keyspace.old.store)) name.now (record { value = value_of value.now; deadline = None })) }
+    ensures world { OnOk result (means db keyspace.new.bases (B.blocks keyspace.new.store) ≡ put (means db keyspace.old.bases (B.blocks keyspace.old.store)) name.now (record { value = value_of value.now; deadline = deadline })) }
     ensures sound { Sound keyspace.new.bases (B.blocks keyspace.new.store) }
     ensures served { Served B.step keyspace.old.store keyspace.new.store }
     ensures settings { SameSettings keyspace.old.bases keyspace.new.bases }
 {
     let made = make_value(&mut keyspace.store, value)?;
-    keyspace.put(0, name, made, None)
+    keyspace.put(db, name, made, deadline)
 }
 
-// Whether something stands at a key of database 0: no deadline is past at moment 0.
-fn is_there<B: BlockStore>(keyspace: &Keyspace<B>, name: &[u8]) -> bool
+// Whether something stands at a key of a database: no deadline is past at moment 0.
+fn is_there<B: BlockStore>(keyspace: &Keyspace<B>, db: usize, name: &[u8]) -> bool
+    requires db { db < 16 }
     requires sound { Sound keyspace.now.bases (B.blocks keyspace.now.store) }
-    ensures { result ≡ is_some (look (means 0 keyspace.now.bases (B.blocks keyspace.now.store)) name.now) }
+    ensures { result ≡ is_some (look (means db keyspace.now.bases (B.blocks keyspace.now.store)) name.now) }
 {
-    keyspace.look(0, name, 0).is_some()
+    keyspace.look(db, name, 0).is_some()
 }
 
-/// Puts a key of the file with its value into database 0, and says whether it wasn't there; where it was, nothing changes.
+// Whether the moment is not past a deadline: a key stays through the moment of its deadline. Both are in milliseconds.
+fn is_in_time(moment: u64, deadline: Option<u64>) -> bool
+    ensures { result ≡ in_time moment deadline }
+{
+    match deadline {
+        None => true,
+        Some(deadline) => moment <= deadline,
+    }
+}
+
+/// What became of a key of the file.
+#[derive(Clone, Copy)]
+pub enum Put {
+    /// It was put.
+    Kept,
+    /// Its deadline is past, and nothing changed.
+    Passed,
+    /// It was there before.
+    Twice,
+}
+
+/// Puts a key of the file with its value into a database, unless the moment is past its deadline. After `Twice`, and for want
+/// of memory, the key may have the later value.
+//
+// A key that is kept is searched only once, when it is put: where it was there, the count of keys stays.
 #[tactic(auto, using(keyspace::proofs::Serving::nothing, keyspace::proofs::Serving::both))]
 pub fn put_key<B: BlockStore>(
     keyspace: &mut Keyspace<B>,
+    db: usize,
     name: &Chunk<'_>,
     value: &FileValue<'_>,
-) -> Result<bool, Memory>
+    deadline: Option<u64>,
+    moment: u64,
+) -> Result<Put, Memory>
+    requires db { db < 16 }
+    requires latest { IsDeadline deadline }
     requires sound { Sound keyspace.old.bases (B.blocks keyspace.old.store) }
-    ensures puts { IfOk result (λ fresh. Puts (means 0 keyspace.old.bases (B.blocks keyspace.old.store)) (means 0 keyspace.new.bases (B.blocks keyspace.new.store)) (text_of name.now) (value_of value.now) fresh) }
+    ensures puts { IfOk result (Puts moment (means db keyspace.old.bases (B.blocks keyspace.old.store)) (means db keyspace.new.bases (B.blocks keyspace.new.store)) (text_of name.now) (record { value = value_of value.now; deadline = deadline })) }
     ensures sound { Sound keyspace.new.bases (B.blocks keyspace.new.store) }
     ensures served { Served B.step keyspace.old.store keyspace.new.store }
     ensures settings { SameSettings keyspace.old.bases keyspace.new.bases }
 {
     let mut buffer = Buffer::new();
     let name = text(name, &mut buffer);
-    if is_there(keyspace, name) {
-        return Ok(false);
+    if !is_in_time(moment, deadline) {
+        if is_there(keyspace, db, name) {
+            return Ok(Put::Twice);
+        }
+        return Ok(Put::Passed);
     }
-    put_value(keyspace, name, value)?;
-    Ok(true)
+    let before = keyspace.count(db);
+    put_value(keyspace, db, name, value, deadline)?;
+    if keyspace.count(db) == before {
+        return Ok(Put::Twice);
+    }
+    Ok(Put::Kept)
 }

@@ -66,7 +66,7 @@ pub fn load<H: Host, B: BlockStore>(
         Err(fault) => return Err(fault),
     };
     match read_items(alloc, bytes.as_slice(), keyspace, moment) {
-        Ok(keys) => Ok(Loaded { keys, passed: 0 }),
+        Ok(loaded) => Ok(loaded),
         Err(fault) => {
             clear_all(keyspace);
             Err(fault)

@@ -43,13 +43,17 @@ impl Held {
         self.keyspace.count(db)
     }
 
-    fn is_empty(&self) -> bool {
+    // The keys of all databases. So many that they have no number are as many as have the greatest.
+    fn count_all(&self) -> u64 {
+        let mut keys: u64 = 0;
         for db in 0..16 {
-            if self.count(db) > 0 {
-                return false;
-            }
+            keys = keys.saturating_add(self.count(db));
         }
-        true
+        keys
+    }
+
+    fn is_empty(&self) -> bool {
+        self.count_all() == 0
     }
 
     // Whether these bytes stand at the key.
@@ -58,6 +62,22 @@ impl Held {
         match self.keyspace.look(0, key, 0) {
             None => false,
             Some(value) => value.as_text().bytes(&self.keyspace.store, &mut room) == bytes,
+        }
+    }
+
+    // Whether these bytes stand at the key of a database, with this deadline.
+    fn holds(&self, entry: &Entry) -> bool {
+        let Entry(db, key, bytes, deadline) = *entry;
+        if db >= 16 {
+            return false;
+        }
+        let mut room = [0; 20];
+        match self.keyspace.look(db, key, 0) {
+            None => false,
+            Some(value) => {
+                value.as_text().bytes(&self.keyspace.store, &mut room) == bytes
+                    && self.keyspace.deadline(db, key) == deadline
+            }
         }
     }
 
@@ -75,6 +95,10 @@ impl Held {
     }
 }
 
+// A database, a key, the bytes that stand there, and the deadline in milliseconds.
+#[derive(Clone, Copy)]
+struct Entry(usize, &'static [u8], &'static [u8], Option<u64>);
+
 // Loads the file `f` of these bytes, where the calls of these numbers fail.
 fn loaded(
     alloc: Global,
@@ -88,6 +112,22 @@ fn loaded(
     let mut host = MemHost::new(names, files, Vec::from_slice(alloc, failing)?);
     let mut keyspace = Keyspace::new(alloc, PlainStore::new(alloc), Limits::default(), 0)?;
     let answer = load(alloc, &mut host, name, limit, &mut keyspace, 0);
+    Ok((Held { keyspace }, answer))
+}
+
+// Loads a file of these items, without a checksum, at a moment in milliseconds.
+fn loaded_at(
+    alloc: Global,
+    items: &[u8],
+    moment: u64,
+) -> Result<(Held, Result<Loaded, LoadFault>), AllocError> {
+    let mut bytes = Vec::from_slice(alloc, b"REDIS0009")?;
+    bytes.extend_from_slice(items)?;
+    bytes.extend_from_slice(b"\xff\0\0\0\0\0\0\0\0")?;
+    let names = vec![in alloc; String::from_str(alloc, "f")?]?;
+    let mut host = MemHost::new(names, vec![in alloc; bytes]?, Vec::new(alloc));
+    let mut keyspace = Keyspace::new(alloc, PlainStore::new(alloc), Limits::default(), 0)?;
+    let answer = load(alloc, &mut host, "f", MANY, &mut keyspace, moment);
     Ok((Held { keyspace }, answer))
 }
 
@@ -160,7 +200,7 @@ const ROWS: [Row; 9] = [
         14,
     ),
     Row(
-        b"REDIS0011\xfe\x01\x00\x01a\xc0\x05\xff\0\0\0\0\0\0\0\0",
+        b"REDIS0011\xfe\x10\x00\x01a\xc0\x05\xff\0\0\0\0\0\0\0\0",
         LoadKind::Database,
         10,
     ),
@@ -242,7 +282,7 @@ fn hosts_and_limits(rt: HostRuntime) -> Result<(), Fail> {
 // Files with one byte changed: which bits of it, the first byte, the byte behind the last, and the first fault due.
 struct Flip(u8, usize, usize, LoadKind, u64);
 
-const FLIPS: [Flip; 18] = [
+const FLIPS: [Flip; 17] = [
     Flip(0xff, 0, 5, LoadKind::NotRdb, 0),
     Flip(0xff, 5, 9, LoadKind::Version, 5),
     Flip(0xff, 9, 10, LoadKind::Kind, 9),
@@ -259,7 +299,6 @@ const FLIPS: [Flip; 18] = [
     Flip(0x01, 0, 5, LoadKind::NotRdb, 0),
     Flip(0x01, 5, 8, LoadKind::Version, 5),
     Flip(0x01, 9, 10, LoadKind::Checksum, 10),
-    Flip(0x01, 10, 11, LoadKind::Database, 10),
     Flip(0x01, 11, 12, LoadKind::Kind, 11),
     // an empty key, and a value of 8,640 bytes
     Flip(0x01, 12, 13, LoadKind::Ended, 25),
@@ -315,5 +354,199 @@ fn bytes_of_keys_and_values_changed(rt: HostRuntime) -> Result<(), Fail> {
         assert_eq!(rt; answer, Ok(ONE));
         assert!(rt; held.has(key, value));
     }
+    Ok(())
+}
+
+// The moment at which files with deadlines are loaded, in milliseconds.
+const MOMENT: u64 = 2_000;
+
+// Items of a file, how many keys are kept and how many passed over, and what then stands.
+struct Timed(&'static [u8], u64, u64, &'static [Entry]);
+
+const TIMED: [Timed; 15] = [
+    // a deadline in milliseconds, 2,000 and 1,999, and in seconds, 2 and 1
+    Timed(
+        b"\xfc\xd0\x07\0\0\0\0\0\0\x00\x01a\x011",
+        1,
+        0,
+        &[Entry(0, b"a", b"1", Some(2_000))],
+    ),
+    Timed(b"\xfc\xcf\x07\0\0\0\0\0\0\x00\x01a\x011", 0, 1, &[]),
+    Timed(
+        b"\xfd\x02\0\0\0\x00\x01a\x011",
+        1,
+        0,
+        &[Entry(0, b"a", b"1", Some(2_000))],
+    ),
+    Timed(b"\xfd\x01\0\0\0\x00\x01a\x011", 0, 1, &[]),
+    // of two the last counts
+    Timed(
+        b"\xfc\xcf\x07\0\0\0\0\0\0\xfc\xd1\x07\0\0\0\0\0\0\x00\x01a\x011",
+        1,
+        0,
+        &[Entry(0, b"a", b"1", Some(2_001))],
+    ),
+    Timed(
+        b"\xfd\x02\0\0\0\xfc\xcf\x07\0\0\0\0\0\0\x00\x01a\x011",
+        0,
+        1,
+        &[],
+    ),
+    // one waits across every opcode, and for a key of another database
+    Timed(
+        b"\xfc\xd0\x07\0\0\0\0\0\0\xf8\x03\xf9\xff\xfa\x01n\x01t\xfb\x01\x01\xfe\x07\x00\x01a\x011",
+        1,
+        0,
+        &[Entry(7, b"a", b"1", Some(2_000))],
+    ),
+    // a key that is passed over uses it up, and so does one that is kept
+    Timed(
+        b"\xfc\xcf\x07\0\0\0\0\0\0\x00\x01a\x011\x00\x01b\x012",
+        1,
+        1,
+        &[Entry(0, b"b", b"2", None)],
+    ),
+    Timed(
+        b"\xfc\xd0\x07\0\0\0\0\0\0\x00\x01a\x011\x00\x01b\x012",
+        2,
+        0,
+        &[
+            Entry(0, b"a", b"1", Some(2_000)),
+            Entry(0, b"b", b"2", None),
+        ],
+    ),
+    // one that no key follows
+    Timed(
+        b"\x00\x01a\x011\xfc\xcf\x07\0\0\0\0\0\0",
+        1,
+        0,
+        &[Entry(0, b"a", b"1", None)],
+    ),
+    // a key that was passed over is no first
+    Timed(
+        b"\xfc\xcf\x07\0\0\0\0\0\0\x00\x01a\x011\x00\x01a\x012",
+        1,
+        1,
+        &[Entry(0, b"a", b"2", None)],
+    ),
+    Timed(
+        b"\xfd\x01\0\0\0\x00\x01a\x011\xfd\x01\0\0\0\x00\x01a\x012",
+        0,
+        2,
+        &[],
+    ),
+    // one key in two databases
+    Timed(
+        b"\xfe\x03\x00\x01a\x011\xfe\x05\x00\x01a\x012\xfe\x03\x00\x01b\x013",
+        3,
+        0,
+        &[
+            Entry(3, b"a", b"1", None),
+            Entry(5, b"a", b"2", None),
+            Entry(3, b"b", b"3", None),
+        ],
+    ),
+    // the last deadlines that there are
+    Timed(
+        b"\xfc\xff\xff\xff\xff\xff\xff\xff\x7f\x00\x01a\x011\xfd\xff\xff\xff\x7f\x00\x01b\x012",
+        2,
+        0,
+        &[
+            Entry(0, b"a", b"1", Some(9_223_372_036_854_775_807)),
+            Entry(0, b"b", b"2", Some(2_147_483_647_000)),
+        ],
+    ),
+    Timed(b"\xfe\x0f\xfb\x00\x00", 0, 0, &[]),
+];
+
+#[test]
+fn keys_with_deadlines(rt: HostRuntime) -> Result<(), Fail> {
+    for Timed(items, keys, passed, entries) in &TIMED {
+        let (held, answer) = loaded_at(rt.alloc(), items, MOMENT)?;
+        let due = Loaded {
+            keys: *keys,
+            passed: *passed,
+        };
+        assert_eq!(rt; answer, Ok(due));
+        assert_eq!(rt; held.count_all(), *keys);
+        for entry in *entries {
+            assert!(rt; held.holds(entry));
+        }
+    }
+    Ok(())
+}
+
+const REFUSED: [Row; 13] = [
+    // the second of two equal keys is refused, whether it would be passed over or not
+    Row(
+        b"\x00\x01a\x011\xfc\xcf\x07\0\0\0\0\0\0\x00\x01a\x012",
+        LoadKind::DuplicateKey,
+        24,
+    ),
+    Row(
+        b"\x00\x01a\x011\xfd\x02\0\0\0\x00\x01a\x012",
+        LoadKind::DuplicateKey,
+        20,
+    ),
+    Row(
+        b"\xfe\x03\x00\x01a\x011\xfe\x04\x00\x01a\x012\xfe\x03\x00\x01a\x013",
+        LoadKind::DuplicateKey,
+        26,
+    ),
+    Row(
+        b"\xfd\x01\0\0\0\x00\x01a\x011\x00\x01a\x012\xfd\x01\0\0\0\x00\x01a\x013",
+        LoadKind::DuplicateKey,
+        30,
+    ),
+    // a key that would be passed over is checked in full
+    Row(
+        b"\xfd\x01\0\0\0\x00\x01a\xc3\x02\x02a\x00",
+        LoadKind::Compressed,
+        17,
+    ),
+    Row(b"\xfc\0\0\0\0\0\0\0\x80", LoadKind::Deadline, 10),
+    Row(b"\xfd\xff\xff\xff\xff", LoadKind::Deadline, 10),
+    Row(b"\xfe\x10", LoadKind::Database, 10),
+    Row(b"\xf5\x03fun", LoadKind::Functions, 9),
+    Row(b"\xfe\x0f\xf6\x03fun", LoadKind::Functions, 11),
+    Row(b"\xf7\x00", LoadKind::Module, 9),
+    Row(b"\x0e\x01a\x011", LoadKind::OldKind, 9),
+    Row(b"\x13\x01a\x011", LoadKind::Kind, 9),
+];
+
+#[test]
+fn refused_items(rt: HostRuntime) -> Result<(), Fail> {
+    for Row(items, kind, at) in &REFUSED {
+        let (held, answer) = loaded_at(rt.alloc(), items, MOMENT)?;
+        let due = LoadFault::Refused {
+            kind: *kind,
+            at: *at,
+        };
+        assert_eq!(rt; answer, Err(due));
+        assert!(rt; held.is_empty());
+    }
+    Ok(())
+}
+
+#[test]
+fn a_key_in_each_database(rt: HostRuntime) -> Result<(), Fail> {
+    let mut items = Vec::new(rt.alloc());
+    for db in 0..16u8 {
+        items.extend_from_slice(&[0xfe, db, 0, 1, b'k', 1, b'a' + db])?;
+    }
+    let (held, answer) = loaded_at(rt.alloc(), items.as_slice(), MOMENT)?;
+    assert_eq!(rt;
+        answer,
+        Ok(Loaded {
+            keys: 16,
+            passed: 0
+        })
+    );
+    for db in 0..16 {
+        assert_eq!(rt; held.count(db), 1);
+    }
+    assert!(rt; held.holds(&Entry(0, b"k", b"a", None)));
+    assert!(rt; held.holds(&Entry(9, b"k", b"j", None)));
+    assert!(rt; held.holds(&Entry(15, b"k", b"p", None)));
     Ok(())
 }

@@ -1,5 +1,5 @@
-use Rattle.std.proofs.Common.{arith, ◌∙◌}
-use Rattle.rdb_reader.proofs.Fetched.{long_more, takes_more, fails_behind, all_taken}
+use Rattle.std.proofs.Common.{arith}
+use Rattle.rdb_reader.proofs.Fetched.{long_more}
 use Rattle.rdb_reader.proofs.fetch.take_all.Goals as goal
 
 pub returns-then-len-limit-clause-fetches : goal.returns-then-len-limit-clause-fetches

@@ -1,5 +1,4 @@
-use Rattle.std.proofs.Common.{◌≡◌, ◌≤◌, ◌-◌, length}
-use Rattle.std.specs.FinMap.{len}
+use Rattle.std.proofs.Common.{◌-◌, length}
 use Rattle.blocks.specs.Blocks.{Served}
 use Rattle.keyspace.specs.Databases.{means, SameSettings}
 use Rattle.keyspace.specs.Sound.{Sound}
@@ -10,14 +9,11 @@ abbrev pub invariant-items : goal.invariant-items
 invariant-items g l =
     let blocks = g.B.BlockStore.blocks in
     record {
-      holds : Holds l.bytes l.moment l.at (means 0 l.keyspace.bases (blocks l.keyspace.store));
-      keys : l.keys ≡ len ((means 0 l.keyspace.bases (blocks l.keyspace.store)).bases 0);
-      few : l.keys ≤ l.at;
-      within : l.at ≤ length l.bytes;
+      holds : Holds l.bytes l.moment (means 0 l.keyspace.bases (blocks l.keyspace.store)) l.so_far;
       sound : Sound l.keyspace.bases (blocks l.keyspace.store);
       served : Served g.B.BlockStore.step l.fn.keyspace.store l.keyspace.store;
       settings : SameSettings l.fn.keyspace.bases l.keyspace.bases;
     }
 
 abbrev pub decreases-items : goal.decreases-items
-decreases-items g l = length l.bytes - l.at
+decreases-items g l = length l.bytes - l.so_far.at

@@ -10,4 +10,4 @@ returns-clause-sound g c = Put-sound _ _ _ c.in_ok-made.made c.requires.sound c.
 
 pub returns-clause-world : goal.returns-clause-world
 returns-clause-world g c =
-    value_put c.args.keyspace.now.bases _ _ c.in_ok-made.made c.requires.sound c.in_ok-made.ensures.changes c.put.new.self.bases _ c.args.name.now _ c.in_ok-made.ensures.means c.put.result c.put.ensures.means
+    value_put c.args.db c.args.keyspace.now.bases _ _ c.in_ok-made.made c.requires.sound c.in_ok-made.ensures.changes c.put.new.self.bases _ c.args.name.now _ c.args.deadline c.in_ok-made.ensures.means c.put.result c.put.ensures.means
