@@ -92,7 +92,7 @@ module _ {E : Type 0} (X : E → Words → List Part → E → Type 0) (quits : 
             may = s.went;
             known = inl refl;
             tail = fault_line rule at;
-            behind = inr (rule, at, refl, refl, refl);
+            behind = inr (rule, at, refl, refl, s.go_on, refl);
             wrote = front;
           }) refl;
           reads = reads;

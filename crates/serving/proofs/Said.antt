@@ -1,5 +1,5 @@
 -- What is said of a serving, for those who call it.
-use Rattle.std.proofs.Common.{◌≡◌, ◌⊎◌, ◌<◌, ℕ, List, [], ◌∷◌, ◌++◌, length, Option, Some, None, Bool, refl, sym, ap, subst, ◌∙◌, inl, inr, arith, length-append}
+use Rattle.std.proofs.Common.{◌≡◌, ◌⊎◌, ◌<◌, ℕ, List, [], ◌∷◌, ◌++◌, length, Option, Some, None, Bool, true, false, refl, sym, ap, subst, ◌∙◌, inl, inr, arith, length-append}
 use Rattle.std.specs.Io.KnownBytes.{Consumes, IsAtEnd}
 use Rattle.std.proofs.lemmas.List.{append_assoc, append-nil, append_cancel_right}
 use Rattle.outside.specs.Streams.{SourceSeen, SinkSeen, Fits}
@@ -14,7 +14,7 @@ use Rattle.serving.specs.declared.ending.Ended.TheVariants as endings
 use Rattle.serving.specs.Served.{at_limit, take_fails, finds_end, EndsBy, CountsReads, AnswersPart, Ends, answered, quit, write_fault, no_memory, Served}
 use Rattle.serving.specs.Path.{GoOn}
 use Rattle.serving.specs.Exactly as exactly
-use Rattle.serving.specs.Exactly.{HasQuit, EndsExactly, ServesExactly, NoReadFault, AllFit, NoWriteFault, EndsWhole, ServesWhole}
+use Rattle.serving.specs.Exactly.{HasQuit, EndsExactly, ServesExactly, NoReadFault, AllFit, NoWriteFault, EndsWell, EndsWhole, ServesWhole}
 
 -- ---- from the states of an engine to what is seen of them
 
@@ -57,11 +57,19 @@ left_of None l1 bytes taken e k = cc
 left_of (Some xs) None bytes taken e k = absurd k
 left_of (Some xs) (Some ys) bytes taken e k = let a : xs ≡ bytes = cc in record { rest = ys; is = refl; whole = sym a ∙ k }
 
-whole_not_cut : (bytes : List ℕ) (asked asked' : List Words) → Frames bytes asked Whole → Frames bytes asked' Cut → ⊥
-whole_not_cut bytes asked asked' a b = let e = (one_frames bytes asked asked' Whole Cut a b).1 in cc
+-- none of the requests ends the run, so that this one is none of them
+not_among : (quits : Words → Bool) (front others : List Words) (words : Words) → GoOn quits ((front ++ words ∷ []) ++ others) → quits words ≡ true → ⊥
+not_among quits [] others words go_on e = let a : true ≡ false = sym e ∙ go_on.0 in cc
+not_among quits (first ∷ front) others words go_on e = not_among quits front others words go_on.1 e
 
-whole_not_fault : (bytes : List ℕ) (asked asked' : List Words) (rule at : ℕ) → Frames bytes asked Whole → Frames bytes asked' (Fault rule at) → ⊥
-whole_not_fault bytes asked asked' rule at a b = let e = (one_frames bytes asked asked' Whole (Fault rule at) a b).1 in cc
+-- bytes that end well have no other frames in which no request ends the run, but those that end after a whole one
+ends_whole : (quits : Words → Bool) (bytes : List ℕ) (asked asked' : List Words) (end end' : End) → Frames bytes asked end → EndsWell quits asked end → Frames bytes asked' end' → GoOn quits asked' → end' ≡ Whole
+ends_whole quits bytes asked asked' end end' a well b go_on =
+    let one = one_frames bytes asked asked' end end' a b in
+    elim well [
+      | inl whole ↦ sym one.1 ∙ whole
+      | inr has ↦ let G : List Words → Type 0 = GoOn quits in absurd (not_among quits has.front has.others has.quit (subst G has.split (subst G (sym one.0) go_on)) has.ends_run)
+    ]
 
 module _ {E : Type 0} (P : List Words → List (List Part) → E → Type 0) (quits : Words → Bool) (spent : E → Bool) (limit : ℕ) (i i1 : SourceSeen) (o o1 : SinkSeen) (last : E) (ended : Ended)
     (s : Served P quits spent limit i i1 o o1 last ended) where
@@ -85,7 +93,7 @@ module _ {E : Type 0} (P : List Words → List (List Part) → E → Type 0) (qu
 
   -- ---- an input that is served whole
 
-  module _ (bytes : List ℕ) (asked : List Words) (left : Left bytes s.taken i1.told) (frames : Frames bytes asked Whole) (few : length bytes < limit) (no_read : NoReadFault i i1) where
+  module _ (bytes : List ℕ) (asked : List Words) (end : End) (left : Left bytes s.taken i1.told) (frames : Frames bytes asked end) (well : EndsWell quits asked end) (few : length bytes < limit) (no_read : NoReadFault i i1) where
     not_limit : length s.taken ≡ limit → ⊥
     not_limit e = omega (arith, ap length left.whole, length-append s.taken left.rest)
 
@@ -95,40 +103,44 @@ module _ {E : Type 0} (P : List Words → List (List Part) → E → Type 0) (qu
         let counts = subst C is s.reads in
         elim no_read [ inl sure ↦ counts.1 sure | inr none ↦ none counts.0 ]
 
-    at_end_cut : IsAtEnd i1.told → Frames s.taken s.asked Cut → ⊥
-    at_end_cut end f =
+    at_end_cut : IsAtEnd i1.told → Frames s.taken s.asked Cut → GoOn quits s.asked → ⊥
+    at_end_cut at_end f go_on =
         let P : Option (List ℕ) → Type 0 = IsAtEnd in
-        let none : left.rest ≡ [] = subst P left.is end in
+        let none : left.rest ≡ [] = subst P left.is at_end in
         let same : s.taken ≡ bytes = sym (left.whole ∙ ap (λ l. s.taken ++ l) none ∙ append-nil s.taken) in
         let Q : List ℕ → Type 0 = λ t. Frames t s.asked Cut in
-        whole_not_cut bytes asked s.asked frames (subst Q same f)
+        let e = ends_whole quits bytes asked s.asked end Cut frames well (subst Q same f) go_on in cc
 
-    no_fault : (rule at : ℕ) → Frames s.taken s.asked (Fault rule at) → ⊥
-    no_fault rule at f =
+    no_fault : (rule at : ℕ) → Frames s.taken s.asked (Fault rule at) → GoOn quits s.asked → ⊥
+    no_fault rule at f go_on =
         let P : List ℕ → Type 0 = λ t. Frames t s.asked (Fault rule at) in
-        whole_not_fault bytes asked s.asked rule at frames (subst P (sym left.whole) (fault_frames s.taken left.rest s.asked rule at f))
+        let e = ends_whole quits bytes asked s.asked end (Fault rule at) frames well (subst P (sym left.whole) (fault_frames s.taken left.rest s.asked rule at f)) go_on in cc
 
-    by_completes : (end : End) → Frames s.taken s.asked end → EndsBy limit s.taken end i1.told ended → EndsWhole ended
-    by_completes Whole f (at_limit e is) = absurd (not_limit e)
-    by_completes Whole f (take_fails e is) = absurd (not_failed is)
-    by_completes Whole f (finds_end e end is) = exactly.whole is
-    by_completes Cut f (at_limit e is) = absurd (not_limit e)
-    by_completes Cut f (take_fails e is) = absurd (not_failed is)
-    by_completes Cut f (finds_end e end is) = absurd (at_end_cut end f)
-    by_completes (Fault rule at) f e = absurd (no_fault rule at f)
+    by_completes : (found : End) → Frames s.taken s.asked found → GoOn quits s.asked → EndsBy limit s.taken found i1.told ended → EndsWhole ended
+    by_completes Whole f go_on (at_limit e is) = absurd (not_limit e)
+    by_completes Whole f go_on (take_fails e is) = absurd (not_failed is)
+    by_completes Whole f go_on (finds_end e at_end is) = exactly.whole is
+    by_completes Cut f go_on (at_limit e is) = absurd (not_limit e)
+    by_completes Cut f go_on (take_fails e is) = absurd (not_failed is)
+    by_completes Cut f go_on (finds_end e at_end is) = absurd (at_end_cut at_end f go_on)
+    by_completes (Fault rule at) f go_on e = absurd (no_fault rule at f go_on)
 
     -- the requests that were taken are the first of all
     first_asked : (more : List Words) × (asked ≡ s.asked ++ more)
     first_asked =
         let P : List ℕ → Type 0 = λ l. Framed l s.frames.items (s.frames.rest ++ left.rest) in
-        let r = requests_first bytes s.frames.items (s.frames.rest ++ left.rest) asked Whole (subst P (sym left.whole) (framed_more s.taken s.frames.rest left.rest s.frames.items s.frames.framed)) frames in
+        let r = requests_first bytes s.frames.items (s.frames.rest ++ left.rest) asked end (subst P (sym left.whole) (framed_more s.taken s.frames.rest left.rest s.frames.items s.frames.framed)) frames in
         (r.0, r.1 ∙ ap (λ l. l ++ r.0) s.frames.are)
 
     -- the line of a broken rule stands behind no reply
     no_tail : (a : AnswersPart P quits spent s.asked s.end o o1 last) → a.tail ≡ []
     no_tail a = elim a.behind [
       | inl none ↦ none
-      | inr some ↦ let F : End → Type 0 = λ e. Frames s.taken s.asked e in absurd (no_fault some.0 some.1 (subst F some.2 s.frames))
+      | inr some ↦
+          let F : End → Type 0 = λ e. Frames s.taken s.asked e in
+          let G : List Words → Type 0 = GoOn quits in
+          let all : a.some ≡ s.asked = sym (a.split ∙ ap (λ l. a.some ++ l) some.3 ∙ append-nil a.some) in
+          absurd (no_fault some.0 some.1 (subst F some.2 s.frames) (subst G all some.4))
     ]
 
     put_completes : NoWriteFault P asked o o1 → AnswersPart P quits spent s.asked s.end o o1 last → ⊥
@@ -141,12 +153,12 @@ module _ {E : Type 0} (P : List Words → List (List Part) → E → Type 0) (qu
       | inr none ↦ none a.wrote.rose
     ]
 
-  pub completes : ServesWhole P limit i i1 o o1 ended
-  completes bytes asked e frames few no_read no_write =
+  pub completes : ServesWhole P quits limit i i1 o o1 ended
+  completes bytes asked end e frames well few no_read no_write =
       let left = left_of i.told i1.told bytes s.taken e s.took in
       elim s.ends [
-        | answered a by ↦ by_completes bytes asked left frames few no_read s.end s.frames by
+        | answered a by ↦ by_completes bytes asked end left frames well few no_read s.end s.frames a.go_on by
         | quit a is ↦ exactly.quit is
-        | write_fault a is ↦ absurd (put_completes bytes asked left frames few no_read no_write a)
+        | write_fault a is ↦ absurd (put_completes bytes asked end left frames well few no_read no_write a)
         | no_memory a is ↦ exactly.no_memory is
       ]

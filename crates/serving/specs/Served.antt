@@ -78,7 +78,8 @@ module _ {E : Type 0} (Allowed : List Words → List (List Part) → E → Type 
     pub may : Allowed some replies last
     pub wrote : PutsAll old new (spelled replies)
 
-  -- a front of the bytes of replies to the first of the requests is written, or of all replies and the tail of the end
+  -- a front of the bytes of replies to the first of the requests is written, or of all replies and the tail of the end, where
+  -- none of the requests ends the run
   pub record AnswersPart (asked : List Words) (end : End) (old new : SinkSeen) (last : E) : Type 0 where
     pub some : List Words
     pub others : List Words
@@ -89,7 +90,7 @@ module _ {E : Type 0} (Allowed : List Words → List (List Part) → E → Type 
     -- it is what is left, unless memory was refused too
     pub known : (then_is ≡ last) ⊎ (spent last ≡ true)
     pub tail : List ℕ
-    pub behind : (tail ≡ []) ⊎ ((rule at : ℕ) × (end ≡ Fault rule at) × (others ≡ []) × (tail ≡ fault_line rule at))
+    pub behind : (tail ≡ []) ⊎ ((rule at : ℕ) × (end ≡ Fault rule at) × (others ≡ []) × GoOn quits some × (tail ≡ fault_line rule at))
     pub wrote : PutsFront old new (spelled replies ++ tail)
 
   -- how the serving ends
