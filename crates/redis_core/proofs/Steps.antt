@@ -21,7 +21,11 @@ use Rattle.keyspace.specs.Databases.{Bases, means}
 use Rattle.keyspace.specs.Databases.{Keyspace}
 use Rattle.keyspace.specs.Commands.{sight, Ready, Runs}
 use Rattle.keyspace.specs.Sound.{Sound}
+use Rattle.keyspace.specs.Scopes.{Within, scope_of}
 use Rattle.keyspace.proofs.Running.{same_settings}
+use Rattle.keyspace.proofs.Serving.{unmoved}
+use Rattle.redis_core.specs.Touched.{scope_meant, scope_asked, Settles}
+use Rattle.redis_core.proofs.Settled.{settles_none}
 use Rattle.redis_core.specs.declared.answering.Answered.{Answered}
 use Rattle.redis_core.specs.Engines.{State, world_of, Keeps, Executes, Stands, Leads, Answers}
 
@@ -32,8 +36,10 @@ module _ (at : Ctx) (words : Words) where
 
 module _ {S E : Type 0} (blocks : S → Blocks) (step_of : S → S → Type 0) (at : Ctx) where
   -- a command that selects no database ran
-  pub family_leads : (old new : Keyspace S) (command : Command) (reply : List Part) (quit : Bool) → at.db < 16 → quit ≡ is_quit command → Runs {E = E} blocks step_of old new at command (Ok reply) → Leads {E = E} blocks step_of old new at command (Ok (record { reply = reply; selected = at.db; quit = quit }))
-  family_leads old new command reply quit within is r = record {
+  pub family_leads : (old new : Keyspace S) (command : Command) (reply : List Part) (quit : Bool) → at.db < 16 → quit ≡ is_quit command → Runs {E = E} blocks step_of old new at command (Ok reply) → Settles old.bases new.bases (blocks old.store) (blocks new.store) → Leads {E = E} blocks step_of old new at command (Ok (record { reply = reply; selected = at.db; quit = quit }))
+  family_leads old new command reply quit within is r settles = record {
+    within = r.kept.within;
+    settles = settles;
     answers = r.answers;
     quits = is;
     stands = record { within = within; refused = λ refused. (r.kept.refusals refused, refl); sound = r.kept.sound; served = r.kept.served; settings = r.kept.settings };
@@ -41,6 +47,8 @@ module _ {S E : Type 0} (blocks : S → Blocks) (step_of : S → S → Type 0) (
 
   pub family_fails : (old new : Keyspace S) (command : Command) (e : E) → Runs blocks step_of old new at command (Err e) → Leads blocks step_of old new at command (Err e)
   family_fails old new command e r = record {
+    within = r.kept.within;
+    settles = tt;
     answers = tt;
     quits = tt;
     stands = record { within = tt; refused = tt; sound = r.kept.sound; served = r.kept.served; settings = r.kept.settings };
@@ -54,29 +62,35 @@ module _ {S E : Type 0} (blocks : S → Blocks) (step_of : S → S → Type 0) (
   -- SELECT
   pub select_leads : (keyspace : Keyspace S) (command : Command) (number : ℕ) (reply : List Part) → Ready blocks keyspace at → IsAsked command → command ≡ Connection (Select number) → reply ≡ Simple (codes "OK") ∷ [] → Leads {E = E} blocks step_of keyspace keyspace at command (Ok (record { reply = reply; selected = number; quit = false }))
   select_leads keyspace command number reply ready asked is told = record {
+    within = unmoved (scope_of at.db command) keyspace.bases (blocks keyspace.store);
+    settles = settles_none keyspace.bases (blocks keyspace.store);
     answers = subst (λ c. may keyspace.bases.seed (sight blocks keyspace at) at.moment c reply (live (means number keyspace.bases (blocks keyspace.store)) at.moment)) (sym is) (told, refl);
     quits = sym (ap is_quit is);
     stands = stays keyspace (Ok (record { reply = reply; selected = number; quit = false })) ready.sound (subst FitsCommand is (command_fits asked.words command asked.means)) (λ r. absurd (subst IsRefusal told r));
   }
 
   pub select_fails : (keyspace : Keyspace S) (command : Command) (e : E) → Ready blocks keyspace at → Leads blocks step_of keyspace keyspace at command (Err e)
-  select_fails keyspace command e ready = record { answers = tt; quits = tt; stands = stays keyspace (Err e) ready.sound tt tt }
+  select_fails keyspace command e ready = record { within = unmoved (scope_of at.db command) keyspace.bases (blocks keyspace.store); settles = tt; answers = tt; quits = tt; stands = stays keyspace (Err e) ready.sound tt tt }
 
 module _ {S E : Type 0} (blocks : S → Blocks) (step_of : S → S → Type 0) (at : Ctx) (words : Words) where
   -- the command of a request ran
   pub ran : (old new : Keyspace S) (command : Command) (result : Result Answered E) → meant words ≡ Ok command
       → Leads blocks step_of old new at command result → Answers blocks step_of old new at words result
   ran old new command (Ok answered) e r = record {
+    within = subst (λ m. Within (scope_meant at.db m) old.bases new.bases (blocks old.store) (blocks new.store)) (sym e) r.within;
+    settles = r.settles;
     answers = subst (λ m. leads at words old.bases.seed (means at.db old.bases (blocks old.store)) m answered.reply (live (means answered.selected new.bases (blocks new.store)) at.moment)) (sym e) r.answers;
     quits = r.quits ∙ sym (ap quits_of e);
     stands = r.stands;
   }
-  ran old new command (Err x) e r = record { answers = tt; quits = tt; stands = r.stands }
+  ran old new command (Err x) e r = record { within = subst (λ m. Within (scope_meant at.db m) old.bases new.bases (blocks old.store) (blocks new.store)) (sym e) r.within; settles = tt; answers = tt; quits = tt; stands = r.stands }
 
   -- the words of a request are refused
   pub refused : (keyspace : Keyspace S) (refusal : Refusal) (reply : List Part) → Ready blocks keyspace at → meant words ≡ Err refusal
       → reply ≡ Refused refusal ∷ [] → Answers {E = E} blocks step_of keyspace keyspace at words (Ok (record { reply = reply; selected = at.db; quit = false }))
   refused keyspace refusal reply ready e told = record {
+    within = unmoved (scope_asked at.db words) keyspace.bases (blocks keyspace.store);
+    settles = settles_none keyspace.bases (blocks keyspace.store);
     answers = subst (λ m. leads at words keyspace.bases.seed (means at.db keyspace.bases (blocks keyspace.store)) m reply (live (means at.db keyspace.bases (blocks keyspace.store)) at.moment)) (sym e) (told, refl);
     quits = sym (ap quits_of e);
     stands = stays blocks step_of at keyspace (Ok (record { reply = reply; selected = at.db; quit = false })) ready.sound ready.db (λ r. refl);
@@ -84,7 +98,7 @@ module _ {S E : Type 0} (blocks : S → Blocks) (step_of : S → S → Type 0) (
 
   -- memory was refused before anything changed
   pub not_read : (keyspace : Keyspace S) (e : E) → Ready blocks keyspace at → Answers blocks step_of keyspace keyspace at words (Err e)
-  not_read keyspace e ready = record { answers = tt; quits = tt; stands = stays blocks step_of at keyspace (Err e) ready.sound tt tt }
+  not_read keyspace e ready = record { within = unmoved (scope_asked at.db words) keyspace.bases (blocks keyspace.store); settles = tt; answers = tt; quits = tt; stands = stays blocks step_of at keyspace (Err e) ready.sound tt tt }
 
 -- a step from what the keyspace means is one from the world that the engine holds: what is gone then is gone now
 from_held : {S : Type 0} (blocks : S → Blocks) (engine inside : State S) (last : ℕ) → inside ≡ record engine { last = last } → (moment : ℕ) → engine.last ≤ moment → (words : Words) (reply : List Part) (new : World)
@@ -112,6 +126,8 @@ executes {S = S} blocks step_of engine inside moment words answered bases store 
     let served : Served step_of inside.store store = a.stands.served in
     let late : inside.last ≡ max engine.last moment = ap (λ x. x.last) e in
     record {
+      within = subst (λ (x : State S). Within (scope_asked x.selected words) x.bases bases (blocks x.store) (blocks store)) e a.within;
+      settles = subst (λ (x : State S). Settles x.bases bases (blocks x.store) (blocks store)) e a.settles;
       may = from_held blocks engine inside (max engine.last moment) e inside.last (omega (arith, late)) words answered.reply (world_of blocks new) a.answers;
       last = late;
       refused = λ r. let same = a.stands.refused r in record { bases = ap (λ k. k.bases) same.0 ∙ ap (λ x. x.bases) e; store = ap (λ k. k.store) same.0 ∙ ap (λ x. x.store) e; selected = same.1 ∙ ap (λ x. x.selected) e };

@@ -16,6 +16,8 @@ use Rattle.keyspace.specs.Databases.{Bases, means, SameSettings}
 use Rattle.keyspace.specs.Sound.{Sound}
 use Rattle.keyspace.specs.Databases.{Keyspace}
 use Rattle.keyspace.specs.Commands.{sight}
+use Rattle.keyspace.specs.Scopes.{Within, scope_of}
+use Rattle.redis_core.specs.Touched.{scope_asked, Settles}
 use Rattle.rdb_reader.specs.declared.fault.LoadFault.{LoadFault}
 use Rattle.rdb_reader.specs.declared.fault.LoadFault.TheVariants as faults
 
@@ -69,6 +71,9 @@ pub record Executes {S : Type 0} (blocks : S → Blocks) (step_of : S → S → 
   pub refused : IsRefusal reply → Stays old new
   pub keeps : Keeps blocks step_of old new
   pub alive : new.is_spent ≡ false
+  -- nothing changes outside what the request writes: tables grow from those before, and all other keys keep their blocks
+  pub within : Within (scope_asked old.selected words) old.bases new.bases (blocks old.store) (blocks new.store)
+  pub settles : Settles old.bases new.bases (blocks old.store) (blocks new.store)
 
 -- QUIT ends the run (Redis command reference, "QUIT")
 abbrev pub quits : Words → Bool
@@ -101,10 +106,14 @@ pub record Stands {S E : Type 0} (blocks : S → Blocks) (step_of : S → S → 
 pub record Leads {S E : Type 0} (blocks : S → Blocks) (step_of : S → S → Type 0) (old new : Keyspace S) (at : Ctx) (command : Command) (result : Result Answered E) : Type 0 where
   pub answers : IfOk result (λ answered. may old.bases.seed (sight blocks old at) at.moment command answered.reply (live (means answered.selected new.bases (blocks new.store)) at.moment))
   pub quits : IfOk result (λ answered. answered.quit ≡ is_quit command)
+  pub within : Within (scope_of at.db command) old.bases new.bases (blocks old.store) (blocks new.store)
+  pub settles : IfOk result (λ answered. Settles old.bases new.bases (blocks old.store) (blocks new.store))
   pub stands : Stands blocks step_of old new at result
 
 -- The same of a request.
 pub record Answers {S E : Type 0} (blocks : S → Blocks) (step_of : S → S → Type 0) (old new : Keyspace S) (at : Ctx) (words : Words) (result : Result Answered E) : Type 0 where
   pub answers : IfOk result (λ answered. step old.bases.seed (means at.db old.bases (blocks old.store)) at.moment words answered.reply (live (means answered.selected new.bases (blocks new.store)) at.moment))
   pub quits : IfOk result (λ answered. answered.quit ≡ asks_to_quit words)
+  pub within : Within (scope_asked at.db words) old.bases new.bases (blocks old.store) (blocks new.store)
+  pub settles : IfOk result (λ answered. Settles old.bases new.bases (blocks old.store) (blocks new.store))
   pub stands : Stands blocks step_of old new at result

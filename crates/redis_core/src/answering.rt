@@ -1,18 +1,21 @@
 //! One request by its command's own function.
 
-ghost use Rattle.std.specs.Prelude.{◌≡◌, IfSome, IfNone};
+ghost use Rattle.std.specs.Prelude.{◌≡◌, IfOk, IfSome, IfNone, IsTrue, IsFalse};
+ghost use Rattle.plain_model.specs.Outcomes.{IsRefusal};
+ghost use Rattle.redis_core.specs.Touched.{Settles};
 ghost use Rattle.plain_model.specs.Meant.{IsAsked, is_quit};
 ghost use Rattle.plain_model.specs.declared.command.Command.TheVariants.{Connection};
 ghost use Rattle.plain_model.specs.declared.connection.ConnectionCommand.TheVariants.{Select};
 ghost use Rattle.keyspace.specs.Commands.{Ready, Runs};
 ghost use Rattle.redis_core.specs.Engines.{Leads, Answers, SelectsNone};
 
+use crate::settling::{settle, touched_by};
 use blocks::BlockStore;
 use cmd_keys::{run_connection, run_keys};
 use cmd_values::run_strings;
 use command_table::{ReadingFault, read};
 use keyspace::Keyspace;
-use plain_model::{Command, ConnectionCommand, Ctx, Line, Memory, Reply};
+use plain_model::{Command, ConnectionCommand, Ctx, Line, Memory, Part, Reply};
 use rand_pcg::Pcg32;
 use resp_frames::Request;
 use std::alloc::AllocError;
@@ -64,6 +67,45 @@ fn run_family<B: BlockStore>(
     }
 }
 
+// Whether a reply is an error.
+fn is_refusal(reply: &Reply) -> bool
+    ensures refused { IsTrue result → IsRefusal reply.now }
+    ensures calm { IsFalse result → IsRefusal reply.now → ⊥ }
+{
+    match reply.parts() {
+        [Part::Refused(_), ..] => true,
+        _ => false,
+    }
+}
+
+// Runs a command that selects no database. Where it isn't refused, the tables of the databases that it may have changed are
+// made smaller where their elements are few.
+fn run_settled<B: BlockStore>(
+    keyspace: &mut Keyspace<B>,
+    at: &Ctx,
+    command: &Command,
+    dice: &mut Pcg32,
+) -> Result<Reply, Memory>
+    requires ready { Ready B.blocks keyspace.old at.now }
+    requires asked { IsAsked command.now }
+    requires stays { SelectsNone command.now }
+    ensures runs { Runs B.blocks B.step keyspace.old keyspace.new at.now command.now result }
+    ensures settles { IfOk result (λ reply. Settles keyspace.old.bases keyspace.new.bases (B.blocks keyspace.old.store) (B.blocks keyspace.new.store)) }
+{
+    match run_family(keyspace, at, command, dice) {
+        Ok(reply) => {
+            if is_refusal(&reply) {
+                return Ok(reply);
+            }
+            match settle(keyspace, touched_by(command, at.db)) {
+                Ok(()) => Ok(reply),
+                Err(error) => Err(error),
+            }
+        }
+        Err(error) => Err(error),
+    }
+}
+
 // Runs a command of any family. SELECT is answered here, since the engine keeps which database is selected.
 fn run<B: BlockStore>(
     keyspace: &mut Keyspace<B>,
@@ -85,7 +127,7 @@ fn run<B: BlockStore>(
             Err(error) => Err(error),
         };
     }
-    match run_family(keyspace, at, command, dice) {
+    match run_settled(keyspace, at, command, dice) {
         Ok(reply) => Ok(Answered {
             reply,
             selected: at.db,

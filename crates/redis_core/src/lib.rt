@@ -6,6 +6,7 @@ mod engine;
 #[cfg(test)]
 mod key_tests;
 mod laws;
+mod settling;
 #[cfg(test)]
 mod string_tests;
 #[cfg(test)]

@@ -1,0 +1,175 @@
+-- Which databases a command touches, and that there are these.
+use Rattle.std.proofs.Common.{◌≡◌, ◌⊎◌, inl, inr, ℕ, ◌<◌, List, Option, Some, None, refl}
+use Rattle.std.proofs.lemmas.Bool.{cases_eq}
+use Rattle.std.specs.List.{Contains}
+use Rattle.held.specs.Scopes.{keys_of}
+use Rattle.plain_model.specs.Meant.{IsAsked}
+use Rattle.plain_model.specs.declared.command.Command.{Command}
+use Rattle.plain_model.specs.declared.command.Command.TheVariants.{Strings, Keys, Connection}
+use Rattle.plain_model.specs.declared.command.StringCommand.{StringCommand}
+use Rattle.plain_model.specs.declared.command.StringCommand.TheVariants as strings
+use Rattle.plain_model.specs.declared.keys.KeyCommand.{KeyCommand}
+use Rattle.plain_model.specs.declared.keys.KeyCommand.TheVariants as keys
+use Rattle.plain_model.specs.declared.connection.ConnectionCommand.{ConnectionCommand}
+use Rattle.plain_model.specs.declared.connection.ConnectionCommand.TheVariants as connection
+use Rattle.keyspace.specs.Scopes.{Scope, untouched, two_keys, all_keys, everything, first_words, number_or, string_scope, key_scope, connection_scope, scope_of}
+use Rattle.cmd_keys.specs.Found.{IsDatabase}
+use Rattle.cmd_keys.proofs.KeyLemmas.{asked_copy, asked_move}
+use Rattle.redis_core.specs.declared.settling.Touched.{Touched}
+use Rattle.redis_core.specs.declared.settling.Touched.TheVariants.{Nothing, One, Two, All}
+use Rattle.redis_core.specs.Touched.{covers, AreDatabases, string_touched, key_touched, connection_touched, touched_of}
+
+-- these are the databases that the scope touches, and it writes keys of no others
+pub record Fits (scope : Scope) (touched : Touched) : Type 0 where
+  pub into : (number : ℕ) → covers touched number → scope.touches number
+  pub from : (number : ℕ) → scope.touches number → covers touched number
+  pub tight : (number : ℕ) (key : List ℕ) → scope.writes number key → scope.touches number
+
+fits_none : Fits untouched Nothing
+fits_none = record { into = λ number h. h; from = λ number h. h; tight = λ number key h. h }
+
+fits_keys : (db : ℕ) (named : List ℕ → Type 0) → Fits (keys_of db named) (One db)
+fits_keys db named = record { into = λ number h. h; from = λ number h. h; tight = λ number key h. h.0 }
+
+fits_two : (db : ℕ) (key : List ℕ) (other_db : ℕ) (other : List ℕ) → Fits (two_keys db key other_db other) (Two db other_db)
+fits_two db key other_db other = record { into = λ number h. h; from = λ number h. h; tight = λ number k h. elim h [ inl one ↦ inl one.0 | inr two ↦ inr two.0 ] }
+
+fits_all : (db : ℕ) → Fits (all_keys db) (One db)
+fits_all db = record { into = λ number h. h; from = λ number h. h; tight = λ number key h. absurd h }
+
+fits_everything : Fits everything All
+fits_everything = record { into = λ number h. h; from = λ number h. h; tight = λ number key h. absurd h }
+
+-- The scope of each command touches the databases that it is said to touch.
+pub string_fits : (db : ℕ) (command : StringCommand) → Fits (string_scope db command) (string_touched db command)
+string_fits db (strings.Get key) = fits_none
+string_fits db (strings.Set key value options) = fits_keys db (λ other. other ≡ key)
+string_fits db (strings.SetNx key value) = fits_keys db (λ other. other ≡ key)
+string_fits db (strings.SetEx key n value) = fits_keys db (λ other. other ≡ key)
+string_fits db (strings.PSetEx key n value) = fits_keys db (λ other. other ≡ key)
+string_fits db (strings.GetEx key renewal) = fits_keys db (λ other. ⊥)
+string_fits db (strings.GetSet key value) = fits_keys db (λ other. other ≡ key)
+string_fits db (strings.GetDel key) = fits_keys db (λ other. ⊥)
+string_fits db (strings.MGet keys) = fits_none
+string_fits db (strings.MSet pairs) = fits_keys db (Contains (first_words pairs))
+string_fits db (strings.MSetNx pairs) = fits_keys db (Contains (first_words pairs))
+string_fits db (strings.Append key tail) = fits_keys db (λ other. other ≡ key)
+string_fits db (strings.StrLen key) = fits_none
+string_fits db (strings.GetRange key a b) = fits_none
+string_fits db (strings.SetRange key at piece) = fits_keys db (λ other. other ≡ key)
+string_fits db (strings.Incr key) = fits_keys db (λ other. other ≡ key)
+string_fits db (strings.Decr key) = fits_keys db (λ other. other ≡ key)
+string_fits db (strings.IncrBy key n) = fits_keys db (λ other. other ≡ key)
+string_fits db (strings.DecrBy key n) = fits_keys db (λ other. other ≡ key)
+
+pub key_fits : (db : ℕ) (command : KeyCommand) → Fits (key_scope db command) (key_touched db command)
+key_fits db (keys.Del names) = fits_keys db (λ other. ⊥)
+key_fits db (keys.Unlink names) = fits_keys db (λ other. ⊥)
+key_fits db (keys.Exists names) = fits_none
+key_fits db (keys.Touch names) = fits_none
+key_fits db (keys.TypeOf key) = fits_none
+key_fits db (keys.Expire key n options) = fits_keys db (λ other. ⊥)
+key_fits db (keys.PExpire key n options) = fits_keys db (λ other. ⊥)
+key_fits db (keys.ExpireAt key n options) = fits_keys db (λ other. ⊥)
+key_fits db (keys.PExpireAt key n options) = fits_keys db (λ other. ⊥)
+key_fits db (keys.Ttl key) = fits_none
+key_fits db (keys.PTtl key) = fits_none
+key_fits db (keys.ExpireTime key) = fits_none
+key_fits db (keys.PExpireTime key) = fits_none
+key_fits db (keys.Persist key) = fits_keys db (λ other. ⊥)
+key_fits db (keys.Rename from to) = fits_two db from db to
+key_fits db (keys.RenameNx from to) = fits_two db from db to
+key_fits db (keys.Copy from to options) = fits_two db from (number_or db options.db) to
+key_fits db (keys.MoveKey key number) = fits_two db key number key
+key_fits db keys.RandomKey = fits_none
+key_fits db (keys.ObjectEncoding key) = fits_none
+
+pub connection_fits : (db : ℕ) (command : ConnectionCommand) → Fits (connection_scope db command) (connection_touched db command)
+connection_fits db (connection.Ping text) = fits_none
+connection_fits db (connection.Echo text) = fits_none
+connection_fits db connection.Quit = fits_none
+connection_fits db (connection.Select number) = fits_none
+connection_fits db connection.DbSize = fits_keys db (λ other. ⊥)
+connection_fits db connection.FlushDb = fits_all db
+connection_fits db connection.FlushAll = fits_everything
+
+pub fits_of : (db : ℕ) (command : Command) → Fits (scope_of db command) (touched_of db command)
+fits_of db (Strings command) = string_fits db command
+fits_of db (Keys command) = key_fits db command
+fits_of db (Connection command) = connection_fits db command
+
+-- ---- they are databases
+
+copied : (db : ℕ) → db < 16 → (number : Option ℕ) → IsDatabase number → number_or db number < 16
+copied db below None is = below
+copied db below (Some number) is = is
+
+pub string_databases : (db : ℕ) → db < 16 → (command : StringCommand) → AreDatabases (string_touched db command)
+string_databases db below (strings.Get key) = tt
+string_databases db below (strings.Set key value options) = below
+string_databases db below (strings.SetNx key value) = below
+string_databases db below (strings.SetEx key n value) = below
+string_databases db below (strings.PSetEx key n value) = below
+string_databases db below (strings.GetEx key renewal) = below
+string_databases db below (strings.GetSet key value) = below
+string_databases db below (strings.GetDel key) = below
+string_databases db below (strings.MGet keys) = tt
+string_databases db below (strings.MSet pairs) = below
+string_databases db below (strings.MSetNx pairs) = below
+string_databases db below (strings.Append key tail) = below
+string_databases db below (strings.StrLen key) = tt
+string_databases db below (strings.GetRange key a b) = tt
+string_databases db below (strings.SetRange key at piece) = below
+string_databases db below (strings.Incr key) = below
+string_databases db below (strings.Decr key) = below
+string_databases db below (strings.IncrBy key n) = below
+string_databases db below (strings.DecrBy key n) = below
+
+pub key_databases : (db : ℕ) → db < 16 → (command : KeyCommand) → IsAsked (Keys command) → AreDatabases (key_touched db command)
+key_databases db below (keys.Del names) asked = below
+key_databases db below (keys.Unlink names) asked = below
+key_databases db below (keys.Exists names) asked = tt
+key_databases db below (keys.Touch names) asked = tt
+key_databases db below (keys.TypeOf key) asked = tt
+key_databases db below (keys.Expire key n options) asked = below
+key_databases db below (keys.PExpire key n options) asked = below
+key_databases db below (keys.ExpireAt key n options) asked = below
+key_databases db below (keys.PExpireAt key n options) asked = below
+key_databases db below (keys.Ttl key) asked = tt
+key_databases db below (keys.PTtl key) asked = tt
+key_databases db below (keys.ExpireTime key) asked = tt
+key_databases db below (keys.PExpireTime key) asked = tt
+key_databases db below (keys.Persist key) asked = below
+key_databases db below (keys.Rename from to) asked = (below, below)
+key_databases db below (keys.RenameNx from to) asked = (below, below)
+key_databases db below (keys.Copy from to options) asked = (below, copied db below options.db (asked_copy (keys.Copy from to options) from to options asked refl))
+key_databases db below (keys.MoveKey key number) asked = (below, asked_move (keys.MoveKey key number) key number asked refl)
+key_databases db below keys.RandomKey asked = tt
+key_databases db below (keys.ObjectEncoding key) asked = tt
+
+pub connection_databases : (db : ℕ) → db < 16 → (command : ConnectionCommand) → AreDatabases (connection_touched db command)
+connection_databases db below (connection.Ping text) = tt
+connection_databases db below (connection.Echo text) = tt
+connection_databases db below connection.Quit = tt
+connection_databases db below (connection.Select number) = tt
+connection_databases db below connection.DbSize = below
+connection_databases db below connection.FlushDb = below
+connection_databases db below connection.FlushAll = tt
+
+pub databases_of : (db : ℕ) → db < 16 → (command : Command) → IsAsked command → AreDatabases (touched_of db command)
+databases_of db below (Strings command) asked = string_databases db below command
+databases_of db below (Keys command) asked = key_databases db below command asked
+databases_of db below (Connection command) asked = connection_databases db below command
+
+-- a database is one of these, or isn't
+pub covers_or : (touched : Touched) (number : ℕ) → covers touched number ⊎ (covers touched number → ⊥)
+covers_or Nothing number = inr (λ no. no)
+covers_or (One db) number = cases_eq number db
+covers_or (Two db other) number = elim (cases_eq number db) [
+  | inl here ↦ inl (inl here)
+  | inr apart ↦ elim (cases_eq number other) [
+    | inl there ↦ inl (inr there)
+    | inr too ↦ inr (λ both. elim both [ inl here ↦ apart here | inr there ↦ too there ])
+  ]
+]
+covers_or All number = inl tt

@@ -1,0 +1,157 @@
+-- What a command leaves when the tables that it touched are settled.
+use Rattle.std.proofs.Common.{◌≡◌, ◌⊎◌, inl, inr, ℕ, ◌+◌, ◌<◌, ◌≤◌, zero, suc, get_or, List, [], ◌∷◌, Option, Some, None, Result, Ok, Err, IfOk, OnOk, Bool, true, false, length, refl, sym, ap, ◌∙◌, subst, arith}
+use Rattle.std.proofs.lemmas.Bool.{cases_eq, cases_lt, cond-true}
+use Rattle.blocks.specs.Blocks.{Blocks, ref_eq}
+use Rattle.blocks.proofs.Refs.{ref_eq-refl}
+use Rattle.blocks.proofs.Change.{one_if}
+use Rattle.rehash_dict.specs.Tables.{IsSettled}
+use Rattle.rehash_dict.specs.Table.{tables}
+use Rattle.held.specs.declared.databases.Base.{Base}
+use Rattle.held.specs.Table.{Table, Element, item}
+use Rattle.held.specs.Databases.{no_base, base_at, table_at, deadlines_at}
+use Rattle.held.proofs.Within.{within_wider}
+use Rattle.plain_world.specs.Worlds.{World, live, selecting}
+use Rattle.plain_world.specs.declared.reply.Part.{Part}
+use Rattle.plain_model.specs.Outcomes.{IsRefusal}
+use Rattle.plain_model.specs.Steps.{may}
+use Rattle.plain_model.specs.declared.command.Command.{Command}
+use Rattle.plain_model.specs.declared.ctx.Ctx.{Ctx}
+use Rattle.keyspace.specs.declared.value.Value.{Value}
+use Rattle.keyspace.specs.Values.{value_refs}
+use Rattle.keyspace.specs.Databases.{Bases, Keyspace, means}
+use Rattle.keyspace.specs.Sound.{Sound}
+use Rattle.keyspace.specs.Scopes.{Scope, no_key, Within, AreSettled, scope_of}
+use Rattle.keyspace.specs.Commands.{sight, Held, Kept, Runs}
+use Rattle.keyspace.proofs.Running.{held_then, same_held}
+use Rattle.keyspace.proofs.Serving.{further}
+use Rattle.redis_core.specs.declared.settling.Touched.{Touched}
+use Rattle.redis_core.specs.declared.settling.Touched.TheVariants.{Nothing, One, Two, All}
+use Rattle.redis_core.specs.Touched.{covers, shrinking, touched_of, Lost, Settles}
+use Rattle.redis_core.proofs.Fitting.{Fits, fits_of, covers_or}
+
+-- where nothing changed no key is lost
+pub settles_none : (bases : Bases) (m : Blocks) → Settles bases bases m m
+settles_none bases m = record {
+  keys = λ db lost. absurd (lost.gone.each lost.at lost.stood.element lost.stood.found lost.stood.bytes);
+  deadlines = λ db lost. absurd (lost.gone.each lost.at lost.stood.element lost.stood.found lost.stood.bytes);
+}
+
+module _ (scope : Scope) (touched : Touched) (fits : Fits scope touched) (old new : Bases) (m after : Blocks) (sound : Sound old m) (within : Within scope old new m after) where
+  -- a key of a database that isn't touched stays where it is, with its bytes
+  module _ (db : ℕ) (apart : covers touched db → ⊥) where
+    untouched : scope.touches db → ⊥
+    untouched touches = apart (fits.from db touches)
+
+    key_kept : (at : ℕ) (e : Element Value) → item (table_at old db) at ≡ Some e → after e.key ≡ m e.key
+    key_kept at e found =
+        let itself : one_if (ref_eq e.key e.key) ≡ 1 = cond-true _ _ _ (ref_eq-refl e.key) in
+        (within.stayed db at e (ap (λ (b : Base Value). item b.keys at) (within.same db untouched) ∙ found) (λ written. untouched (fits.tight db _ written))).bytes e.key (omega (arith, itself))
+
+    no_key_lost : Lost m after (table_at old db) (table_at new db) → ⊥
+    no_key_lost lost =
+        lost.gone.each lost.at lost.stood.element (ap (λ (b : Base Value). item b.keys lost.at) (within.same db untouched) ∙ lost.stood.found)
+        (key_kept lost.at lost.stood.element lost.stood.found ∙ lost.stood.bytes)
+
+    no_deadline_lost : Lost m after (deadlines_at old db).table (deadlines_at new db).table → ⊥
+    no_deadline_lost lost =
+        let named = (sound.arranged.timed db).names lost.at lost.stood.element lost.stood.found in
+        let kept : after lost.stood.element.key ≡ m lost.stood.element.key = ap after (sym named.same) ∙ key_kept named.at named.element named.found ∙ ap m named.same in
+        lost.gone.each lost.at lost.stood.element (ap (λ (b : Base Value). item b.deadlines.table lost.at) (within.same db untouched) ∙ lost.stood.found) (kept ∙ lost.stood.bytes)
+
+  pub settles_from : ((db : ℕ) → covers touched db → AreSettled new db) → Settles old new m after
+  settles_from settled = record {
+    keys = λ db lost. elim (covers_or touched db) [ inl here ↦ (settled db here).keys | inr apart ↦ absurd (no_key_lost db apart lost) ];
+    deadlines = λ db lost. elim (covers_or touched db) [ inl here ↦ (settled db here).deadlines | inr apart ↦ absurd (no_deadline_lost db apart lost) ];
+  }
+
+-- ---- a command ran, and then its tables were settled
+
+module _ {S E : Type 0} (blocks : S → Blocks) (step : S → S → Type 0) (old mid new : Keyspace S) (at : Ctx) (command : Command) (reply : List Part) (calm : IsRefusal reply → ⊥)
+    (ran : Runs {E = E} blocks step old mid at command (Ok reply)) (settled : Held blocks step (shrinking (touched_of at.db command)) mid new) where
+  both_within : Within (scope_of at.db command) old.bases new.bases (blocks old.store) (blocks new.store)
+  both_within = further (scope_of at.db command) old.bases mid.bases new.bases (blocks old.store) (blocks mid.store) (blocks new.store) ran.kept.within
+      (within_wider value_refs (shrinking (touched_of at.db command)) (scope_of at.db command) (fits_of at.db command).into (λ number key no. absurd no) (λ number no. absurd no) mid.bases new.bases (blocks mid.store) (blocks new.store) settled.within)
+
+  held_both : Held blocks step (scope_of at.db command) old new
+  held_both = held_then blocks step (scope_of at.db command) old mid new (record { sound = ran.kept.sound; served = ran.kept.served; settings = ran.kept.settings; within = ran.kept.within })
+      (record {
+        sound = settled.sound;
+        served = settled.served;
+        settings = settled.settings;
+        within = within_wider value_refs (shrinking (touched_of at.db command)) (scope_of at.db command) (fits_of at.db command).into (λ number key no. absurd no) (λ number no. absurd no) mid.bases new.bases (blocks mid.store) (blocks new.store) settled.within;
+      })
+
+  pub settled_runs : ((number : ℕ) → means number new.bases (blocks new.store) ≡ means number mid.bases (blocks mid.store)) → Runs {E = E} blocks step old new at command (Ok reply)
+  settled_runs world = record {
+    answers = subst (λ w. may old.bases.seed (sight blocks old at) at.moment command reply (live w at.moment)) (sym (world at.db)) ran.answers;
+    kept = record { refusals = λ refused. absurd (calm refused); sound = held_both.sound; served = held_both.served; settings = held_both.settings; within = held_both.within };
+  }
+
+  pub settled_fails : (e : E) → Runs {E = E} blocks step old new at command (Err e)
+  settled_fails e = record {
+    answers = tt;
+    kept = record { refusals = tt; sound = held_both.sound; served = held_both.served; settings = held_both.settings; within = held_both.within };
+  }
+
+  pub settled_settles : Sound old.bases (blocks old.store) → ((number : ℕ) → covers (touched_of at.db command) number → AreSettled new.bases number) → Settles old.bases new.bases (blocks old.store) (blocks new.store)
+  settled_settles sound done = settles_from (scope_of at.db command) (touched_of at.db command) (fits_of at.db command) old.bases new.bases (blocks old.store) (blocks new.store) sound both_within done
+
+-- ---- the tables of databases are settled, one after the other
+
+module _ {S : Type 0} (blocks : S → Blocks) (step : S → S → Type 0) where
+  -- those of one of these databases
+  pub held_shrinks : (touched : Touched) (db : ℕ) → covers touched db → (old new : Keyspace S) → Held blocks step (no_key db) old new → Held blocks step (shrinking touched) old new
+  held_shrinks touched db here old new held = record {
+    sound = held.sound;
+    served = held.served;
+    settings = held.settings;
+    within = within_wider value_refs (no_key db) (shrinking touched) (λ number is. subst (covers touched) (sym is) here) (λ number key no. no.1) (λ number no. no) old.bases new.bases (blocks old.store) (blocks new.store) held.within;
+  }
+
+  -- what is settled stays settled while another database's tables are
+  pub settled_then : (mid new : Keyspace S) (db other : ℕ) → AreSettled mid.bases db → Held blocks step (no_key other) mid new → AreSettled new.bases other → AreSettled new.bases db
+  settled_then mid new db other first held last = elim (cases_eq db other) [
+    | inl same ↦ subst (AreSettled new.bases) (sym same) last
+    | inr apart ↦ (let kept : base_at new.bases db ≡ base_at mid.bases db = held.within.same db (λ is. apart is) in
+        record {
+          keys = subst (λ (b : Base Value). IsSettled (tables b.keys)) (sym kept) first.keys;
+          deadlines = subst (λ (b : Base Value). IsSettled (tables b.deadlines.table)) (sym kept) first.deadlines;
+        })
+  ]
+
+  -- all below a number are settled, and the database of that number too
+  pub below_settled : (mid new : Keyspace S) (db : ℕ) → ((number : ℕ) → number < db → AreSettled mid.bases number) → Held blocks step (no_key db) mid new → AreSettled new.bases db → (number : ℕ) → number < db + 1 → AreSettled new.bases number
+  below_settled mid new db first held last number below = elim (cases_eq number db) [
+    | inl here ↦ subst (AreSettled new.bases) (sym here) last
+    | inr apart ↦ settled_then mid new number db (first number (omega (arith, below, apart))) held last
+  ]
+
+-- beyond a list's end stands what stands in its place
+beyond : {A : Type 0} (xs : List A) (i : ℕ) (other : A) → length xs ≤ i → get_or xs i other ≡ other
+beyond [] i other h = refl
+beyond (x ∷ xs) zero other h = absurd (omega (arith, h))
+beyond (x ∷ xs) (suc i) other h = beyond xs i other (omega (arith, h))
+
+-- where there is no database no table has a bucket
+pub all_settled : (bases : Bases) → length bases.bases ≡ 16 → ((number : ℕ) → number < 16 → AreSettled bases number) → (number : ℕ) → AreSettled bases number
+all_settled bases sixteen below number = elim (cases_lt number 16) [
+  | inl less ↦ below number less
+  | inr other ↦ (let none : base_at bases number ≡ no_base 0 = beyond bases.bases number (no_base 0) (omega (arith, other, sixteen)) in
+      record {
+        keys = subst (λ (b : Base Value). IsSettled (tables b.keys)) (sym none) refl;
+        deadlines = subst (λ (b : Base Value). IsSettled (tables b.deadlines.table)) (sym none) refl;
+      })
+]
+
+pub ok_so : {A E P Q : Type 0} (result : Result A E) → (P → Q) → OnOk result P → OnOk result Q
+ok_so (Ok a) f h = f h
+ok_so (Err e) f h = tt
+
+pub one_settled : (bases : Bases) (db : ℕ) → AreSettled bases db → (number : ℕ) → covers (One db) number → AreSettled bases number
+one_settled bases db done number here = subst (AreSettled bases) (sym here) done
+
+pub two_settled : (bases : Bases) (db other : ℕ) → AreSettled bases db → AreSettled bases other → (number : ℕ) → covers (Two db other) number → AreSettled bases number
+two_settled bases db other first last number here = elim here [ inl one ↦ subst (AreSettled bases) (sym one) first | inr two ↦ subst (AreSettled bases) (sym two) last ]
+
+pub covered : (touched same : Touched) → touched ≡ same → (bases : Bases) → ((number : ℕ) → covers same number → AreSettled bases number) → (number : ℕ) → covers touched number → AreSettled bases number
+covered touched same is bases done number here = done number (subst (λ (t : Touched). covers t number) is here)

@@ -1,0 +1,124 @@
+-- Which databases a command may change, and which tables it leaves settled.
+use Rattle.std.specs.Prelude.{◌≡◌, ◌⊎◌, ℕ, ◌<◌, List, Result, Ok, Err}
+use Rattle.blocks.specs.Blocks.{Blocks}
+use Rattle.rehash_dict.specs.Tables.{IsSettled}
+use Rattle.rehash_dict.specs.Table.{Table, tables}
+use Rattle.rehash_dict.specs.Keyed.{Stands, Lacks}
+use Rattle.held.specs.Databases.{table_at, deadlines_at}
+use Rattle.plain_world.specs.Words.{Words}
+use Rattle.plain_world.specs.declared.refusal.Refusal.{Refusal}
+use Rattle.plain_model.specs.Meant.{meant}
+use Rattle.plain_model.specs.declared.command.Command.{Command}
+use Rattle.plain_model.specs.declared.command.Command.TheVariants.{Strings, Keys, Connection}
+use Rattle.plain_model.specs.declared.command.StringCommand.{StringCommand}
+use Rattle.plain_model.specs.declared.command.StringCommand.TheVariants as strings
+use Rattle.plain_model.specs.declared.keys.KeyCommand.{KeyCommand}
+use Rattle.plain_model.specs.declared.keys.KeyCommand.TheVariants as keys
+use Rattle.plain_model.specs.declared.connection.ConnectionCommand.{ConnectionCommand}
+use Rattle.plain_model.specs.declared.connection.ConnectionCommand.TheVariants as connection
+use Rattle.keyspace.specs.Databases.{Bases}
+use Rattle.keyspace.specs.Scopes.{Scope, untouched, number_or, scope_of}
+use Rattle.redis_core.specs.declared.settling.Touched.{Touched}
+use Rattle.redis_core.specs.declared.settling.Touched.TheVariants.{Nothing, One, Two, All}
+
+-- ---- which databases a command may change
+
+-- the database is one of these
+abbrev pub covers : Touched → ℕ → Type 0
+covers Nothing number = ⊥
+covers (One db) number = number ≡ db
+covers (Two db other) number = (number ≡ db) ⊎ (number ≡ other)
+covers All number = Unit {0}
+
+-- each of these is a database
+abbrev pub AreDatabases : Touched → Type 0
+AreDatabases Nothing = Unit {0}
+AreDatabases (One db) = db < 16
+AreDatabases (Two db other) = (db < 16) × (other < 16)
+AreDatabases All = Unit {0}
+
+abbrev pub string_touched : ℕ → StringCommand → Touched
+string_touched db (strings.Get key) = Nothing
+string_touched db (strings.Set key value options) = One db
+string_touched db (strings.SetNx key value) = One db
+string_touched db (strings.SetEx key n value) = One db
+string_touched db (strings.PSetEx key n value) = One db
+string_touched db (strings.GetEx key renewal) = One db
+string_touched db (strings.GetSet key value) = One db
+string_touched db (strings.GetDel key) = One db
+string_touched db (strings.MGet keys) = Nothing
+string_touched db (strings.MSet pairs) = One db
+string_touched db (strings.MSetNx pairs) = One db
+string_touched db (strings.Append key tail) = One db
+string_touched db (strings.StrLen key) = Nothing
+string_touched db (strings.GetRange key a b) = Nothing
+string_touched db (strings.SetRange key at piece) = One db
+string_touched db (strings.Incr key) = One db
+string_touched db (strings.Decr key) = One db
+string_touched db (strings.IncrBy key n) = One db
+string_touched db (strings.DecrBy key n) = One db
+
+abbrev pub key_touched : ℕ → KeyCommand → Touched
+key_touched db (keys.Del names) = One db
+key_touched db (keys.Unlink names) = One db
+key_touched db (keys.Exists names) = Nothing
+key_touched db (keys.Touch names) = Nothing
+key_touched db (keys.TypeOf key) = Nothing
+key_touched db (keys.Expire key n options) = One db
+key_touched db (keys.PExpire key n options) = One db
+key_touched db (keys.ExpireAt key n options) = One db
+key_touched db (keys.PExpireAt key n options) = One db
+key_touched db (keys.Ttl key) = Nothing
+key_touched db (keys.PTtl key) = Nothing
+key_touched db (keys.ExpireTime key) = Nothing
+key_touched db (keys.PExpireTime key) = Nothing
+key_touched db (keys.Persist key) = One db
+key_touched db (keys.Rename from to) = Two db db
+key_touched db (keys.RenameNx from to) = Two db db
+key_touched db (keys.Copy from to options) = Two db (number_or db options.db)
+key_touched db (keys.MoveKey key number) = Two db number
+key_touched db keys.RandomKey = Nothing
+key_touched db (keys.ObjectEncoding key) = Nothing
+
+abbrev pub connection_touched : ℕ → ConnectionCommand → Touched
+connection_touched db (connection.Ping text) = Nothing
+connection_touched db (connection.Echo text) = Nothing
+connection_touched db connection.Quit = Nothing
+connection_touched db (connection.Select number) = Nothing
+connection_touched db connection.DbSize = One db
+connection_touched db connection.FlushDb = One db
+connection_touched db connection.FlushAll = All
+
+abbrev pub touched_of : ℕ → Command → Touched
+touched_of db (Strings command) = string_touched db command
+touched_of db (Keys command) = key_touched db command
+touched_of db (Connection command) = connection_touched db command
+
+-- calls of `shrink` alone, in these databases
+abbrev pub shrinking : Touched → Scope
+shrinking touched = record { touches = covers touched; writes = λ number key. ⊥; empties = λ number. ⊥ }
+
+-- ---- what a request may change
+
+abbrev pub scope_meant : ℕ → Result Command Refusal → Scope
+scope_meant db (Ok command) = scope_of db command
+scope_meant db (Err refusal) = untouched
+
+-- what the words of a request may change, where this database is selected; a request that is refused changes nothing
+abbrev pub scope_asked : ℕ → Words → Scope
+scope_asked db words = scope_meant db (meant words)
+
+-- ---- which tables are settled
+
+-- a key that stood in the table stands there no more
+pub record Lost {V : Type 0} (m after : Blocks) (old new : Table V) : Type 0 where
+  pub key : List ℕ
+  pub at : ℕ
+  pub stood : Stands m old at key
+  pub gone : Lacks after new key
+
+-- Each table that lost a key is settled: a rehash is going on in it, or it has no more than 4 buckets, or a tenth of its
+-- buckets' number of elements at least.
+pub record Settles (old new : Bases) (m after : Blocks) : Type 0 where
+  pub keys : (db : ℕ) → Lost m after (table_at old db) (table_at new db) → IsSettled (tables (table_at new db))
+  pub deadlines : (db : ℕ) → Lost m after (deadlines_at old db).table (deadlines_at new db).table → IsSettled (tables (deadlines_at new db).table)

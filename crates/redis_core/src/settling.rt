@@ -1,0 +1,158 @@
+//! What follows a command: tables that it may have left with few keys are made smaller.
+
+ghost use Rattle.std.specs.Prelude.{◌≡◌, ◌<◌, ℕ, OnOk, IfSome, IfNone};
+ghost use Rattle.keyspace.specs.Databases.{means};
+ghost use Rattle.keyspace.specs.Sound.{Sound};
+ghost use Rattle.keyspace.specs.Scopes.{no_key, number_or, AreSettled};
+ghost use Rattle.keyspace.specs.Commands.{Held};
+ghost use Rattle.redis_core.specs.Touched as touched;
+ghost use Rattle.redis_core.specs.Touched.{covers, shrinking, AreDatabases};
+
+use blocks::BlockStore;
+use keyspace::Keyspace;
+use plain_model::{Command, ConnectionCommand, KeyCommand, Memory, StringCommand};
+
+// How many databases there are.
+const DATABASES: usize = 16;
+
+/// The databases that a command may change, by their numbers.
+#[derive(Clone, Copy, Debug)]
+pub enum Touched {
+    Nothing,
+    One(usize),
+    Two(usize, usize),
+    All,
+}
+
+fn touched_by_strings(command: &StringCommand, db: usize) -> Touched
+    ensures { result ≡ touched.string_touched db command.now }
+{
+    match command {
+        StringCommand::Get(_) => Touched::Nothing,
+        StringCommand::Set(_, _, _) => Touched::One(db),
+        StringCommand::SetNx(_, _) => Touched::One(db),
+        StringCommand::SetEx(_, _, _) => Touched::One(db),
+        StringCommand::PSetEx(_, _, _) => Touched::One(db),
+        StringCommand::GetEx(_, _) => Touched::One(db),
+        StringCommand::GetSet(_, _) => Touched::One(db),
+        StringCommand::GetDel(_) => Touched::One(db),
+        StringCommand::MGet(_) => Touched::Nothing,
+        StringCommand::MSet(_) => Touched::One(db),
+        StringCommand::MSetNx(_) => Touched::One(db),
+        StringCommand::Append(_, _) => Touched::One(db),
+        StringCommand::StrLen(_) => Touched::Nothing,
+        StringCommand::GetRange(_, _, _) => Touched::Nothing,
+        StringCommand::SetRange(_, _, _) => Touched::One(db),
+        StringCommand::Incr(_) => Touched::One(db),
+        StringCommand::Decr(_) => Touched::One(db),
+        StringCommand::IncrBy(_, _) => Touched::One(db),
+        StringCommand::DecrBy(_, _) => Touched::One(db),
+    }
+}
+
+// The database of this number, or else the selected one.
+fn number_of(db: usize, number: Option<usize>) -> usize
+    ensures { result ≡ number_or db number }
+{
+    match number {
+        None => db,
+        Some(number) => number,
+    }
+}
+
+fn touched_by_keys(command: &KeyCommand, db: usize) -> Touched
+    ensures { result ≡ touched.key_touched db command.now }
+{
+    match command {
+        KeyCommand::Del(_) => Touched::One(db),
+        KeyCommand::Unlink(_) => Touched::One(db),
+        KeyCommand::Exists(_) => Touched::Nothing,
+        KeyCommand::Touch(_) => Touched::Nothing,
+        KeyCommand::TypeOf(_) => Touched::Nothing,
+        KeyCommand::Expire(_, _, _) => Touched::One(db),
+        KeyCommand::PExpire(_, _, _) => Touched::One(db),
+        KeyCommand::ExpireAt(_, _, _) => Touched::One(db),
+        KeyCommand::PExpireAt(_, _, _) => Touched::One(db),
+        KeyCommand::Ttl(_) => Touched::Nothing,
+        KeyCommand::PTtl(_) => Touched::Nothing,
+        KeyCommand::ExpireTime(_) => Touched::Nothing,
+        KeyCommand::PExpireTime(_) => Touched::Nothing,
+        KeyCommand::Persist(_) => Touched::One(db),
+        KeyCommand::Rename(_, _) => Touched::Two(db, db),
+        KeyCommand::RenameNx(_, _) => Touched::Two(db, db),
+        KeyCommand::Copy(_, _, options) => Touched::Two(db, number_of(db, options.db)),
+        KeyCommand::MoveKey(_, number) => Touched::Two(db, *number),
+        KeyCommand::RandomKey => Touched::Nothing,
+        KeyCommand::ObjectEncoding(_) => Touched::Nothing,
+    }
+}
+
+fn touched_by_connection(command: &ConnectionCommand, db: usize) -> Touched
+    ensures { result ≡ touched.connection_touched db command.now }
+{
+    match command {
+        ConnectionCommand::Ping(_) => Touched::Nothing,
+        ConnectionCommand::Echo(_) => Touched::Nothing,
+        ConnectionCommand::Quit => Touched::Nothing,
+        ConnectionCommand::Select(_) => Touched::Nothing,
+        ConnectionCommand::DbSize => Touched::One(db),
+        ConnectionCommand::FlushDb => Touched::One(db),
+        ConnectionCommand::FlushAll => Touched::All,
+    }
+}
+
+/// The databases that a command may change, where this one is selected.
+pub fn touched_by(command: &Command, db: usize) -> Touched
+    ensures { result ≡ touched.touched_of db command.now }
+{
+    match command {
+        Command::Strings(own) => touched_by_strings(own, db),
+        Command::Keys(own) => touched_by_keys(own, db),
+        Command::Connection(own) => touched_by_connection(own, db),
+    }
+}
+
+// Begins a rehash to smaller tables in one database, where its keys or its deadlines are few.
+fn shrink_one<B: BlockStore>(keyspace: &mut Keyspace<B>, db: usize) -> Result<(), Memory>
+    requires sound { Sound keyspace.old.bases (B.blocks keyspace.old.store) }
+    requires db { db < 16 }
+    ensures world { (number : ℕ) → means number keyspace.new.bases (B.blocks keyspace.new.store) ≡ means number keyspace.old.bases (B.blocks keyspace.old.store) }
+    ensures held { Held B.blocks B.step (no_key db) keyspace.old keyspace.new }
+    ensures settled { OnOk result (AreSettled keyspace.new.bases db) }
+{
+    keyspace.shrink(db)
+}
+
+// The same in all databases.
+fn shrink_all<B: BlockStore>(keyspace: &mut Keyspace<B>) -> Result<(), Memory>
+    requires sound { Sound keyspace.old.bases (B.blocks keyspace.old.store) }
+    ensures world { (number : ℕ) → means number keyspace.new.bases (B.blocks keyspace.new.store) ≡ means number keyspace.old.bases (B.blocks keyspace.old.store) }
+    ensures held { Held B.blocks B.step (shrinking Touched.All) keyspace.old keyspace.new }
+    ensures settled { OnOk result ((number : ℕ) → AreSettled keyspace.new.bases number) }
+{
+    for db in 0..DATABASES {
+        shrink_one(keyspace, db)?;
+    }
+    Ok(())
+}
+
+/// Begins a rehash to smaller tables in each of these databases, where its keys or its deadlines are few in their tables.
+///
+/// `Memory` leaves the keys, their values and their deadlines.
+pub fn settle<B: BlockStore>(keyspace: &mut Keyspace<B>, touched: Touched) -> Result<(), Memory>
+    requires sound { Sound keyspace.old.bases (B.blocks keyspace.old.store) }
+    requires databases { AreDatabases touched }
+    ensures world { (number : ℕ) → means number keyspace.new.bases (B.blocks keyspace.new.store) ≡ means number keyspace.old.bases (B.blocks keyspace.old.store) }
+    ensures held { Held B.blocks B.step (shrinking touched) keyspace.old keyspace.new }
+    ensures settled { OnOk result ((number : ℕ) → covers touched number → AreSettled keyspace.new.bases number) }
+{
+    match touched {
+        Touched::Nothing => Ok(()),
+        Touched::One(db) => shrink_one(keyspace, db),
+        Touched::Two(db, other) => match shrink_one(keyspace, db) {
+            Ok(()) => shrink_one(keyspace, other),
+            Err(error) => Err(error),
+        },
+        Touched::All => shrink_all(keyspace),
+    }
+}
