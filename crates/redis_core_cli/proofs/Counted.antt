@@ -1,5 +1,5 @@
 -- Which status a fault has, and that it is counted there.
-use Rattle.std.proofs.Common.{◌≡◌, ◌==◌, ◌<◌, ℕ, List, Option, Some, None, Bool, true, false, refl, sym, ap, subst, ◌∙◌, arith}
+use Rattle.std.proofs.Common.{◌≡◌, ◌==◌, ◌<◌, ℕ, List, Option, Some, None, Bool, true, false, refl, sym, ap, ◌∙◌, arith}
 use Rattle.std.specs.Prelude.{if◌then◌else◌}
 use Rattle.outside.specs.Counts.{Rose}
 use Rattle.outside.specs.Files.{Files, HostSeen, IsListed}
@@ -8,7 +8,7 @@ use Rattle.serving.specs.Served.{CountsReads, CountsWrites}
 use Rattle.serving.specs.declared.ending.Ended.{Ended}
 use Rattle.serving.specs.declared.ending.Ended.TheVariants as served
 use Rattle.redis_core_cli.specs.Headline.{RoseAt}
-use Rattle.redis_core_cli.specs.Starting.{NotLoaded, NotBegun, CountsHost, UsesHost, is_host}
+use Rattle.redis_core_cli.specs.Starting.{NotLoaded, NotBegun, UsesHost, is_host}
 use Rattle.redis_core_cli.specs.Statuses.{status_of, ending_of}
 use Rattle.redis_core_cli.specs.declared.ending.Ending.{Ending}
 use Rattle.redis_core_cli.specs.declared.ending.Ending.TheVariants as endings

@@ -3,3 +3,4 @@ pub mod Starts
 pub mod Worlds
 pub mod Counted
 pub mod Whole
+pub mod Readings

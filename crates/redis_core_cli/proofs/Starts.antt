@@ -1,6 +1,6 @@
 -- A run begins, or does not.
 use Rattle.std.proofs.Common.{◌≡◌, ℕ, List, ap, ◌∙◌, subst, sym, max, arith}
-use Rattle.std.specs.Prelude.{Option, None, Result, Ok, Err, true}
+use Rattle.std.specs.Prelude.{Option, None, Ok, Err, true}
 use Rattle.blocks.specs.Plain.{Plain, plain_blocks, IsPlainStep}
 use Rattle.blocks.specs.Blocks.{no_blocks, Served, no_step}
 use Rattle.plain_world.specs.Worlds.{World, new_world, live}
@@ -64,7 +64,7 @@ last_is old new moment zero is = omega (arith, zero, is)
 
 module _ (files : Files) (limit : ℕ) (name : List ℕ) (world : World) (last moment : ℕ) (is : last ≡ moment) where
   pub file_loaded : (loaded : Loaded) → Loads files name limit last world (Ok loaded) → IsLoaded files limit name moment world
-  file_loaded loaded l = let m = subst (λ t. Loads files name limit t world (Ok loaded)) is l in record { bytes = m.bytes; is = m.is; few = m.few; file = m.file }
+  file_loaded loaded l = let m = subst (λ t. Loads files name limit t world (Ok loaded)) is l in record { bytes = m.bytes; is = m.is; few = m.few; file = m.read.file }
 
   not_loaded_by : (fault : LoadFault) → Loads files name limit moment world (Err fault) → NotLoaded files limit name moment (ending_by fault)
   not_loaded_by (faults.Refused what at) l = l.0

@@ -1,7 +1,6 @@
 -- A whole run: when each status comes, what is counted, and its notes.
-use Rattle.std.proofs.Common.{◌≡◌, ◌<◌, ◌≤◌, ℕ, List, Option, Some, None, Bool, true, false, length, refl, sym, ap, subst, ◌∙◌, inl, inr, arith}
+use Rattle.std.proofs.Common.{◌≡◌, ◌<◌, ◌≤◌, ℕ, List, Option, Some, None, false, length, refl, sym, ap, subst, ◌∙◌, inl, inr, arith}
 use Rattle.std.specs.Prelude.{◌⊎◌, IsSome}
-use Rattle.outside.specs.Clocks.{Answers}
 use Rattle.outside.specs.Files.{Files, IsListed}
 use Rattle.outside.specs.Streams.{SinkSeen}
 use Rattle.plain_world.specs.Words.{Words}
@@ -11,18 +10,17 @@ use Rattle.rdb_grammar.specs.declared.fault.LoadKind.{LoadKind}
 use Rattle.rdb_grammar.proofs.OneWorld.{exactly_one}
 use Rattle.rdb_reader.specs.Fetching.{IsFileOf}
 use Rattle.redis_core.specs.Engines.{quits}
-use Rattle.resp_frames.specs.Ends.{Whole, Frames}
-use Rattle.serving.specs.Served.{Served}
+use Rattle.resp_frames.specs.Ends.{End, Frames}
 use Rattle.serving.specs.Exactly as exactly
-use Rattle.serving.specs.Exactly.{NoReadFault, NoWriteFault, EndsWhole}
+use Rattle.serving.specs.Exactly.{NoReadFault, NoWriteFault, EndsWell, EndsWhole}
 use Rattle.serving.specs.declared.ending.Ended.{Ended}
 use Rattle.serving.proofs.Said.{ends_exactly, completes}
 use Rattle.redis_core_cli.specs.Given.{Options, Given, Wrong, Run, Outside}
 use Rattle.redis_core_cli.specs.Notes.{Notes, refused_line, line_of}
-use Rattle.redis_core_cli.specs.Running.{Fails, Runs, begun, not_begun, RunsOf}
-use Rattle.redis_core_cli.specs.Starting.{Standing, ReadsMoment, IsLoaded, BeginsWith, Begins, NotLoaded, NotBegun, UsesHost, is_host}
+use Rattle.redis_core_cli.specs.Running.{Fails, Runs, begun, not_begun, RunsOf, RunsWords, read, unread}
+use Rattle.redis_core_cli.specs.Starting.{Standing, IsLoaded, BeginsWith, Begins, NotLoaded, NotBegun, UsesHost, is_host}
 use Rattle.redis_core_cli.specs.Statuses.{status_of, ending_of}
-use Rattle.redis_core_cli.specs.Headline.{MayAnswer, never, standing_clock, Concludes, NoHostFault, NoOutputFault, RoseAt, NamesNoFile, CountsFaults, NotesStatus, IsTold, IsAbsent, AtFirst, IsLoadable, CanBegin, Excused, IsRefused, Exactly, Completes}
+use Rattle.redis_core_cli.specs.Headline.{MayAnswer, never, standing_clock, Concludes, NoHostFault, NoOutputFault, CountsFaults, NotesStatus, IsTold, IsAbsent, AtFirst, CanBegin, Excused, IsRefused, Exactly, Completes}
 use Rattle.redis_core_cli.specs.declared.ending.Ending.{Ending}
 use Rattle.redis_core_cli.specs.declared.ending.Ending.TheVariants as endings
 use Rattle.redis_core_cli.proofs.Counted.{stayed, reads_at, reads_surely, writes_at, not_served, not_begun_status, six_is_host, host_at, host_same, host_surely, host_alone}
@@ -119,6 +117,9 @@ module _ (before after : Outside) (noted noted' : SinkSeen) (ending : Ending) (l
   abbrev RanOf : Given → Type 0
   RanOf given = RunsOf Begins MayAnswer never standing_clock given before after ending
 
+  abbrev ReadOf : Given → Type 0
+  ReadOf given = RunsWords Begins MayAnswer never standing_clock given before after ending
+
   -- the options are these
   ran_as : (given : Given) (options : Options) → RanOf given → given ≡ Run options → Ran options
   ran_as given options r e = let P : Given → Type 0 = RanOf in subst P e r
@@ -151,21 +152,31 @@ module _ (before after : Outside) (noted noted' : SinkSeen) (ending : Ending) (l
     no_file = λ none. let H : Option (List ℕ) → Type 0 = λ o. UsesHost o before.host after.host (is_host ending) in host_alone before.host after.host (is_host ending) (subst H none f.host);
   }
 
+  -- nothing was touched, and the status is none that counts
+  untouched_counts : (given : Given) → (status_of ending ≡ 4 → ⊥) → (status_of ending ≡ 5 → ⊥) → (status_of ending ≡ 6 → ⊥) → after ≡ before → CountsFaults given before after (status_of ending)
+  untouched_counts given four five six same = record {
+    read = stayed 4 (status_of ending) before.input.faults after.input.faults four (ap (λ o. o.input.faults) same);
+    write = stayed 5 (status_of ending) before.output.faults after.output.faults five (ap (λ o. o.output.faults) same);
+    host = stayed 6 (status_of ending) before.host.reading.faults after.host.reading.faults six (ap (λ o. o.host.reading.faults) same);
+    sure_read = λ sure e. four e;
+    sure_host = λ other name e f sure listed is. six is;
+    no_file = λ none. ap (λ o. o.host) same;
+  }
+
   wrong_counts : ending ≡ endings.Usage → after ≡ before → CountsFaults Wrong before after (status_of ending)
   wrong_counts is same =
       let one : status_of ending ≡ 1 = ap status_of is in
-      record {
-        read = stayed 4 (status_of ending) before.input.faults after.input.faults (λ e. omega (arith, e, one)) (ap (λ o. o.input.faults) same);
-        write = stayed 5 (status_of ending) before.output.faults after.output.faults (λ e. omega (arith, e, one)) (ap (λ o. o.output.faults) same);
-        host = stayed 6 (status_of ending) before.host.reading.faults after.host.reading.faults (λ e. omega (arith, e, one)) (ap (λ o. o.host.reading.faults) same);
-        sure_read = λ sure e. omega (arith, e, one);
-        sure_host = λ other name e f sure listed six. omega (arith, six, one);
-        no_file = λ none. ap (λ o. o.host) same;
-      }
+      untouched_counts Wrong (λ e. omega (arith, e, one)) (λ e. omega (arith, e, one)) (λ e. omega (arith, e, one)) same
 
   counts_of : (given : Given) → RanOf given → CountsFaults given before after (status_of ending)
   counts_of Wrong r = wrong_counts r.0 r.1
   counts_of (Run options) r = run_counts options r
+
+  counts_read : (given : Given) → ReadOf given → CountsFaults given before after (status_of ending)
+  counts_read given (read r) = counts_of given r
+  counts_read given (unread same is) =
+      let eight : status_of ending ≡ 8 = ap status_of is in
+      untouched_counts given (λ e. omega (arith, e, eight)) (λ e. omega (arith, e, eight)) (λ e. omega (arith, e, eight)) same
 
   -- ---- when each status comes
 
@@ -233,7 +244,7 @@ module _ (before after : Outside) (noted noted' : SinkSeen) (ending : Ending) (l
 
   exactly_of : (given : Given) → RanOf given → Exactly given before after noted noted' (status_of ending)
   exactly_of given r = record {
-    wrong = λ e. let P : Given → Type 0 = RanOf in ap status_of (subst P e r).0;
+    wrong = λ e. let P : Given → Type 0 = RanOf in inl (ap status_of (subst P e r).0);
     wrong_alone = wrong_alone given r;
     refused = λ options name bytes what at e. refused options (ran_as given options r e) name bytes what at;
     refused_alone = refused_alone given r;
@@ -241,6 +252,20 @@ module _ (before after : Outside) (noted noted' : SinkSeen) (ending : Ending) (l
     absent = λ options name e. absent options (ran_as given options r e) name;
     served = λ options e. served options (ran_as given options r e);
   }
+
+  exactly_read : (given : Given) → ReadOf given → Exactly given before after noted noted' (status_of ending)
+  exactly_read given (read r) = exactly_of given r
+  exactly_read given (unread same is) =
+      let eight : status_of ending ≡ 8 = ap status_of is in
+      record {
+        wrong = λ e. inr eight;
+        wrong_alone = λ one. absurd (omega (arith, one, eight));
+        refused = λ options name bytes what at e f t few fault. inl (inr eight);
+        refused_alone = λ seven. absurd (omega (arith, seven, eight));
+        long = λ options name bytes e f t h. inl (inr eight);
+        absent = λ options name e f none. inr eight;
+        served = λ options e can. inl (inr eight);
+      }
 
   -- ---- a run that completes
 
@@ -267,31 +292,35 @@ module _ (before after : Outside) (noted noted' : SinkSeen) (ending : Ending) (l
   no_put_fault options first b asked (inl fit) = inl (fit first b)
   no_put_fault options first b asked (inr none) = inr none
 
-  run_completes : (options : Options) → Ran options → (bytes : List ℕ) (asked : List Words) → CanBegin before options options.file → before.input.told ≡ Some bytes → Frames bytes asked Whole → length bytes < options.max_input
+  run_completes : (options : Options) → Ran options → (bytes : List ℕ) (asked : List Words) (end : End) → CanBegin before options options.file → before.input.told ≡ Some bytes → Frames bytes asked end → EndsWell quits asked end → length bytes < options.max_input
       → NoHostFault before after → NoReadFault before.input after.input → NoOutputFault options before after asked → (status_of ending ≡ 0) ⊎ (status_of ending ≡ 8)
-  run_completes options (begun first last ended b host s reads is) bytes asked can told frames few no_host no_read no_write =
+  run_completes options (begun first last ended b host s reads is) bytes asked end can told frames well few no_host no_read no_write =
       let P : Ending → Type 0 = λ e. (status_of e ≡ 0) ⊎ (status_of e ≡ 8) in
-      let whole = completes (MayAnswer options first) quits never options.max_input before.input after.input before.output after.output last ended s bytes asked told frames few no_read (no_put_fault options first b asked no_write) in
+      let whole = completes (MayAnswer options first) quits never options.max_input before.input after.input before.output after.output last ended s bytes asked end told frames well few no_read (no_put_fault options first b asked no_write) in
       subst P (sym is) (whole_status ended whole)
-  run_completes options (not_begun f) bytes asked can told frames few no_host no_read no_write =
+  run_completes options (not_begun f) bytes asked end can told frames well few no_host no_read no_write =
       excused_whole (could_begin options f options.file can f.why) (no_host_fault options f options.file refl can f.why no_host)
 
   completes_of : (given : Given) → RanOf given → Completes given before after (status_of ending)
-  completes_of given r options bytes asked e can told frames few no_host no_read no_write = run_completes options (ran_as given options r e) bytes asked can told frames few no_host no_read no_write
+  completes_of given r options bytes asked end e can told frames well few no_host no_read no_write = run_completes options (ran_as given options r e) bytes asked end can told frames well few no_host no_read no_write
+
+  completes_read : (given : Given) → ReadOf given → Completes given before after (status_of ending)
+  completes_read given (read r) = completes_of given r
+  completes_read given (unread same is) = λ options bytes asked end e can told frames well few no_host no_read no_write. inr (ap status_of is)
 
   -- the same of the status that is answered
-  module _ (given : Given) (r : RanOf given) (status : ℕ) (is : status ≡ status_of ending) where
+  module _ (given : Given) (r : ReadOf given) (status : ℕ) (is : status ≡ status_of ending) where
     pub concludes_as : Concludes given before after noted noted' status
     concludes_as = record { ending = ending; is = is; run = r; line = line }
 
     pub counts_as : CountsFaults given before after status
-    counts_as = let P : ℕ → Type 0 = λ s. CountsFaults given before after s in subst P (sym is) (counts_of given r)
+    counts_as = let P : ℕ → Type 0 = λ s. CountsFaults given before after s in subst P (sym is) (counts_read given r)
 
     pub exactly_as : Exactly given before after noted noted' status
-    exactly_as = let P : ℕ → Type 0 = λ s. Exactly given before after noted noted' s in subst P (sym is) (exactly_of given r)
+    exactly_as = let P : ℕ → Type 0 = λ s. Exactly given before after noted noted' s in subst P (sym is) (exactly_read given r)
 
     pub completes_as : Completes given before after status
-    completes_as = let P : ℕ → Type 0 = λ s. Completes given before after s in subst P (sym is) (completes_of given r)
+    completes_as = let P : ℕ → Type 0 = λ s. Completes given before after s in subst P (sym is) (completes_read given r)
 
     pub notes_as : NotesStatus noted noted' status
     notes_as = record { ending = ending; is = is; line = line }

@@ -1,13 +1,12 @@
 -- The worlds on an engine's way are those of a run.
 use Rattle.std.proofs.Common.{◌≡◌, ◌⊎◌, inl, inr, ℕ, List, [], ◌∷◌, Option, refl, sym, ap, ◌∙◌, subst}
-use Rattle.blocks.specs.Plain.{plain_blocks, IsPlainStep}
 use Rattle.outside.specs.Clocks.{Answers}
 use Rattle.outside.specs.Streams.{SinkSeen}
 use Rattle.plain_world.specs.Words.{Words}
 use Rattle.plain_world.specs.Worlds.{live}
 use Rattle.plain_world.specs.declared.reply.Part.{Part}
 use Rattle.plain_model.specs.Steps.{step}
-use Rattle.redis_core.specs.Engines.{Executes, quits}
+use Rattle.redis_core.specs.Engines.{quits}
 use Rattle.serving.proofs.Said.{served_as}
 use Rattle.serving.specs.Timed.{Timed}
 use Rattle.serving.specs.declared.ending.Ended.{Ended}
@@ -16,7 +15,7 @@ use Rattle.redis_core_cli.specs.Engines.{Engine, world_of, IsFirst}
 use Rattle.redis_core_cli.specs.Given.{Options, Given, Wrong, Run, Outside, options_read, given_read}
 use Rattle.redis_core_cli.specs.Headline.{MayAnswer, never, standing_clock}
 use Rattle.redis_core_cli.specs.Running as running
-use Rattle.redis_core_cli.specs.Running.{Runs, begun, not_begun, RunsOf, ReadsNoMore}
+use Rattle.redis_core_cli.specs.Running.{Runs, begun, not_begun, RunsOf, RunsWords, unread, ReadsNoMore}
 use Rattle.redis_core_cli.specs.Starting.{Standing, ReadsMoment, BeginsWith, Begins}
 use Rattle.redis_core_cli.specs.Stepped.{standing_of, goes, is_spent, engine_clock, BeginsEngine, Steps, Finishes}
 use Rattle.redis_core_cli.specs.declared.words.Given as words
@@ -70,6 +69,10 @@ run_seen options before after ending (not_begun f) = running.not_begun f
 pub run_of_seen : (given : Given) (before after : Outside) (ending : Ending) → RunsOf BeginsEngine goes is_spent engine_clock given before after ending → RunsOf Begins MayAnswer never standing_clock given before after ending
 run_of_seen Wrong before after ending r = r
 run_of_seen (Run options) before after ending r = run_seen options before after ending r
+
+pub run_words_seen : (given : Given) (before after : Outside) (ending : Ending) → RunsWords BeginsEngine goes is_spent engine_clock given before after ending → RunsWords Begins MayAnswer never standing_clock given before after ending
+run_words_seen given before after ending (running.read r) = running.read (run_of_seen given before after ending r)
+run_words_seen given before after ending (unread same is) = running.unread same is
 
 -- an engine begins the run, at the moment that was read
 pub begins_engine : (options : Options) (before : Outside) (engine : Engine) (clock : Option Answers) (moment : ℕ) → ReadsMoment before.clock clock moment → BeginsWith before.host.files options.max_input options.file moment (world_of engine)

@@ -1,5 +1,12 @@
 -- What a run is given: what its words ask for, and what stands outside.
-use Rattle.std.specs.Prelude.{ℕ, ◌^◌, ◌≤◌, List, [], ◌∷◌, Option, Some, None, codes, bytes_eq, if◌then◌else◌}
+use Rattle.std.specs.Prelude.{ℕ, ◌^◌, ◌-◌, ◌≤◌, nat_le, List, [], ◌∷◌, map, fold, Option, Some, None, Bool, true, ◌&&◌, codes, if◌then◌else◌}
+use Rattle.std.specs.List.{list_all}
+use Rattle.std.specs.Option.{option_map_or}
+use Rattle.std.specs.Str.Parse.{digits_value}
+use Rattle.clap.specs.Faults.{fault_of}
+use Rattle.clap.specs.Simple.{App, on_top, new_app, new_rule, with_rule, matches_of}
+use Rattle.clap.specs.ValueTests.{is_numeral}
+use Rattle.clap.specs.Walk.{Row, first_of, is_empty}
 use Rattle.object_codec.specs.Limits.{AreInRange}
 use Rattle.object_codec.specs.declared.limits.Limits.{Limits}
 use Rattle.outside.specs.Clocks.{Answers}
@@ -8,11 +15,13 @@ use Rattle.outside.specs.Streams.{SourceSeen, SinkSeen}
 use Rattle.redis_core_cli.specs.declared.words as words
 use Rattle.redis_core_cli.specs.declared.words.Given.TheVariants as read
 
--- the name of the file that is loaded, where there is one; the seed of hashes; the limits of packed forms; and how many
--- bytes are taken at most from the input, and from a file
+-- the name of the file that is loaded, where there is one; the seed of hashes and random picks; the effort of background
+-- work, which has no effect yet; the limits of packed forms; and how many bytes are taken at most from the input, and from a
+-- file
 pub record Options : Type 0 where
   pub file : Option (List ℕ)
   pub seed : ℕ
+  pub effort : ℕ
   pub limits : Limits
   pub max_input : ℕ
 
@@ -21,24 +30,106 @@ pub data Given : Type 0 where
   Wrong : Given
   Run : Options → Given
 
--- the limits of packed forms where no other are said, as the server's settings have them
-abbrev pub usual_limits : Limits
-usual_limits = record { hash_entries = 512; set_entries = 128; zset_entries = 128; hash_value = 64; set_value = 64; zset_value = 64; set_intset = 512 }
+-- an option that takes a number: its name, the least and the most that it may be, and what it is where the words don't say
+pub record Number : Type 0 where
+  pub name : List ℕ
+  pub least : ℕ
+  pub most : ℕ
+  pub usual : ℕ
 
--- the options where no other is said
-abbrev pub usual : Option (List ℕ) → Options
-usual file = record { file = file; seed = 0; limits = usual_limits; max_input = 2 ^ 40 }
+abbrev pub numbered : List ℕ → ℕ → ℕ → ℕ → Number
+numbered name least most usual = record { name = name; least = least; most = most; usual = usual }
 
--- the words behind the program's name: none, or `--load` and a name
-abbrev pub given_by : List (List ℕ) → Given
-given_by [] = Run (usual None)
-given_by (option ∷ []) = Wrong
-given_by (option ∷ name ∷ []) = if bytes_eq option (codes "--load") then Run (usual (Some name)) else Wrong
-given_by (option ∷ name ∷ word ∷ words) = Wrong
+abbrev pub seed : Number
+seed = numbered (codes "seed") 0 (2 ^ 64 - 1) 0
+
+abbrev pub effort : Number
+effort = numbered (codes "effort") 0 100 1
+
+abbrev pub max_input : Number
+max_input = numbered (codes "max-input") 1 (2 ^ 62) (2 ^ 40)
+
+abbrev pub hash_entries : Number
+hash_entries = numbered (codes "hash-max-entries") 0 4096 512
+
+abbrev pub set_entries : Number
+set_entries = numbered (codes "set-max-entries") 0 4096 128
+
+abbrev pub zset_entries : Number
+zset_entries = numbered (codes "zset-max-entries") 0 4096 128
+
+abbrev pub hash_value : Number
+hash_value = numbered (codes "hash-max-value") 0 4096 64
+
+abbrev pub set_value : Number
+set_value = numbered (codes "set-max-value") 0 4096 64
+
+abbrev pub zset_value : Number
+zset_value = numbered (codes "zset-max-value") 0 4096 64
+
+abbrev pub set_intset : Number
+set_intset = numbered (codes "set-max-intset") 0 65536 512
+
+-- those of the limits of packed forms
+abbrev pub sizes : List Number
+sizes = hash_entries ∷ set_entries ∷ zset_entries ∷ hash_value ∷ set_value ∷ zset_value ∷ set_intset ∷ []
+
+abbrev pub numbers : List Number
+numbers = seed ∷ effort ∷ max_input ∷ sizes
+
+-- the name of the option that names a file
+abbrev pub load : List ℕ
+load = codes "load"
+
+-- a command with one option more, `--name VALUE` or `--name=VALUE`
+abbrev pub with_option : App → List ℕ → App
+with_option app name = with_rule app (record (new_rule name) { long = Some name })
+
+-- clap's command that has these options and no other argument, and takes the words behind the program's name
+abbrev pub command : App
+command = fold with_option (on_top (λ shape. record shape { no_binary_name = true }) (new_app (codes "redis-core"))) (load ∷ map (λ number. number.name) numbers)
+
+-- one or more digits, whose number is in the option's range
+abbrev pub is_number : Number → List ℕ → Bool
+is_number number text = is_numeral text && (nat_le number.least (digits_value 10 text) && nat_le (digits_value 10 text) number.most)
+
+-- what the command matched has no number of another form
+abbrev pub is_right : List Row → Number → Bool
+is_right rows number = option_map_or (is_number number) (first_of number.name rows) true
+
+abbrev pub value_of : List Row → Number → ℕ
+value_of rows number = option_map_or (digits_value 10) (first_of number.name rows) number.usual
+
+abbrev pub limits_of : List Row → Limits
+limits_of rows = record {
+  hash_entries = value_of rows hash_entries;
+  set_entries = value_of rows set_entries;
+  zset_entries = value_of rows zset_entries;
+  hash_value = value_of rows hash_value;
+  set_value = value_of rows set_value;
+  zset_value = value_of rows zset_value;
+  set_intset = value_of rows set_intset;
+}
+
+abbrev pub options_of : List Row → Options
+options_of rows = record { file = first_of load rows; seed = value_of rows seed; effort = value_of rows effort; limits = limits_of rows; max_input = value_of rows max_input }
+
+-- what the command matched, where it takes the words
+abbrev pub given_of : List Row → Given
+given_of rows = if list_all (is_right rows) numbers then Run (options_of rows) else Wrong
+
+-- what the words behind the program's name ask for: wrong ones are those that the command doesn't take, and those with a
+-- wrong number
+unfoldable pub given_by : List (List ℕ) → Given
+given_by words = if is_empty (fault_of command words) then given_of (matches_of command words) else Wrong
+
+-- an option of the code's table
+abbrev pub number_read : words.Number.Number → Number
+number_read number = numbered number.name.now number.least number.most number.usual
 
 -- what was read of the words
 abbrev pub options_read : words.Options.Options → Options
-options_read options = record { file = elim options.file [ None ↦ None | Some name ↦ Some name.now ]; seed = options.seed; limits = options.limits; max_input = options.max_input }
+options_read options = record { file = elim options.file [ None ↦ None | Some name ↦ Some name.now ]; seed = options.seed; effort = options.effort; limits = options.limits; max_input = options.max_input }
 
 abbrev pub given_read : words.Given.Given → Given
 given_read read.Wrong = Wrong

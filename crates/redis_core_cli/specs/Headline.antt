@@ -12,12 +12,12 @@ use Rattle.rdb_grammar.specs.Files.{IsFile, IsFault}
 use Rattle.rdb_grammar.specs.declared.fault.LoadKind.{LoadKind}
 use Rattle.rdb_reader.specs.Loads.{RefusesFile}
 use Rattle.redis_core.specs.Engines.{quits}
-use Rattle.resp_frames.specs.Ends.{Whole, Frames}
+use Rattle.resp_frames.specs.Ends.{End, Frames}
 use Rattle.serving.specs.declared.ending.Ended.{Ended}
-use Rattle.serving.specs.Exactly.{ServesExactly, NoReadFault, AllFit}
+use Rattle.serving.specs.Exactly.{ServesExactly, EndsWell, NoReadFault, AllFit}
 use Rattle.redis_core_cli.specs.Given.{Options, Given, Wrong, Run, Outside}
 use Rattle.redis_core_cli.specs.Notes.{Notes, refused_line, line_of}
-use Rattle.redis_core_cli.specs.Running.{RunsOf}
+use Rattle.redis_core_cli.specs.Running.{RunsWords}
 use Rattle.redis_core_cli.specs.Starting.{Standing, ReadsMoment, Begins}
 use Rattle.redis_core_cli.specs.Statuses.{status_of, ending_of}
 use Rattle.redis_core_cli.specs.declared.ending.Ending.{Ending}
@@ -50,7 +50,7 @@ standing_clock standing = standing.clock
 pub record Concludes (given : Given) (before after : Outside) (noted noted' : SinkSeen) (status : ℕ) : Type 0 where
   pub ending : Ending
   pub is : status ≡ status_of ending
-  pub run : RunsOf Begins MayAnswer never standing_clock given before after ending
+  pub run : RunsWords Begins MayAnswer never standing_clock given before after ending
   pub line : Notes noted noted' (line_of ending)
 
 -- a count rose where a status came, and stayed where another did
@@ -123,9 +123,9 @@ pub record IsRefused (given : Given) (before : Outside) (noted noted' : SinkSeen
   pub refused : RefusesFile before.host.files name options.max_input moment what at
   pub line : Notes noted noted' (refused_line what at)
 
--- exactly when each status comes, unless the host failed or memory wanted, which wrong words never meet
+-- exactly when each status comes, unless the host failed or memory wanted
 pub record Exactly (given : Given) (before after : Outside) (noted noted' : SinkSeen) (status : ℕ) : Type 0 where
-  pub wrong : given ≡ Wrong → status ≡ 1
+  pub wrong : given ≡ Wrong → (status ≡ 1) ⊎ (status ≡ 8)
   pub wrong_alone : status ≡ 1 → given ≡ Wrong
   -- a file of at most the limit's bytes with this first fault
   pub refused : (options : Options) (name bytes : List ℕ) (what : LoadKind) (at : ℕ) → given ≡ Run options → options.file ≡ Some name → IsTold before.host.files name bytes → length bytes ≤ options.max_input
@@ -149,8 +149,8 @@ NoOutputFault options before after asked =
     ((first : Standing) → Begins options before first → AllFit (MayAnswer options first) asked before.output.room) ⊎ (Rose before.output.faults after.output.faults → ⊥)
 
 -- with words that are taken, no file or one that can be loaded, an input of fewer bytes than the limit that ends after a
--- whole request, and no fault, the run ends with status 0, unless memory wanted
+-- whole request or holds a QUIT before any fault, and no fault counted, the run ends with status 0, unless memory wanted
 abbrev pub Completes : Given → Outside → Outside → ℕ → Type 0
 Completes given before after status =
-    (options : Options) (bytes : List ℕ) (asked : List Words) → given ≡ Run options → CanBegin before options options.file → before.input.told ≡ Some bytes → Frames bytes asked Whole → length bytes < options.max_input
+    (options : Options) (bytes : List ℕ) (asked : List Words) (end : End) → given ≡ Run options → CanBegin before options options.file → before.input.told ≡ Some bytes → Frames bytes asked end → EndsWell quits asked end → length bytes < options.max_input
     → NoHostFault before after → NoReadFault before.input after.input → NoOutputFault options before after asked → (status ≡ 0) ⊎ (status ≡ 8)

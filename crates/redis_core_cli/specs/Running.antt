@@ -40,3 +40,8 @@ module _ {E : Type 0} (Begins : Options → Outside → E → Type 0) (Allowed :
   abbrev pub RunsOf : Given → Outside → Outside → Ending → Type 0
   RunsOf Wrong before after ending = (ending ≡ endings.Usage) × (after ≡ before)
   RunsOf (Run options) before after ending = Runs options before after ending
+
+  -- the words are read, or memory wants, which touches nothing
+  pub data RunsWords (given : Given) (before after : Outside) (ending : Ending) : Type 0 where
+    read : RunsOf given before after ending → RunsWords given before after ending
+    unread : after ≡ before → ending ≡ endings.Memory → RunsWords given before after ending

@@ -2,7 +2,7 @@
 use Rattle.std.specs.Prelude.{◌≡◌, ℕ, List, Option, Bool}
 use Rattle.outside.specs.Clocks.{Answers}
 use Rattle.outside.specs.Streams.{SinkSeen}
-use Rattle.blocks.specs.Plain.{Plain, plain_blocks, IsPlainStep}
+use Rattle.blocks.specs.Plain.{plain_blocks, IsPlainStep}
 use Rattle.plain_world.specs.Words.{Words}
 use Rattle.plain_world.specs.declared.reply.Part.{Part}
 use Rattle.redis_core.specs.Engines.{Executes}
@@ -11,7 +11,7 @@ use Rattle.serving.specs.Timed.{Timed, TimedStep, timed_spent}
 use Rattle.redis_core_cli.specs.Engines.{Engine, world_of, IsFirst}
 use Rattle.redis_core_cli.specs.Given.{Options, Given, Outside}
 use Rattle.redis_core_cli.specs.Notes.{Notes, line_of}
-use Rattle.redis_core_cli.specs.Running.{Runs, RunsOf}
+use Rattle.redis_core_cli.specs.Running.{Runs, RunsOf, RunsWords}
 use Rattle.redis_core_cli.specs.Starting.{Standing, Begins}
 use Rattle.redis_core_cli.specs.Statuses.{status_of}
 use Rattle.redis_core_cli.specs.declared.ending.Ending.{Ending}
@@ -50,4 +50,4 @@ pub record Finishes (given : Given) (before after : Outside) (noted noted' : Sin
 pub record StepsStatus (given : Given) (before after : Outside) (status : ℕ) : Type 0 where
   pub ending : Ending
   pub is : status ≡ status_of ending
-  pub run : RunsOf BeginsEngine goes is_spent engine_clock given before after ending
+  pub run : RunsWords BeginsEngine goes is_spent engine_clock given before after ending

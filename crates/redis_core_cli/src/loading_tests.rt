@@ -118,7 +118,7 @@ const ROWS: [Row; 9] = [
         b"redis-core: file refused: L2 at byte 5\n",
     ),
     Row(
-        b"REDIS0011\xfe\x01\x00\x01a\xc0\x05\xff\0\0\0\0\0\0\0\0",
+        b"REDIS0011\xfe\x10\x00\x01a\xc0\x05\xff\0\0\0\0\0\0\0\0",
         b"",
         7,
         b"redis-core: file refused: L11 at byte 10\n",

@@ -4,6 +4,8 @@
 
 mod ending;
 #[cfg(test)]
+mod file_tests;
+#[cfg(test)]
 mod loading_tests;
 mod notes;
 mod starting;
@@ -14,6 +16,8 @@ mod test_runs;
 #[cfg(test)]
 mod tests;
 mod top_call;
+#[cfg(test)]
+mod word_tests;
 mod words;
 
 use crate::ending::Ending;

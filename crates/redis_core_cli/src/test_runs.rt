@@ -20,7 +20,7 @@ pub fn run_up_to<H: Host, I: Source, O: Sink, N: Sink>(
 ) -> Result<Ending, AllocError>
     requires { limit ≤ 2 ^ 62 }
 {
-    let given = match read_words(words) {
+    let given = match read_words(alloc, words)? {
         Given::Wrong => Given::Wrong,
         Given::Run(options) => Given::Run(Options {
             max_input: limit,

@@ -92,13 +92,14 @@ pub fn run_given<H: Host, I: Source, O: Sink, N: Sink>(
 
 /// Loads the file that the words name, serves the requests of the input, and says with which status the run ends.
 ///
-/// The words are those behind the program's name: none, or `--load` and a name. Anything else is status 1. The clock, in
-/// milliseconds, is read once before all else, and once for each request. The file is of the RDB format, version 9 to 11,
-/// and has at most 2^40 bytes: 6 where the host failed or has no file of the name, 7 where the format excludes the file, 9
-/// where it has more bytes. Then nothing is served.
+/// The words are those behind the program's name: `--load FILE`, and the options whose values are numbers, each once at most
+/// and each as `--name VALUE` or `--name=VALUE`. Anything else is status 1. The clock, in milliseconds, is read once before
+/// all else, and once for each request. The file is of the RDB format, version 9 to 11, and has at most as many bytes as
+/// `--max-input` says, 2^40 where it doesn't: 6 where the host failed or has no file of the name, 7 where the format excludes
+/// the file, 9 where it has more bytes. Then nothing is served.
 /// Serving ends with 0 where the input ended after a whole request or a request ended the run, 2 where it breaks a rule of
 /// RESP2, whose line stands behind the replies, 3 where it ended inside a request, 4 where the input failed, 5 where the
-/// output failed, 9 where 2^40 bytes were taken.
+/// output failed, 9 where so many bytes were taken.
 /// 8 is want of memory. Each status but 0 has its line in the notes.
 #[tactic(none)]
 pub fn redis_core<H: Host, I: Source, O: Sink, N: Sink>(
@@ -122,6 +123,11 @@ pub fn redis_core<H: Host, I: Source, O: Sink, N: Sink>(
         (record { host = H.seen host.new; input = I.seen input.new; output = O.seen output.new; clock = answers clock.new }) result }
     ensures notes { NotesStatus (N.seen notes.old) (N.seen notes.new) result }
 {
-    let given = read_words(words);
-    run_given(alloc, given, host, input, output, notes, clock).status()
+    match read_words(alloc, words) {
+        Ok(given) => run_given(alloc, given, host, input, output, notes, clock).status(),
+        Err(_) => {
+            note(notes, Ending::Memory);
+            Ending::Memory.status()
+        }
+    }
 }
