@@ -1,0 +1,9 @@
+pub mod Moved
+pub mod Edited
+pub mod Places
+pub mod Setting
+pub mod Threading
+pub mod Joins
+pub mod Searching
+pub mod Sortings
+pub mod Renaming

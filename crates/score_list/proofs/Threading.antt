@@ -1,0 +1,173 @@
+-- A tower joins or leaves one level after the other, from the highest down.
+use Rattle.std.proofs.Common.{◌≡◌, ◌≢◌, ℕ, zero, suc, ◌+◌, ◌-◌, ◌<◌, ◌≤◌, ◌^◌, Bool, true, false, nat_lt, List, [], ◌∷◌, ◌++◌, length, take, drop, get_or, refl, sym, ap, ◌∙◌, subst, length-append, length-take-le, drop-cons, ltb-true, ltb-false, lt-ltb, arith, ◌⊎◌, inl, inr}
+use Rattle.std.proofs.Math.Path.{fun_ext}
+use Rattle.std.proofs.lemmas.List.{take-append-drop}
+use Rattle.score_list.specs.declared.towers.Towers.{Towers}
+use Rattle.score_list.specs.Rows.{IsRow, Reaches, Stands, Lacks, IsDistinct, AllTall, Hung, Unhung}
+use Rattle.score_list.specs.Rows.Stands.{at_head, at_tower}
+use Rattle.score_list.specs.Linked.{links_at, link_at, next_at, span_at, height_at, element_at, tall, chain, order, IsLevel, LinkedAs, StandsAt, Arrives, Keeps, Hangs, Unhangs, with_at, without_at}
+use Rattle.score_list.proofs.Moved.{never, beyond, within, row_on, reach_stands, stands_below, reached_other, decide}
+use Rattle.score_list.proofs.Edited.{joined, left}
+use Rattle.score_list.proofs.Places.{chain_is}
+
+pub lower : (h level j : ℕ) → j < level → nat_lt level h ≡ true → nat_lt j h ≡ true
+lower h level j lt e = (let a : level < h = ltb-true level h e in lt-ltb j h (omega arith))
+
+pub lacks_head : (ks : List ℕ) → Lacks 0 ks
+lacks_head [] = tt
+lacks_head (k ∷ ks) = ((λ e. absurd (omega arith)), lacks_head ks)
+
+module _ (tall : ℕ → Bool) (next span : ℕ → ℕ) where
+  -- the row behind the last owner in front
+  pub row_reached : (front back : List ℕ) (o d last left : ℕ) → Reaches tall front o d last left → IsRow tall next span o d (front ++ back) → IsRow tall next span last left back
+  row_reached [] back o d last left r row = subst (λ n. IsRow tall next span n left back) (sym r.0) (subst (λ n. IsRow tall next span o n back) (sym r.1) row)
+  row_reached (k ∷ ks) back o d last left (inl r) (inl w) = row_reached ks back (suc k) 0 last left r.1 w.3
+  row_reached (k ∷ ks) back o d last left (inl r) (inr w) = never (tall k) r.0 w.0
+  row_reached (k ∷ ks) back o d last left (inr r) (inl w) = never (tall k) w.0 r.0
+  row_reached (k ∷ ks) back o d last left (inr r) (inr w) = row_reached ks back o (suc d) last left r.1 w.1
+
+-- the same towers reach a level
+pub tall_kept : (t t' : Towers) → height_at t' ≡ height_at t → (l : ℕ) → tall t' l ≡ tall t l
+tall_kept t t' h l = (let F : (ℕ → ℕ) → ℕ → Bool = λ f k. nat_lt l (f k) in ap F h)
+
+-- a level of which no link changes
+pub level_kept : (t t' : Towers) (l : ℕ) (ks : List ℕ) → height_at t' ≡ height_at t → ((o : ℕ) → link_at t' l o ≡ link_at t l o) → IsLevel t l ks → IsLevel t' l ks
+level_kept t t' l ks h e r =
+    let n : next_at t' l ≡ next_at t l = fun_ext (λ o. ap (λ x. x.next) (e o)) in
+    let s : span_at t' l ≡ span_at t l = fun_ext (λ o. ap (λ x. x.span) (e o)) in
+    let w : tall t' l ≡ tall t l = tall_kept t t' h l in
+    subst (λ f. IsRow f (next_at t' l) (span_at t' l) 0 0 ks) (sym w) (subst (λ f. IsRow (tall t l) f (span_at t' l) 0 0 ks) (sym n) (subst (λ f. IsRow (tall t l) (next_at t l) f 0 0 ks) (sym s) r))
+
+-- the towers stand in this order
+pub order_is : (t : Towers) (ks : List ℕ) → AllTall (tall t 0) ks → IsLevel t 0 ks → t.len ≡ length ks → order t ≡ ks
+order_is t ks all row len = ap (λ n. chain (next_at t 0) n (next_at t 0 0)) len ∙ chain_is (tall t 0) (next_at t 0) (span_at t 0) 0 0 ks all row
+
+pub all_kept : (t t' : Towers) (ks : List ℕ) → height_at t' ≡ height_at t → AllTall (tall t 0) ks → AllTall (tall t' 0) ks
+all_kept t t' ks h all = subst (λ f. AllTall f ks) (sym (tall_kept t t' h 0)) all
+
+-- an owner that stands on a level reaches it
+pub reaches_of : (t : Towers) (l : ℕ) (front : List ℕ) (o : ℕ) (rest : List ℕ) → Stands (tall t l) front o rest → l < length t.head → l < length (links_at t o)
+reaches_of t l front o rest (at_head is_o is_rest) lt = subst (λ n. l < length (links_at t n)) (sym is_o) lt
+reaches_of t l front o rest (at_tower before k e is_o is) lt = subst (λ n. l < length (links_at t n)) (sym is_o) (ltb-true l (height_at t k) e)
+
+module _ (t0 : Towers) (ks ks' : List ℕ) (rank : ℕ) where
+  -- the levels from one on are edited, and those below it are as they were
+  pub record Editing (t : Towers) (level owner after : ℕ) : Type 0 where
+    pub keeps : Keeps t0 t
+    pub bound : level ≤ 16
+    pub low : (j : ℕ) → j < level → IsLevel t j ks
+    pub high : (j : ℕ) → level ≤ j → j < 16 → IsLevel t j ks'
+    pub rest : List ℕ
+    pub stands : Stands (tall t0 level) (take rank ks) owner rest
+    pub after_is : after + length rest ≡ rank
+
+  pub begun : LinkedAs t0 ks → rank ≤ length ks → Editing t0 16 0 0
+  begun linked le = record {
+    keeps = record { heights = refl; elements = refl; len = refl; head = refl };
+    bound = omega arith;
+    low = λ j lt. linked.rows j lt;
+    high = λ j le lt. absurd (omega arith);
+    rest = take rank ks;
+    stands = at_head refl refl;
+    after_is = omega (arith, length-take-le rank ks le);
+  }
+
+  pub some_level : (t : Towers) (level owner after : ℕ) → 0 < level → Editing t level owner after → Editing t (suc (level - 1)) owner after
+  some_level t level owner after lt e = (let is : level ≡ suc (level - 1) = omega arith in subst (λ n. Editing t n owner after) is e)
+
+  module _ (t : Towers) (j owner after : ℕ) (linked : LinkedAs t0 ks) (e : Editing t (suc j) owner after) where
+    pub ordered : order t ≡ ks
+    ordered = order_is t ks (all_kept t0 t ks e.keeps.heights linked.based) (e.low 0 (omega arith)) (e.keeps.len ∙ linked.counted)
+
+    tall_is : tall t j ≡ tall t0 j
+    tall_is = tall_kept t0 t e.keeps.heights j
+
+    pub head_is : length t.head ≡ 16
+    head_is = e.keeps.head ∙ linked.full_head
+
+    pub this_level : IsLevel t j (order t)
+    this_level = subst (IsLevel t j) (sym ordered) (e.low j (omega arith))
+
+    pub stands_at : StandsAt t j rank owner after
+    stands_at = (
+      e.rest,
+      subst (λ xs. Stands (tall t j) (take rank xs) owner e.rest) (sym ordered)
+          (subst (λ f. Stands f (take rank ks) owner e.rest) (sym tall_is)
+          (stands_below (tall t0 (suc j)) (tall t0 j) (λ k h. lower (height_at t0 k) (suc j) j (omega arith) h) (take rank ks) owner e.rest e.stands)),
+      e.after_is,
+    )
+
+    module _ (last past : ℕ) (a : Arrives t j rank last past) where
+      pub arrives : Reaches (tall t j) (take rank ks) 0 0 last a.0
+      arrives = subst (λ xs. Reaches (tall t j) (take rank xs) 0 0 last a.0) ordered a.1
+
+      pub left_is : a.0 ≡ rank - past
+      left_is = omega (arith, a.2)
+
+      pub row_behind : IsRow (tall t j) (next_at t j) (span_at t j) last a.0 (drop rank ks)
+      row_behind = row_reached (tall t j) (next_at t j) (span_at t j) (take rank ks) (drop rank ks) 0 0 last a.0 arrives (subst (IsLevel t j) (sym (take-append-drop rank ks)) (e.low j (omega arith)))
+
+      pub last_reaches : j < length (links_at t last)
+      last_reaches =
+          let s = reach_stands (tall t j) (take rank ks) last a.0 arrives in
+          reaches_of t j (take rank ks) last s.0 s.1 (omega (arith, head_is, e.bound))
+
+      pub goes_past : rank - past < span_at t j last
+      goes_past = omega (arith, a.2, beyond (tall t j) (next_at t j) (span_at t j) last a.0 (drop rank ks) row_behind)
+
+      pub reached_apart : (key : ℕ) → Lacks (suc key) ks → suc key ≢ last
+      reached_apart key lacks = reached_other (tall t j) (suc key) (take rank ks) (drop rank ks) 0 0 last a.0 arrives (λ e. absurd (omega arith)) (subst (Lacks (suc key)) (sym (take-append-drop rank ks)) lacks)
+
+      whole : length (take rank ks) + length (drop rank ks) ≡ length ks
+      whole = sym (length-append (take rank ks) (drop rank ks)) ∙ ap length (take-append-drop rank ks)
+
+      pub span_fits : rank ≤ length ks → span_at t j last ≤ suc (length ks)
+      span_fits le = omega (arith, a.2, whole, length-take-le rank ks le, within (tall t j) (next_at t j) (span_at t j) last a.0 (drop rank ks) row_behind)
+
+      at_level : (t' : Towers) → Keeps t t' → ((l o : ℕ) → l ≢ j → link_at t' l o ≡ link_at t l o) → IsLevel t' j ks' → (l : ℕ) → j ≤ l → l < 16 → IsLevel t' l ks'
+      at_level t' k others row l le lt = here (decide (nat_lt j l))
+        where
+          here : (nat_lt j l ≡ true) ⊎ (nat_lt j l ≡ false) → IsLevel t' l ks'
+          here (inl h) = (let more : j < l = ltb-true j l h in level_kept t t' l ks' k.heights (λ o. others l o (λ q. absurd (omega arith))) (e.high l (omega arith) lt))
+          here (inr h) = (let same : j ≡ l = omega (arith, ltb-false j l h) in subst (λ n. IsLevel t' n ks') same row)
+
+      -- one level more is edited
+      pub edited : (t' : Towers) → Keeps t t' → ((l o : ℕ) → l ≢ j → link_at t' l o ≡ link_at t l o) → IsLevel t' j ks' → Editing t' j last past
+      edited t' k others row =
+          let s = reach_stands (tall t j) (take rank ks) last a.0 arrives in
+          record {
+            keeps = record { heights = k.heights ∙ e.keeps.heights; elements = k.elements ∙ e.keeps.elements; len = k.len ∙ e.keeps.len; head = k.head ∙ e.keeps.head };
+            bound = omega (arith, e.bound);
+            low = λ l lt. level_kept t t' l ks k.heights (λ o. others l o (λ q. absurd (omega arith))) (e.low l (omega arith));
+            high = λ l le lt. at_level t' k others row l le lt;
+            rest = s.0;
+            stands = subst (λ f. Stands f (take rank ks) last s.0) tall_is s.1;
+            after_is = omega (arith, s.2, a.2);
+          }
+
+-- the row that a tower joined
+pub hung_row : (t t' : Towers) (ks : List ℕ) (rank j key last past : ℕ) → Hangs t t' j key last past → Reaches (tall t j) (take rank ks) 0 0 last past → IsLevel t j ks → Lacks (suc key) ks → IsDistinct ks → IsLevel t' j (with_at ks rank key)
+hung_row t t' ks rank j key last past h r row lacks dist =
+    let is = sym (take-append-drop rank ks) in
+    let w : tall t' j ≡ tall t j = tall_kept t t' h.keeps.heights j in
+    subst (λ f. IsRow f (next_at t' j) (span_at t' j) 0 0 (with_at ks rank key)) (sym w)
+    (joined (tall t j) (next_at t j) (span_at t j) (next_at t' j) (span_at t' j) key (take rank ks) (drop rank ks) 0 0 last past h.hung (subst (IsLevel t j) is row) r (λ e. absurd (omega arith)) (subst (Lacks (suc key)) is lacks) (lacks_head (take rank ks ++ drop rank ks)) (subst IsDistinct is dist))
+
+pub at_rank : (ks : List ℕ) (rank key : ℕ) → rank < length ks → get_or ks rank 0 ≡ key → ks ≡ take rank ks ++ key ∷ drop (suc rank) ks
+at_rank ks rank key lt is = sym (take-append-drop rank ks) ∙ ap (λ xs. take rank ks ++ xs) (drop-cons ks rank 0 lt ∙ ap (λ k. k ∷ drop (suc rank) ks) is)
+
+-- the row that a tower left
+pub unhung_row : (t t' : Towers) (ks : List ℕ) (rank j key last passed : ℕ) → Unhangs t t' j key last passed → Reaches (tall t j) (take rank ks) 0 0 last passed → IsLevel t j ks → rank < length ks → get_or ks rank 0 ≡ key → IsDistinct ks → IsLevel t' j (without_at ks rank)
+unhung_row t t' ks rank j key last passed h r row lt at dist =
+    let is = at_rank ks rank key lt at in
+    let w : tall t' j ≡ tall t j = tall_kept t t' h.keeps.heights j in
+    subst (λ f. IsRow f (next_at t' j) (span_at t' j) 0 0 (without_at ks rank)) (sym w)
+    (left (tall t j) (next_at t j) (span_at t j) (next_at t' j) (span_at t' j) key (take rank ks) (drop (suc rank) ks) 0 0 last passed h.unhung (subst (IsLevel t j) is row) r (lacks_head (take rank ks ++ key ∷ drop (suc rank) ks)) (subst IsDistinct is dist))
+
+-- the span of a tower at a rank
+pub span_there : (t : Towers) (ks : List ℕ) (rank j key : ℕ) → IsLevel t j ks → rank < length ks → get_or ks rank 0 ≡ key → tall t j key ≡ true → span_at t j (suc key) + rank ≤ length ks
+span_there t ks rank j key row lt at e =
+    let is = at_rank ks rank key lt at in
+    let r = row_on (tall t j) (next_at t j) (span_at t j) (take rank ks) key (drop (suc rank) ks) 0 0 e (subst (IsLevel t j) is row) in
+    let all : length ks ≡ length (take rank ks) + suc (length (drop (suc rank) ks)) = ap length is ∙ length-append (take rank ks) (key ∷ drop (suc rank) ks) in
+    omega (arith, all, length-take-le rank ks (omega arith), within (tall t j) (next_at t j) (span_at t j) (suc key) 0 (drop (suc rank) ks) r)

@@ -1,0 +1,15 @@
+//! Lists of scores and members, sorted by score and then by the members' bytes.
+#![tactic(auto)]
+
+mod edits;
+mod probes;
+mod scores;
+mod search;
+#[cfg(test)]
+mod tests;
+mod towers;
+
+pub use scores::Scores;
+
+/// Want of memory.
+pub type Memory = std::alloc::AllocError;

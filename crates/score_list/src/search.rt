@@ -1,0 +1,129 @@
+//! Elements by rank, and the rank of the first element that a probe doesn't stand above.
+
+ghost use Rattle.std.specs.Prelude.{◌≡◌, ◌≢◌, ℕ, suc, ◌+◌, ◌<◌, ◌≤◌, ◌^◌, length, get_or, true, Bool, List, [], Option, Some, None, IfSome, IfNone, count_by};
+ghost use Rattle.score_list.specs.Linked.{Element, element_at, order, items, IsLinked, StandsAt, Arrives, IsAt, IsBefore};
+ghost use Rattle.score_list.specs.Sorted.{IsParted, EachIs, IsSorted, Misses, Located};
+
+use crate::probes::Pair;
+use crate::towers::{LEVELS, Place, START, Towers};
+use blocks::{BlockRef, BlockStore};
+
+/// What stands above some of the elements.
+pub(crate) trait Probe {
+    /// Whether it stands above an element.
+    ghost above: { Self → Element → Bool };
+
+    /// It can be compared with an element.
+    ghost compares: { Self → Element → Type 0 };
+
+    /// Whether it stands above an element.
+    fn is_above(&self, element: (i64, BlockRef)) -> bool
+        requires { compares self.now element }
+        ensures { result ≡ above self.now element };
+}
+
+impl Towers {
+    /// The element of a tower.
+    pub(crate) fn element(&self, key: usize) -> (i64, BlockRef)
+        ensures { result ≡ element_at self.now key }
+    {
+        match self.slab.get(key) {
+            Some(tower) => (tower.score, tower.member),
+            None => (0, BlockRef { slab: 0, slot: 0 }),
+        }
+    }
+
+    /// The last owner of the level with an element below the probe, from one on.
+    fn pass<P: Probe>(&self, level: usize, from: Place, probe: &P) -> Place
+        requires level { level < 16 }
+        requires linked { IsLinked self.now }
+        requires parted { IsParted (P.above probe.now) (items self.now) }
+        requires compares { EachIs (P.compares probe.now) (items self.now) }
+        requires stands { StandsAt self.now level (count_by (P.above probe.now) (items self.now)) from.owner from.rank }
+        ensures { Arrives self.now level (count_by (P.above probe.now) (items self.now)) result.owner result.rank }
+    {
+        let mut place = from;
+        loop {
+            let link = self.link(level, place.owner);
+            if link.next == 0 {
+                return place;
+            }
+            let element = self.element(link.next - 1);
+            if !probe.is_above(element) {
+                return place;
+            }
+            place = Place {
+                owner: link.next,
+                rank: place.rank + link.span,
+            };
+        }
+    }
+
+    /// The rank of the first element that the probe doesn't stand above, and its tower where there is one.
+    pub(crate) fn find<P: Probe>(&self, probe: &P) -> (usize, Option<usize>)
+        requires linked { IsLinked self.now }
+        requires parted { IsParted (P.above probe.now) (items self.now) }
+        requires compares { EachIs (P.compares probe.now) (items self.now) }
+        ensures rank { result.0 ≡ count_by (P.above probe.now) (items self.now) }
+        ensures tower { IsAt self.now result.0 result.1 }
+        ensures fits { IfSome result.1 (λ key. key + 1 < 2 ^ 64) }
+    {
+        let mut place = START;
+        let mut level = LEVELS;
+        while level > 0 {
+            level -= 1;
+            place = self.pass(level, place, probe);
+        }
+        let next = self.link(0, place.owner).next;
+        if next == 0 {
+            (place.rank, None)
+        } else {
+            (place.rank, Some(next - 1))
+        }
+    }
+
+    /// The tower at a rank.
+    pub(crate) fn key_at(&self, rank: usize) -> usize
+        requires linked { IsLinked self.now }
+        requires rank { rank < length (order self.now) }
+        ensures { get_or (order self.now) rank 0 ≡ result }
+    {
+        let mut place = START;
+        let mut level = LEVELS;
+        while level > 0 {
+            level -= 1;
+            place = self.advance(level, place, rank);
+        }
+        self.link(0, place.owner).next - 1
+    }
+
+    /// The rank and the tower of a pair. `None` comes exactly where there is none.
+    pub(crate) fn locate<B: BlockStore>(
+        &self,
+        store: &B,
+        score: i64,
+        member: &[u8],
+    ) -> Option<(usize, usize)>
+        requires linked { IsLinked self.now }
+        requires sorted { IsSorted (B.blocks store.now) (items self.now) }
+        ensures found { IfSome result (λ at. Located (B.blocks store.now) (score, member.now) self.now at.0 at.1) }
+        ensures none { IfNone result (Misses (B.blocks store.now) (score, member.now) (items self.now)) }
+    {
+        let probe = Pair {
+            store,
+            score,
+            member,
+        };
+        let (rank, found) = self.find(&probe);
+        match found {
+            None => None,
+            Some(key) => {
+                if probe.is_at(self.element(key)) {
+                    Some((rank, key))
+                } else {
+                    None
+                }
+            }
+        }
+    }
+}

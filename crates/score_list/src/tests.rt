@@ -1,0 +1,108 @@
+// Each list stands beside a sorted vector of the scores that it should have.
+
+use crate::{Memory, Scores};
+use blocks::{BlockRef, BlockStore, PlainStore, put_block};
+use rand_core::Rng;
+use rand_pcg::Pcg32;
+use std::alloc::Global;
+use std::marker::Model;
+use std::process::Abort;
+use std::test::Fail;
+
+// Scores of one member, beside the store of its block.
+#[derive(Drop)]
+struct Held {
+    store: PlainStore,
+    member: BlockRef,
+    scores: Scores,
+}
+
+impl Model for Held {
+    ghost use Rattle.std.specs.Prelude.{ℕ, IsSome};
+    ghost use Rattle.blocks.specs.Plain.{plain_blocks};
+    ghost use Rattle.score_list.specs.Sorted.{IsSorted};
+
+    ghost Value = { ℕ };
+
+    ghost view = { λ held. 0 };
+
+    ghost invariant = { λ held. IsSorted (plain_blocks held.store) held.scores × IsSome (plain_blocks held.store held.member) };
+}
+
+impl Held {
+    fn new(alloc: Global) -> Result<Held, Memory> {
+        let mut store = PlainStore::new(alloc);
+        let member = put_block(&mut store, b"m")?;
+        Ok(Held {
+            store,
+            member,
+            scores: Scores::new(alloc, 7),
+        })
+    }
+
+    fn rank(&self, score: i64) -> Option<usize> {
+        let bytes = self.store.bytes(self.member);
+        self.scores.rank_of(&self.store, score, bytes)
+    }
+
+    // Puts a score where it isn't there yet.
+    fn insert(&mut self, score: i64) -> Result<bool, Memory> {
+        let bytes = self.store.bytes(self.member);
+        match self.scores.rank_of(&self.store, score, bytes) {
+            Some(_) => Ok(false),
+            None => {
+                self.scores.insert(&self.store, score, self.member)?;
+                Ok(true)
+            }
+        }
+    }
+
+    fn remove(&mut self, score: i64) -> bool {
+        let bytes = self.store.bytes(self.member);
+        self.scores.remove(&self.store, score, bytes)
+    }
+}
+
+fn score_at(held: &Held, rank: usize) -> Option<i64> {
+    match held.scores.at_rank(rank) {
+        Some((score, _)) => Some(score),
+        None => None,
+    }
+}
+
+// Every call that only looks answers what the sorted vector says.
+fn compare(rt: &impl Abort, held: &Held, sorted: &[i64], score: i64) {
+    let place = sorted.partition_point(|s| *s < score);
+    assert_eq!(rt; held.scores.len(), sorted.len());
+    assert_eq!(rt; held.scores.first_in_range(score), place);
+    assert_eq!(rt; score_at(held, place), sorted.get(place).copied());
+    let stands = sorted.get(place).copied() == Some(score);
+    let rank = if stands { Some(place) } else { None };
+    assert_eq!(rt; held.rank(score), rank);
+}
+
+#[test]
+fn agrees_with_a_sorted_vector(rt: HostRuntime) -> Result<(), Fail> {
+    let mut rng = Pcg32::new(11, 54);
+    let mut held = Held::new(rt.alloc())?;
+    let mut sorted = Vec::new(rt.alloc());
+    for round in 0..4000u32 {
+        let score = i64::from(rng.next_u32() % 900) - 450;
+        let place = sorted.as_slice().partition_point(|s| *s < score);
+        let stands = sorted.as_slice().get(place).copied() == Some(score);
+        // The list grows, shrinks and grows again.
+        if rng.next_u32() % 8 < 2 + round / 1000 % 2 * 4 {
+            assert_eq!(rt; held.insert(score)?, !stands);
+            if !stands && place <= sorted.len() {
+                sorted.insert(place, score)?;
+            }
+        } else {
+            assert_eq!(rt; held.remove(score), stands);
+            if stands && place < sorted.len() {
+                sorted.remove(place);
+            }
+        }
+        compare(&rt, &held, sorted.as_slice(), score);
+    }
+    Ok(())
+}
