@@ -1,0 +1,5 @@
+pub mod Lists
+pub mod Marches
+pub mod OneNode
+pub mod Same
+pub mod Small
