@@ -9,7 +9,7 @@ use std::marker::Model;
 use std::process::Abort;
 use std::test::Fail;
 
-// Scores of one member, beside the store of its block.
+// Scores of a member, beside the store of its block.
 #[derive(Drop)]
 struct Held {
     store: PlainStore,
@@ -104,5 +104,20 @@ fn agrees_with_a_sorted_vector(rt: HostRuntime) -> Result<(), Fail> {
         }
         compare(&rt, &held, sorted.as_slice(), score);
     }
+    Ok(())
+}
+
+#[test]
+fn a_member_is_named_by_another_block(rt: HostRuntime) -> Result<(), Fail> {
+    let mut store = PlainStore::new(rt.alloc());
+    let other = put_block(&mut store, b"m")?;
+    let member = put_block(&mut store, b"m")?;
+    let mut scores = Scores::new(rt.alloc(), 7);
+    scores.insert(&store, 5, member)?;
+    assert_eq!(rt; scores.at_rank(0), Some((5, member)));
+    assert!(rt; scores.len() == 1);
+    scores.swap_ref(0, other);
+    assert_eq!(rt; scores.at_rank(0), Some((5, other)));
+    assert_eq!(rt; scores.at_rank(1), None);
     Ok(())
 }
