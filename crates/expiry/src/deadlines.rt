@@ -1,4 +1,4 @@
-ghost use Rattle.std.specs.Prelude.{◌≡◌, ℕ, ◌+◌, ◌<◌, ◌≤◌, ◌++◌, ◌↔◌, List, [], length, take, nat_lt, nat_le, Option, Some, None, is_some, IfOk, OnOk, OnErr, IfSome, IfNone, IsSome, IsTrue, MatchBool, if◌then◌else◌};
+ghost use Rattle.std.specs.Prelude.{false, ◌≡◌, ℕ, ◌+◌, ◌<◌, ◌≤◌, ◌++◌, ◌↔◌, List, [], length, take, nat_lt, nat_le, Option, Some, None, is_some, IfOk, OnOk, OnErr, IfSome, IfNone, IsSome, IsTrue, MatchBool, if◌then◌else◌};
 ghost use Rattle.blocks.specs.Blocks.{Blocks, bytes_at};
 ghost use Rattle.rev_cursor.specs.Span.{Span};
 ghost use Rattle.rehash_dict.specs.Tables.{is_rehashing, rehashed, shrunk, wants_shrink, IsSettled};
@@ -63,6 +63,7 @@ impl Deadlines {
     /// Makes one step of a rehash of the table. `false` comes exactly where no rehash is going on.
     pub fn rehash_step(&mut self) -> bool
         ensures value { result ≡ is_rehashing (tables self.old.table) }
+        ensures same { result ≡ false → self.new ≡ self.old }
         ensures keyed { (blocks : Blocks) → Keyed blocks self.old.table → Keyed blocks self.new.table }
         ensures items { self.new.table.items ≡ self.old.table.items }
         ensures seed { self.new.table.seed ≡ self.old.table.seed }

@@ -262,6 +262,7 @@ impl<V> Dict<V> {
     /// `false` comes exactly where no rehash is going on.
     pub fn rehash_step(&mut self) -> bool
         ensures value { result ≡ is_rehashing (tables self.old) }
+        ensures same { result ≡ false → self.new ≡ self.old }
         ensures keyed { (blocks : Blocks) → Keyed blocks self.old → Keyed blocks self.new }
         ensures items { self.new.items ≡ self.old.items }
         ensures seed { self.new.seed ≡ self.old.seed }
