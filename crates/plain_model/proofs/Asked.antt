@@ -1,14 +1,15 @@
 -- What the words of a request tell of a command.
-use Rattle.std.proofs.Common.{◌≡◌, ℕ, ◌+◌, ◌<◌, ◌≤◌, ◌==◌, ◌%◌, ◌-◌, List, [], ◌∷◌, ◌++◌, map, length, drop, Bool, true, false, Result, Ok, Err, Option, Some, None, refl, subst, arith}
+use Rattle.std.proofs.Common.{◌≡◌, ℕ, ◌+◌, ◌<◌, ◌≤◌, ◌==◌, ◌%◌, ◌-◌, ◌^◌, List, [], ◌∷◌, ◌++◌, map, length, drop, Bool, true, false, Result, Ok, Err, Option, Some, None, refl, subst, arith}
 use Rattle.std.specs.Prelude.{◌&&◌, ◌||◌, bytes_eq, nat_le, nat_lt, int_lt, codes, ℤ, pos, negsuc, zero, suc, if◌then◌else◌}
 use Rattle.std.specs.List.{AllByRecursion}
+use Rattle.std.specs.Str.Parse.{digits_value}
 use Rattle.std.proofs.lemmas.Bool.Decides.{Decides-eqb}
 use Rattle.std.proofs.lemmas.Bool.{leb-true, ltb-true}
 use Rattle.plain_world.specs.Words.{Words, longest, in_lower_case}
-use Rattle.plain_model.specs.Shapes.{Kind, Plain, Whole, Offset, Span, Database, Told, told, AllTold, and_then, whole, span, database, all_told, Row, fixed, repeated, Choice, choice_of, choose, chosen, with_choices}
+use Rattle.plain_model.specs.Shapes.{Kind, Plain, Whole, Offset, Span, Database, Count, Steps, Cursor, Told, told, AllTold, and_then, whole, span, database, count, steps, are_digits, cursor, all_told, Row, fixed, repeated, Choice, choice_of, choose, chosen, with_choices}
 use Rattle.plain_model.specs.StringWords.{set_choices, no_set_choices, getex_choices, no_getex_choices, pairs_of, string_rows, set_of, getex_of, set_range_of, decrease_of}
-use Rattle.plain_model.specs.KeyWords.{expire_choices, no_expire_options, expire_of, clash, copy_choices, no_copy_options, object_of, key_rows}
-use Rattle.plain_model.specs.ConnectionWords.{ping_words, flush_choices, connection_rows}
+use Rattle.plain_model.specs.KeyWords.{expire_choices, no_expire_options, expire_of, clash, copy_choices, no_copy_options, scan_choices, no_scan_options, object_of, key_rows}
+use Rattle.plain_model.specs.ConnectionWords.{ping_words, flush_choices, debug_of, connection_rows}
 use Rattle.std.specs.Prelude.{neg_ℤ}
 use Rattle.int_text.specs.Decimal.{is_i64, number_of}
 use Rattle.plain_model.specs.Meant.{of_family, rows, read_by, meant}
@@ -22,6 +23,7 @@ use Rattle.plain_model.specs.declared.keys.KeyCommand.{KeyCommand}
 use Rattle.plain_model.specs.declared.keys.KeyCommand.TheVariants as keys
 use Rattle.plain_model.specs.declared.keys.ExpireOptions.{ExpireOptions}
 use Rattle.plain_model.specs.declared.keys.CopyOptions.{CopyOptions}
+use Rattle.plain_model.specs.declared.keys.ScanOptions.{ScanOptions}
 use Rattle.plain_model.specs.declared.connection.ConnectionCommand.{ConnectionCommand}
 use Rattle.plain_model.specs.declared.connection.ConnectionCommand.TheVariants as connection
 use Rattle.plain_model.specs.declared.times.Lifetime.{Lifetime}
@@ -29,7 +31,7 @@ use Rattle.plain_model.specs.declared.times.Lifetime.TheVariants as lifetimes
 use Rattle.plain_model.specs.declared.times.Renewal.{Renewal}
 use Rattle.plain_model.specs.declared.times.Renewal.TheVariants as renewals
 use Rattle.plain_world.specs.declared.refusal.Refusal.{Refusal}
-use Rattle.plain_world.specs.declared.refusal.Refusal.TheVariants.{WrongNumberOfArguments, Syntax, Overflow, ValueOutOfRange, InvalidExpireTime, DatabaseOutOfRange}
+use Rattle.plain_world.specs.declared.refusal.Refusal.TheVariants.{WrongNumberOfArguments, Syntax, Overflow, ValueOutOfRange, InvalidExpireTime, InvalidCursor, DatabaseOutOfRange}
 use Rattle.plain_model.specs.declared.command.Condition.TheVariants.{Always, IfMissing, IfThere}
 
 -- what is made after something was told holds, if it holds of whatever is told
@@ -64,6 +66,9 @@ Keeps Whole n = Unit {0}
 Keeps Offset n = Unit {0}
 Keeps Span n = int_lt (pos 0) n ≡ true
 Keeps Database n = n < 16
+Keeps Count n = 0 < n
+Keeps Steps n = n ≤ 1000000
+Keeps Cursor n = n < 2 ^ 64
 
 abbrev pub AllKeep : (kinds : List Kind) → AllTold kinds → Type 0
 AllKeep [] a = Unit {0}
@@ -76,12 +81,32 @@ database_keeps : (n : ℤ) (a : ℕ) → database n ≡ Ok a → Keeps Database 
 database_keeps (pos n) a e = if_true (Keeps Database) (nat_lt n 16) (Ok n) DatabaseOutOfRange (λ below b f. made (Keeps Database) n b (ltb-true n 16 below) f) a e
 database_keeps (negsuc n) a e = cc
 
+count_keeps : (n : ℤ) (a : ℕ) → count n ≡ Ok a → Keeps Count a
+count_keeps (pos n) a e = if_true (Keeps Count) (nat_lt 0 n) (Ok n) Syntax (λ above b f. made (Keeps Count) n b (ltb-true 0 n above) f) a e
+count_keeps (negsuc n) a e = cc
+
+steps_keep : (n : ℤ) (a : ℕ) → steps n ≡ Ok a → Keeps Steps a
+steps_keep (pos n) a e = if_true (Keeps Steps) (nat_le n 1000000) (Ok n) ValueOutOfRange (λ within b f. made (Keeps Steps) n b (leb-true n 1000000 within) f) a e
+steps_keep (negsuc n) a e = cc
+
+both : (a b : Bool) → (a && b) ≡ true → b ≡ true
+both true b e = e
+both false b e = cc
+
+cursor_keeps : (word : List ℕ) (a : ℕ) → cursor word ≡ Ok a → Keeps Cursor a
+cursor_keeps word a e =
+    let n = digits_value 10 word in
+    if_true (Keeps Cursor) (are_digits word && nat_lt n (2 ^ 64)) (Ok n) InvalidCursor (λ holds b f. made (Keeps Cursor) n b (ltb-true n (2 ^ 64) (both (are_digits word) (nat_lt n (2 ^ 64)) holds)) f) a e
+
 told_keeps : (kind : Kind) (word : List ℕ) (a : Told kind) → told kind word ≡ Ok a → Keeps kind a
 told_keeps Plain word a e = tt
 told_keeps Whole word a e = tt
 told_keeps Offset word a e = tt
 told_keeps Span word a e = then_told (Keeps Span) (whole (number_of word)) span (λ n is b f. span_keeps n b f) a e
 told_keeps Database word a e = then_told (Keeps Database) (whole (number_of word)) database (λ n is b f. database_keeps n b f) a e
+told_keeps Count word a e = then_told (Keeps Count) (whole (number_of word)) count (λ n is b f. count_keeps n b f) a e
+told_keeps Steps word a e = then_told (Keeps Steps) (whole (number_of word)) steps (λ n is b f. steps_keep n b f) a e
+told_keeps Cursor word a e = cursor_keeps word a e
 
 all_told_keep : (kinds : List Kind) (words : Words) (a : AllTold kinds) → all_told kinds words ≡ Ok a → AllKeep kinds a
 all_told_keep [] words a e = tt
@@ -167,13 +192,16 @@ abbrev pub IsOneOf16 : Option ℕ → Type 0
 IsOneOf16 None = Unit {0}
 IsOneOf16 (Some number) = number < 16
 
+-- SCAN meets one key at least, and its cursor has 64 bits
 abbrev pub FitsKeys : KeyCommand → Type 0
 FitsKeys (keys.Copy from to options) = IsOneOf16 options.db
 FitsKeys (keys.MoveKey key number) = number < 16
+FitsKeys (keys.Scan cursor options) = (0 < options.count) × (cursor < 2 ^ 64)
 FitsKeys other = Unit {0}
 
 abbrev pub FitsConnection : ConnectionCommand → Type 0
 FitsConnection (connection.Select number) = number < 16
+FitsConnection (connection.DebugRehash n) = n ≤ 1000000
 FitsConnection other = Unit {0}
 
 abbrev pub FitsCommand : Command → Type 0
@@ -211,6 +239,9 @@ expire_choices_keep = (λ own o keeps q. tt, (λ own o keeps q. tt, (λ own o ke
 copy_choices_keep : EachKeeps (λ (o : CopyOptions). IsOneOf16 o.db) copy_choices
 copy_choices_keep = (λ own o keeps q. keeps.0, (λ own o keeps q. q, tt))
 
+scan_choices_keep : EachKeeps (λ (o : ScanOptions). 0 < o.count) scan_choices
+scan_choices_keep = (λ own o keeps q. q, (λ own o keeps q. keeps.0, (λ own o keeps q. q, tt)))
+
 flush_choices_keep : EachKeeps (λ (o : Unit {0}). Unit {0}) flush_choices
 flush_choices_keep = (λ own o keeps q. tt, (λ own o keeps q. tt, tt))
 
@@ -219,17 +250,23 @@ ping_fits [] c e = made FitsConnection (connection.Ping None) c tt e
 ping_fits (text ∷ []) c e = made FitsConnection (connection.Ping (Some text)) c tt e
 ping_fits (text ∷ more ∷ words) c e = cc
 
-abbrev RowFits : {A : Type 0} → (A → Type 0) → Row A → Type 0
+debug_fits : (second n : List ℕ) (c : ConnectionCommand) → debug_of second n ≡ Ok c → FitsConnection c
+debug_fits second n c e =
+    let made_of : ℕ → Result ConnectionCommand Refusal = λ k. Ok (connection.DebugRehash k) in
+    if_has FitsConnection (bytes_eq (in_lower_case second) (codes "rehash")) (and_then (told Steps n) made_of) (Err Syntax)
+    (then_told FitsConnection (told Steps n) made_of (λ k is b. made FitsConnection (connection.DebugRehash k) b (told_keeps Steps n k is))) (never FitsConnection Syntax) c e
+
+abbrev pub RowFits : {A : Type 0} → (A → Type 0) → Row A → Type 0
 RowFits {A} P row = (words : Words) (c : A) → row.read words ≡ Ok c → P c
 
 string_rows_fit : AllByRecursion (RowFits Fits) string_rows
 string_rows_fit = (fixed_fits Fits (Plain ∷ []) (λ a. Ok (strings.Get a.0)) (λ a keeps c. made Fits (strings.Get a.0) c tt), (chosen_fits Fits (Plain ∷ Plain ∷ []) set_choices no_set_choices (λ a o. set_of a.0 a.1.0 o) (λ o. LastsLong o.lifetime) (set_choices_keep, tt) (λ a keeps o long c. set_fits a.0 a.1.0 o long c), (fixed_fits Fits (Plain ∷ Plain ∷ []) (λ a. Ok (strings.SetNx a.0 a.1.0)) (λ a keeps c. made Fits (strings.SetNx a.0 a.1.0) c tt), (fixed_fits Fits (Plain ∷ Span ∷ Plain ∷ []) (λ a. Ok (strings.SetEx a.0 a.1.0 a.1.1.0)) (λ a keeps c. made Fits (strings.SetEx a.0 a.1.0 a.1.1.0) c keeps.1.0), (fixed_fits Fits (Plain ∷ Span ∷ Plain ∷ []) (λ a. Ok (strings.PSetEx a.0 a.1.0 a.1.1.0)) (λ a keeps c. made Fits (strings.PSetEx a.0 a.1.0 a.1.1.0) c keeps.1.0), (fixed_fits Fits (Plain ∷ Plain ∷ []) (λ a. Ok (strings.GetSet a.0 a.1.0)) (λ a keeps c. made Fits (strings.GetSet a.0 a.1.0) c tt), (fixed_fits Fits (Plain ∷ []) (λ a. Ok (strings.GetDel a.0)) (λ a keeps c. made Fits (strings.GetDel a.0) c tt), (chosen_fits Fits (Plain ∷ []) getex_choices no_getex_choices (λ a o. getex_of a.0 o) (λ o. RenewsLong o.renewal) (getex_choices_keep, tt) (λ a keeps o long c. getex_fits a.0 o long c), (repeated_fits Fits [] 1 (λ a words. Ok (strings.MGet words)) (λ a words c. made Fits (strings.MGet words) c tt), (repeated_fits Fits [] 2 (λ a words. Ok (strings.MSet (pairs_of words))) (λ a words c. made Fits (strings.MSet (pairs_of words)) c tt), (repeated_fits Fits [] 2 (λ a words. Ok (strings.MSetNx (pairs_of words))) (λ a words c. made Fits (strings.MSetNx (pairs_of words)) c tt), (fixed_fits Fits (Plain ∷ Plain ∷ []) (λ a. Ok (strings.Append a.0 a.1.0)) (λ a keeps c. made Fits (strings.Append a.0 a.1.0) c tt), (fixed_fits Fits (Plain ∷ []) (λ a. Ok (strings.StrLen a.0)) (λ a keeps c. made Fits (strings.StrLen a.0) c tt), (fixed_fits Fits (Plain ∷ Whole ∷ Whole ∷ []) (λ a. Ok (strings.GetRange a.0 a.1.0 a.1.1.0)) (λ a keeps c. made Fits (strings.GetRange a.0 a.1.0 a.1.1.0) c tt), (fixed_fits Fits (Plain ∷ Offset ∷ Plain ∷ []) (λ a. set_range_of a.0 a.1.0 a.1.1.0) (λ a keeps c. range_fits a.0 a.1.0 a.1.1.0 c), (fixed_fits Fits (Plain ∷ []) (λ a. Ok (strings.Incr a.0)) (λ a keeps c. made Fits (strings.Incr a.0) c tt), (fixed_fits Fits (Plain ∷ []) (λ a. Ok (strings.Decr a.0)) (λ a keeps c. made Fits (strings.Decr a.0) c tt), (fixed_fits Fits (Plain ∷ Whole ∷ []) (λ a. Ok (strings.IncrBy a.0 a.1.0)) (λ a keeps c. made Fits (strings.IncrBy a.0 a.1.0) c tt), (fixed_fits Fits (Plain ∷ Whole ∷ []) (λ a. decrease_of a.0 a.1.0) (λ a keeps c. if_has Fits (is_i64 (neg_ℤ a.1.0)) (Ok (strings.DecrBy a.0 a.1.0)) (Err Overflow) (λ b. made Fits (strings.DecrBy a.0 a.1.0) b tt) (never Fits Overflow) c), tt)))))))))))))))))))
 
 key_rows_fit : AllByRecursion (RowFits FitsKeys) key_rows
-key_rows_fit = (repeated_fits FitsKeys [] 1 (λ a words. Ok (keys.Del words)) (λ a words c. made FitsKeys (keys.Del words) c tt), (repeated_fits FitsKeys [] 1 (λ a words. Ok (keys.Unlink words)) (λ a words c. made FitsKeys (keys.Unlink words) c tt), (repeated_fits FitsKeys [] 1 (λ a words. Ok (keys.Exists words)) (λ a words c. made FitsKeys (keys.Exists words) c tt), (repeated_fits FitsKeys [] 1 (λ a words. Ok (keys.Touch words)) (λ a words c. made FitsKeys (keys.Touch words) c tt), (fixed_fits FitsKeys (Plain ∷ []) (λ a. Ok (keys.TypeOf a.0)) (λ a keeps c. made FitsKeys (keys.TypeOf a.0) c tt), (chosen_fits FitsKeys (Plain ∷ Whole ∷ []) expire_choices no_expire_options (λ a o. expire_of keys.Expire a.0 a.1.0 o) (λ o. Unit {0}) (expire_choices_keep, tt) (λ a keeps o long c. if_has FitsKeys (clash o) (Err Syntax) (Ok (keys.Expire a.0 a.1.0 o)) (never FitsKeys Syntax) (λ b. made FitsKeys (keys.Expire a.0 a.1.0 o) b tt) c), (chosen_fits FitsKeys (Plain ∷ Whole ∷ []) expire_choices no_expire_options (λ a o. expire_of keys.PExpire a.0 a.1.0 o) (λ o. Unit {0}) (expire_choices_keep, tt) (λ a keeps o long c. if_has FitsKeys (clash o) (Err Syntax) (Ok (keys.PExpire a.0 a.1.0 o)) (never FitsKeys Syntax) (λ b. made FitsKeys (keys.PExpire a.0 a.1.0 o) b tt) c), (chosen_fits FitsKeys (Plain ∷ Whole ∷ []) expire_choices no_expire_options (λ a o. expire_of keys.ExpireAt a.0 a.1.0 o) (λ o. Unit {0}) (expire_choices_keep, tt) (λ a keeps o long c. if_has FitsKeys (clash o) (Err Syntax) (Ok (keys.ExpireAt a.0 a.1.0 o)) (never FitsKeys Syntax) (λ b. made FitsKeys (keys.ExpireAt a.0 a.1.0 o) b tt) c), (chosen_fits FitsKeys (Plain ∷ Whole ∷ []) expire_choices no_expire_options (λ a o. expire_of keys.PExpireAt a.0 a.1.0 o) (λ o. Unit {0}) (expire_choices_keep, tt) (λ a keeps o long c. if_has FitsKeys (clash o) (Err Syntax) (Ok (keys.PExpireAt a.0 a.1.0 o)) (never FitsKeys Syntax) (λ b. made FitsKeys (keys.PExpireAt a.0 a.1.0 o) b tt) c), (fixed_fits FitsKeys (Plain ∷ []) (λ a. Ok (keys.Ttl a.0)) (λ a keeps c. made FitsKeys (keys.Ttl a.0) c tt), (fixed_fits FitsKeys (Plain ∷ []) (λ a. Ok (keys.PTtl a.0)) (λ a keeps c. made FitsKeys (keys.PTtl a.0) c tt), (fixed_fits FitsKeys (Plain ∷ []) (λ a. Ok (keys.ExpireTime a.0)) (λ a keeps c. made FitsKeys (keys.ExpireTime a.0) c tt), (fixed_fits FitsKeys (Plain ∷ []) (λ a. Ok (keys.PExpireTime a.0)) (λ a keeps c. made FitsKeys (keys.PExpireTime a.0) c tt), (fixed_fits FitsKeys (Plain ∷ []) (λ a. Ok (keys.Persist a.0)) (λ a keeps c. made FitsKeys (keys.Persist a.0) c tt), (fixed_fits FitsKeys (Plain ∷ Plain ∷ []) (λ a. Ok (keys.Rename a.0 a.1.0)) (λ a keeps c. made FitsKeys (keys.Rename a.0 a.1.0) c tt), (fixed_fits FitsKeys (Plain ∷ Plain ∷ []) (λ a. Ok (keys.RenameNx a.0 a.1.0)) (λ a keeps c. made FitsKeys (keys.RenameNx a.0 a.1.0) c tt), (chosen_fits FitsKeys (Plain ∷ Plain ∷ []) copy_choices no_copy_options (λ a o. Ok (keys.Copy a.0 a.1.0 o)) (λ o. IsOneOf16 o.db) (copy_choices_keep, tt) (λ a keeps o within c. made FitsKeys (keys.Copy a.0 a.1.0 o) c within), (fixed_fits FitsKeys (Plain ∷ Database ∷ []) (λ a. Ok (keys.MoveKey a.0 a.1.0)) (λ a keeps c. made FitsKeys (keys.MoveKey a.0 a.1.0) c keeps.1.0), (fixed_fits FitsKeys [] (λ a. Ok keys.RandomKey) (λ a keeps c. made FitsKeys keys.RandomKey c tt), (fixed_fits FitsKeys (Plain ∷ Plain ∷ []) (λ a. object_of a.0 a.1.0) (λ a keeps c. if_has FitsKeys (bytes_eq (in_lower_case a.0) (codes "encoding")) (Ok (keys.ObjectEncoding a.1.0)) (Err Syntax) (λ b. made FitsKeys (keys.ObjectEncoding a.1.0) b tt) (never FitsKeys Syntax) c), tt))))))))))))))))))))
+key_rows_fit = (repeated_fits FitsKeys [] 1 (λ a words. Ok (keys.Del words)) (λ a words c. made FitsKeys (keys.Del words) c tt), (repeated_fits FitsKeys [] 1 (λ a words. Ok (keys.Unlink words)) (λ a words c. made FitsKeys (keys.Unlink words) c tt), (repeated_fits FitsKeys [] 1 (λ a words. Ok (keys.Exists words)) (λ a words c. made FitsKeys (keys.Exists words) c tt), (repeated_fits FitsKeys [] 1 (λ a words. Ok (keys.Touch words)) (λ a words c. made FitsKeys (keys.Touch words) c tt), (fixed_fits FitsKeys (Plain ∷ []) (λ a. Ok (keys.TypeOf a.0)) (λ a keeps c. made FitsKeys (keys.TypeOf a.0) c tt), (chosen_fits FitsKeys (Plain ∷ Whole ∷ []) expire_choices no_expire_options (λ a o. expire_of keys.Expire a.0 a.1.0 o) (λ o. Unit {0}) (expire_choices_keep, tt) (λ a keeps o long c. if_has FitsKeys (clash o) (Err Syntax) (Ok (keys.Expire a.0 a.1.0 o)) (never FitsKeys Syntax) (λ b. made FitsKeys (keys.Expire a.0 a.1.0 o) b tt) c), (chosen_fits FitsKeys (Plain ∷ Whole ∷ []) expire_choices no_expire_options (λ a o. expire_of keys.PExpire a.0 a.1.0 o) (λ o. Unit {0}) (expire_choices_keep, tt) (λ a keeps o long c. if_has FitsKeys (clash o) (Err Syntax) (Ok (keys.PExpire a.0 a.1.0 o)) (never FitsKeys Syntax) (λ b. made FitsKeys (keys.PExpire a.0 a.1.0 o) b tt) c), (chosen_fits FitsKeys (Plain ∷ Whole ∷ []) expire_choices no_expire_options (λ a o. expire_of keys.ExpireAt a.0 a.1.0 o) (λ o. Unit {0}) (expire_choices_keep, tt) (λ a keeps o long c. if_has FitsKeys (clash o) (Err Syntax) (Ok (keys.ExpireAt a.0 a.1.0 o)) (never FitsKeys Syntax) (λ b. made FitsKeys (keys.ExpireAt a.0 a.1.0 o) b tt) c), (chosen_fits FitsKeys (Plain ∷ Whole ∷ []) expire_choices no_expire_options (λ a o. expire_of keys.PExpireAt a.0 a.1.0 o) (λ o. Unit {0}) (expire_choices_keep, tt) (λ a keeps o long c. if_has FitsKeys (clash o) (Err Syntax) (Ok (keys.PExpireAt a.0 a.1.0 o)) (never FitsKeys Syntax) (λ b. made FitsKeys (keys.PExpireAt a.0 a.1.0 o) b tt) c), (fixed_fits FitsKeys (Plain ∷ []) (λ a. Ok (keys.Ttl a.0)) (λ a keeps c. made FitsKeys (keys.Ttl a.0) c tt), (fixed_fits FitsKeys (Plain ∷ []) (λ a. Ok (keys.PTtl a.0)) (λ a keeps c. made FitsKeys (keys.PTtl a.0) c tt), (fixed_fits FitsKeys (Plain ∷ []) (λ a. Ok (keys.ExpireTime a.0)) (λ a keeps c. made FitsKeys (keys.ExpireTime a.0) c tt), (fixed_fits FitsKeys (Plain ∷ []) (λ a. Ok (keys.PExpireTime a.0)) (λ a keeps c. made FitsKeys (keys.PExpireTime a.0) c tt), (fixed_fits FitsKeys (Plain ∷ []) (λ a. Ok (keys.Persist a.0)) (λ a keeps c. made FitsKeys (keys.Persist a.0) c tt), (fixed_fits FitsKeys (Plain ∷ Plain ∷ []) (λ a. Ok (keys.Rename a.0 a.1.0)) (λ a keeps c. made FitsKeys (keys.Rename a.0 a.1.0) c tt), (fixed_fits FitsKeys (Plain ∷ Plain ∷ []) (λ a. Ok (keys.RenameNx a.0 a.1.0)) (λ a keeps c. made FitsKeys (keys.RenameNx a.0 a.1.0) c tt), (chosen_fits FitsKeys (Plain ∷ Plain ∷ []) copy_choices no_copy_options (λ a o. Ok (keys.Copy a.0 a.1.0 o)) (λ o. IsOneOf16 o.db) (copy_choices_keep, tt) (λ a keeps o within c. made FitsKeys (keys.Copy a.0 a.1.0 o) c within), (fixed_fits FitsKeys (Plain ∷ Database ∷ []) (λ a. Ok (keys.MoveKey a.0 a.1.0)) (λ a keeps c. made FitsKeys (keys.MoveKey a.0 a.1.0) c keeps.1.0), (fixed_fits FitsKeys [] (λ a. Ok keys.RandomKey) (λ a keeps c. made FitsKeys keys.RandomKey c tt), (fixed_fits FitsKeys (Plain ∷ Plain ∷ []) (λ a. object_of a.0 a.1.0) (λ a keeps c. if_has FitsKeys (bytes_eq (in_lower_case a.0) (codes "encoding")) (Ok (keys.ObjectEncoding a.1.0)) (Err Syntax) (λ b. made FitsKeys (keys.ObjectEncoding a.1.0) b tt) (never FitsKeys Syntax) c), (fixed_fits FitsKeys (Plain ∷ []) (λ a. Ok (keys.KeysLike a.0)) (λ a keeps c. made FitsKeys (keys.KeysLike a.0) c tt), (chosen_fits FitsKeys (Cursor ∷ []) scan_choices no_scan_options (λ a o. Ok (keys.Scan a.0 o)) (λ o. 0 < o.count) (scan_choices_keep, omega arith) (λ a keeps o above c. made FitsKeys (keys.Scan a.0 o) c (above, keeps.0)), tt))))))))))))))))))))))
 
 connection_rows_fit : AllByRecursion (RowFits FitsConnection) connection_rows
-connection_rows_fit = (ping_fits, (fixed_fits FitsConnection (Plain ∷ []) (λ a. Ok (connection.Echo a.0)) (λ a keeps c. made FitsConnection (connection.Echo a.0) c tt), ((λ words c. made FitsConnection connection.Quit c tt), (fixed_fits FitsConnection (Database ∷ []) (λ a. Ok (connection.Select a.0)) (λ a keeps c. made FitsConnection (connection.Select a.0) c keeps.0), (fixed_fits FitsConnection [] (λ a. Ok connection.DbSize) (λ a keeps c. made FitsConnection connection.DbSize c tt), (chosen_fits FitsConnection [] flush_choices tt (λ a o. Ok connection.FlushDb) (λ o. Unit {0}) (flush_choices_keep, tt) (λ a keeps o long c. made FitsConnection connection.FlushDb c tt), (chosen_fits FitsConnection [] flush_choices tt (λ a o. Ok connection.FlushAll) (λ o. Unit {0}) (flush_choices_keep, tt) (λ a keeps o long c. made FitsConnection connection.FlushAll c tt), tt)))))))
+connection_rows_fit = (ping_fits, (fixed_fits FitsConnection (Plain ∷ []) (λ a. Ok (connection.Echo a.0)) (λ a keeps c. made FitsConnection (connection.Echo a.0) c tt), ((λ words c. made FitsConnection connection.Quit c tt), (fixed_fits FitsConnection (Database ∷ []) (λ a. Ok (connection.Select a.0)) (λ a keeps c. made FitsConnection (connection.Select a.0) c keeps.0), (fixed_fits FitsConnection [] (λ a. Ok connection.DbSize) (λ a keeps c. made FitsConnection connection.DbSize c tt), (chosen_fits FitsConnection [] flush_choices tt (λ a o. Ok connection.FlushDb) (λ o. Unit {0}) (flush_choices_keep, tt) (λ a keeps o long c. made FitsConnection connection.FlushDb c tt), (chosen_fits FitsConnection [] flush_choices tt (λ a o. Ok connection.FlushAll) (λ o. Unit {0}) (flush_choices_keep, tt) (λ a keeps o long c. made FitsConnection connection.FlushAll c tt), (fixed_fits FitsConnection (Plain ∷ Plain ∷ []) (λ a. debug_of a.0 a.1.0) (λ a keeps c. debug_fits a.0 a.1.0 c), tt))))))))
 
 family_fits : {A : Type 0} (family : A → Command) (P : A → Type 0) → ((a : A) → P a → FitsCommand (family a)) → (own : List (Row A)) → AllByRecursion (RowFits P) own → (others : List (Row Command)) → AllByRecursion (RowFits FitsCommand) others → AllByRecursion (RowFits FitsCommand) (map (of_family family) own ++ others)
 family_fits family P fits [] h others k = k

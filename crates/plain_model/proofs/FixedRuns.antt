@@ -7,6 +7,9 @@ use Rattle.plain_world.specs.Worlds.{World, live}
 use Rattle.plain_model.specs.Meant.{meant}
 use Rattle.plain_model.specs.Steps.{may, step}
 use Rattle.plain_model.specs.KeySteps.{may_keys}
+use Rattle.plain_model.specs.ConnectionSteps.{may_connection}
+use Rattle.plain_model.specs.declared.connection.ConnectionCommand.{ConnectionCommand}
+use Rattle.plain_model.specs.declared.connection.ConnectionCommand.TheVariants as connection
 use Rattle.plain_model.specs.declared.keys.KeyCommand.{KeyCommand}
 use Rattle.plain_model.specs.declared.keys.KeyCommand.TheVariants as keys
 use Rattle.plain_model.specs.Runs.{Call, Turn, calls_of, replies_of, run}
@@ -21,15 +24,21 @@ use Rattle.plain_world.proofs.Apart.{spellings_apart}
 
 -- the new world is fixed by the old one, the moment, the command and the reply
 
-keys_fixed : (old : World) (moment : ℕ) (c : KeyCommand) (r : List Part) (new other : World) → may_keys old moment c r new → may_keys old moment c r other → new ≡ other
-keys_fixed old moment keys.RandomKey r new other a b = a.1 ∙ sym b.1
-keys_fixed old moment (keys.ObjectEncoding key) r new other a b = a.1 ∙ sym b.1
-keys_fixed old moment c r new other a b = a.1 ∙ sym b.1
+keys_fixed : (seed : ℕ) (old : World) (moment : ℕ) (c : KeyCommand) (r : List Part) (new other : World) → may_keys seed old moment c r new → may_keys seed old moment c r other → new ≡ other
+keys_fixed seed old moment keys.RandomKey r new other a b = a.1 ∙ sym b.1
+keys_fixed seed old moment (keys.ObjectEncoding key) r new other a b = a.1 ∙ sym b.1
+keys_fixed seed old moment (keys.KeysLike pattern) r new other a b = a.1 ∙ sym b.1
+keys_fixed seed old moment (keys.Scan cursor options) r new other a b = a.1 ∙ sym b.1
+keys_fixed seed old moment c r new other a b = a.1 ∙ sym b.1
+
+connection_fixed : (old : World) (moment : ℕ) (c : ConnectionCommand) (r : List Part) (new other : World) → may_connection old moment c r new → may_connection old moment c r other → new ≡ other
+connection_fixed old moment (connection.DebugRehash n) r new other a b = a.1 ∙ sym b.1
+connection_fixed old moment c r new other a b = a.1 ∙ sym b.1
 
 may_fixed : (seed : ℕ) (old : World) (moment : ℕ) (c : Command) (r : List Part) (new other : World) → may seed old moment c r new → may seed old moment c r other → new ≡ other
 may_fixed seed old moment (Strings c) r new other a b = a.1 ∙ sym b.1
-may_fixed seed old moment (Keys c) r new other a b = keys_fixed old moment c r new other a b
-may_fixed seed old moment (Connection c) r new other a b = a.1 ∙ sym b.1
+may_fixed seed old moment (Keys c) r new other a b = keys_fixed seed old moment c r new other a b
+may_fixed seed old moment (Connection c) r new other a b = connection_fixed old moment c r new other a b
 
 abbrev leads : ℕ → World → ℕ → List Part → World → Result Command Refusal → Type 0
 leads seed old moment reply new m =

@@ -1,2 +1,4 @@
+pub mod Containing
+pub mod Covered
 pub mod FixedRuns
 pub mod Asked

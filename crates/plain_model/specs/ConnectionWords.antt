@@ -1,12 +1,12 @@
 -- What the words of commands on the connection and the server mean (Redis command reference, "Connection management",
 -- "Server management").
-use Rattle.std.specs.Prelude.{List, [], ◌∷◌, None, Some, Result, Ok, Err, codes}
-use Rattle.plain_world.specs.Words.{Words}
-use Rattle.plain_model.specs.Shapes.{Plain, Database, Row, fixed, Choice, with_choices}
+use Rattle.std.specs.Prelude.{List, [], ◌∷◌, None, Some, Result, Ok, Err, codes, ℕ, bytes_eq, if◌then◌else◌}
+use Rattle.plain_world.specs.Words.{Words, in_lower_case}
+use Rattle.plain_model.specs.Shapes.{Plain, Database, Steps, told, and_then, Row, fixed, Choice, with_choices}
 use Rattle.plain_model.specs.declared.connection.ConnectionCommand.{ConnectionCommand}
 use Rattle.plain_model.specs.declared.connection.ConnectionCommand.TheVariants as connection
 use Rattle.plain_world.specs.declared.refusal.Refusal.{Refusal}
-use Rattle.plain_world.specs.declared.refusal.Refusal.TheVariants.{WrongNumberOfArguments}
+use Rattle.plain_world.specs.declared.refusal.Refusal.TheVariants.{WrongNumberOfArguments, Syntax}
 
 abbrev pub Read : Type 0
 Read = Result ConnectionCommand Refusal
@@ -24,6 +24,10 @@ flush_choices = record { name = codes "async"; kinds = []; sets = λ own c. c } 
 abbrev pub flush_words : ConnectionCommand → Words → Read
 flush_words command = with_choices [] flush_choices tt (λ a c. Ok command)
 
+-- the second word of DEBUG is REHASH, and the next one a number of steps
+abbrev pub debug_of : List ℕ → List ℕ → Read
+debug_of second n = if bytes_eq (in_lower_case second) (codes "rehash") then and_then (told Steps n) (λ n. Ok (connection.DebugRehash n)) else Err Syntax
+
 abbrev pub connection_rows : List (Row ConnectionCommand)
 connection_rows =
     record { name = codes "ping"; read = ping_words }
@@ -33,4 +37,5 @@ connection_rows =
     ∷ record { name = codes "dbsize"; read = fixed [] (λ a. Ok connection.DbSize) }
     ∷ record { name = codes "flushdb"; read = flush_words connection.FlushDb }
     ∷ record { name = codes "flushall"; read = flush_words connection.FlushAll }
+    ∷ record { name = codes "debug"; read = fixed (Plain ∷ Plain ∷ []) (λ a. debug_of a.0 a.1.0) }
     ∷ []

@@ -4,6 +4,8 @@ use Rattle.std.specs.List.{count_by, Contains}
 use Rattle.plain_world.specs.Worlds.{World, Value, Str, ListOf, SetOf, HashOf, SortedOf, Entry, look, put, remove, deadline_of, look_in, put_in}
 use Rattle.plain_model.specs.Outcomes.{Outcome, tells, refused, leaves, IsOutcome}
 use Rattle.plain_model.specs.Deadlines.{with_due, expire, persist}
+pub use Rattle.plain_model.specs.Types.{type_name, type_at}
+use Rattle.plain_model.specs.Scans.{KeysOf, Passes, Lists, Page, keys_sought, listed, paged}
 use Rattle.plain_model.specs.declared.times.Time.{Time}
 use Rattle.plain_model.specs.declared.times.TimeUnit.TheVariants.{Seconds, Milliseconds}
 use Rattle.plain_model.specs.declared.times.TimeOrigin.TheVariants.{Now, Epoch}
@@ -11,6 +13,7 @@ use Rattle.plain_model.specs.declared.keys.KeyCommand.{KeyCommand}
 use Rattle.plain_model.specs.declared.keys.KeyCommand.TheVariants as keys
 use Rattle.plain_model.specs.declared.keys.ExpireOptions.{ExpireOptions}
 use Rattle.plain_model.specs.declared.keys.CopyOptions.{CopyOptions}
+use Rattle.plain_model.specs.declared.keys.ScanOptions.{ScanOptions}
 use Rattle.plain_world.specs.declared.refusal.Refusal.TheVariants.{NoSuchKey, SameSourceAndDestination}
 use Rattle.plain_world.specs.declared.reply.Part.{Part}
 use Rattle.plain_world.specs.declared.reply.Part.TheVariants.{Simple, Number, Bulk, Null}
@@ -28,18 +31,6 @@ removed old (key ∷ keys) = (if is_some (look old key) then 1 else 0) + removed
 abbrev pub remove_all : World → List (List ℕ) → World
 remove_all old [] = old
 remove_all old (key ∷ keys) = remove_all (remove old key) keys
-
--- the name of a value's type
-abbrev pub type_name : Value → List ℕ
-type_name (Str bytes) = codes "string"
-type_name (ListOf elements) = codes "list"
-type_name (SetOf members) = codes "set"
-type_name (HashOf fields) = codes "hash"
-type_name (SortedOf scores) = codes "zset"
-
-abbrev pub type_at : Option Entry → List ℕ
-type_at None = codes "none"
-type_at (Some entry) = type_name entry.value
 
 -- The options permit a new deadline: NX only where there is none, XX only where there is one, GT only where the new one is
 -- later, LT only where it is earlier. No deadline is the latest of all.
@@ -106,8 +97,8 @@ move old key number (Some entry) = if is_some (look_in old number key) then coun
 abbrev pub move_outcome : World → List ℕ → ℕ → Outcome
 move_outcome old key number = if number == old.selected then refused SameSourceAndDestination old else move old key number (look old key)
 
--- What a command answers and leaves, in the world that is live at the moment. Of RANDOMKEY and OBJECT ENCODING only the world
--- is fixed: `may_keys` says what they may answer.
+-- What a command answers and leaves, in the world that is live at the moment. Of RANDOMKEY, OBJECT ENCODING, KEYS and SCAN only
+-- the world is fixed: `may_keys` says what they may answer.
 abbrev pub key_outcome : ℕ → World → KeyCommand → Outcome
 key_outcome moment old (keys.Del words) = counts (removed old words) (remove_all old words)
 key_outcome moment old (keys.Unlink words) = counts (removed old words) (remove_all old words)
@@ -129,6 +120,8 @@ key_outcome moment old (keys.Copy from to options) = copy_outcome old from to op
 key_outcome moment old (keys.MoveKey key number) = move_outcome old key number
 key_outcome moment old keys.RandomKey = tells [] old
 key_outcome moment old (keys.ObjectEncoding key) = tells [] old
+key_outcome moment old (keys.KeysLike pattern) = tells [] old
+key_outcome moment old (keys.Scan cursor options) = tells [] old
 
 -- null where there is no key, or else a key that is there
 abbrev pub IsSomeKey : World → List Part → Type 0
@@ -148,8 +141,22 @@ abbrev pub IsEncoding : Option Entry → List Part → Type 0
 IsEncoding None reply = reply ≡ Null ∷ []
 IsEncoding (Some entry) reply = (name : List ℕ) × (reply ≡ Bulk name ∷ []) × Contains (encodings entry.value) name
 
--- from the world that is live at the moment the command may be answered by this reply, and leave the new world
-abbrev pub may_keys : World → ℕ → KeyCommand → List Part → World → Type 0
-may_keys old moment keys.RandomKey reply new = IsSomeKey old reply × (new ≡ old)
-may_keys old moment (keys.ObjectEncoding key) reply new = IsEncoding (look old key) reply × (new ≡ old)
-may_keys old moment command reply new = IsOutcome (key_outcome moment old command) reply new
+-- all keys that the pattern matches, each once, in any order
+abbrev pub AreKeysLike : World → List ℕ → List Part → Type 0
+AreKeysLike old pattern reply =
+    let matching = Passes old (record { target = KeysOf old.selected; pattern = Some pattern; type_name = None }) in
+    (names : List (List ℕ)) × Lists matching matching names × (reply ≡ listed names)
+
+-- a page of the selected database's keys
+abbrev pub IsScanned : ℕ → World → ℕ → ScanOptions → List Part → Type 0
+IsScanned seed old cursor options reply =
+    (next : ℕ) × (names : List (List ℕ)) × Page seed old (keys_sought old.selected options) cursor next names × (reply ≡ paged next names)
+
+-- under this seed of the hash, and from the world that is live at the moment, the command may be answered by this reply, and
+-- leave the new world
+abbrev pub may_keys : ℕ → World → ℕ → KeyCommand → List Part → World → Type 0
+may_keys seed old moment keys.RandomKey reply new = IsSomeKey old reply × (new ≡ old)
+may_keys seed old moment (keys.ObjectEncoding key) reply new = IsEncoding (look old key) reply × (new ≡ old)
+may_keys seed old moment (keys.KeysLike pattern) reply new = AreKeysLike old pattern reply × (new ≡ old)
+may_keys seed old moment (keys.Scan cursor options) reply new = IsScanned seed old cursor options reply × (new ≡ old)
+may_keys seed old moment command reply new = IsOutcome (key_outcome moment old command) reply new

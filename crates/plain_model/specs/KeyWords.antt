@@ -1,11 +1,12 @@
 -- What the words of commands on keys mean (Redis command reference, "Generic").
 use Rattle.std.specs.Prelude.{ℕ, List, [], ◌∷◌, ℤ, None, Some, Bool, true, false, ◌&&◌, ◌||◌, Result, Ok, Err, codes, bytes_eq, if◌then◌else◌}
 use Rattle.plain_world.specs.Words.{Words, in_lower_case}
-use Rattle.plain_model.specs.Shapes.{Plain, Whole, Database, Row, fixed, repeated, Choice, with_choices}
+use Rattle.plain_model.specs.Shapes.{Plain, Whole, Database, Count, Cursor, Row, fixed, repeated, Choice, with_choices}
 use Rattle.plain_model.specs.declared.keys.KeyCommand.{KeyCommand}
 use Rattle.plain_model.specs.declared.keys.KeyCommand.TheVariants as keys
 use Rattle.plain_model.specs.declared.keys.ExpireOptions.{ExpireOptions}
 use Rattle.plain_model.specs.declared.keys.CopyOptions.{CopyOptions}
+use Rattle.plain_model.specs.declared.keys.ScanOptions.{ScanOptions}
 use Rattle.plain_world.specs.declared.refusal.Refusal.{Refusal}
 use Rattle.plain_world.specs.declared.refusal.Refusal.TheVariants.{Syntax}
 
@@ -45,6 +46,17 @@ copy_choices =
 abbrev pub no_copy_options : CopyOptions
 no_copy_options = record { db = None; replace = false }
 
+abbrev pub scan_choices : List (Choice ScanOptions)
+scan_choices =
+    record { name = codes "match"; kinds = Plain ∷ []; sets = λ own o. record { pattern = Some own.0; count = o.count; type_name = o.type_name } }
+    ∷ record { name = codes "count"; kinds = Count ∷ []; sets = λ own o. record { pattern = o.pattern; count = own.0; type_name = o.type_name } }
+    ∷ record { name = codes "type"; kinds = Plain ∷ []; sets = λ own o. record { pattern = o.pattern; count = o.count; type_name = Some own.0 } }
+    ∷ []
+
+-- none of the options of SCAN: ten keys are to be met
+abbrev pub no_scan_options : ScanOptions
+no_scan_options = record { pattern = None; count = 10; type_name = None }
+
 -- the second word of OBJECT is ENCODING
 abbrev pub object_of : List ℕ → List ℕ → Read
 object_of second key = if bytes_eq (in_lower_case second) (codes "encoding") then Ok (keys.ObjectEncoding key) else Err Syntax
@@ -71,4 +83,6 @@ key_rows =
     ∷ record { name = codes "move"; read = fixed (Plain ∷ Database ∷ []) (λ a. Ok (keys.MoveKey a.0 a.1.0)) }
     ∷ record { name = codes "randomkey"; read = fixed [] (λ a. Ok keys.RandomKey) }
     ∷ record { name = codes "object"; read = fixed (Plain ∷ Plain ∷ []) (λ a. object_of a.0 a.1.0) }
+    ∷ record { name = codes "keys"; read = fixed (Plain ∷ []) (λ a. Ok (keys.KeysLike a.0)) }
+    ∷ record { name = codes "scan"; read = with_choices (Cursor ∷ []) scan_choices no_scan_options (λ a options. Ok (keys.Scan a.0 options)) }
     ∷ []

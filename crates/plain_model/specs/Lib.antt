@@ -5,9 +5,12 @@ pub mod ConnectionWords
 pub mod Outcomes
 pub mod Deadlines
 pub mod StringSteps
+pub mod Types
+pub mod Scans
 pub mod KeySteps
 pub mod ConnectionSteps
 pub mod Meant
 pub mod Steps
 pub mod Runs
+pub mod Coverage
 pub mod Laws

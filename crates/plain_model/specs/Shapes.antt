@@ -2,11 +2,13 @@
 --
 -- First their number is looked at, then they are read from left to right, and each is refused where it stands. What words
 -- break together comes last. A command is a row: the kinds of its first words, and what may follow them.
-use Rattle.std.specs.Prelude.{ℕ, zero, suc, ◌-◌, ◌%◌, ◌==◌, List, [], ◌∷◌, length, drop, ℤ, pos, negsuc, Option, Some, None, ◌&&◌, nat_le, nat_lt, int_lt, bytes_eq, Result, Ok, Err, if◌then◌else◌}
+use Rattle.std.specs.Prelude.{ℕ, zero, suc, ◌-◌, ◌%◌, ◌==◌, List, [], ◌∷◌, length, drop, ℤ, pos, negsuc, Option, Some, None, Bool, ◌&&◌, ◌^◌, nat_le, nat_lt, int_lt, bytes_eq, Result, Ok, Err, if◌then◌else◌}
+use Rattle.std.specs.Str.{all_ascii_digits}
+use Rattle.std.specs.Str.Parse.{digits_value}
 use Rattle.plain_world.specs.Words.{Words, in_lower_case}
 use Rattle.int_text.specs.Decimal.{number_of}
 use Rattle.plain_world.specs.declared.refusal.Refusal.{Refusal}
-use Rattle.plain_world.specs.declared.refusal.Refusal.TheVariants.{WrongNumberOfArguments, Syntax, NotAnInteger, IndexOutOfRange, InvalidExpireTime, DatabaseOutOfRange}
+use Rattle.plain_world.specs.declared.refusal.Refusal.TheVariants.{WrongNumberOfArguments, Syntax, NotAnInteger, IndexOutOfRange, InvalidExpireTime, InvalidCursor, DatabaseOutOfRange, ValueOutOfRange}
 
 -- the first one's refusal, or what the rest makes of what it told
 abbrev pub and_then : {A B : Type 0} → Result A Refusal → (A → Result B Refusal) → Result B Refusal
@@ -25,6 +27,12 @@ pub data Kind : Type 0 where
   Span : Kind
   -- such a number from 0 to 15, as a database
   Database : Kind
+  -- such a number from 1 on, as how many are to be met
+  Count : Kind
+  -- such a number from 0 to 1,000,000, as how many steps are to be made
+  Steps : Kind
+  -- decimal digits of a number of 64 bits, as a cursor
+  Cursor : Kind
 
 -- what a word of this kind tells
 abbrev pub Told : Kind → Type 0
@@ -33,6 +41,9 @@ Told Whole = ℤ
 Told Offset = ℕ
 Told Span = ℤ
 Told Database = ℕ
+Told Count = ℕ
+Told Steps = ℕ
+Told Cursor = ℕ
 
 abbrev pub whole : Option ℤ → Result ℤ Refusal
 whole None = Err NotAnInteger
@@ -49,6 +60,21 @@ abbrev pub database : ℤ → Result ℕ Refusal
 database (pos n) = if nat_lt n 16 then Ok n else Err DatabaseOutOfRange
 database (negsuc n) = Err DatabaseOutOfRange
 
+abbrev pub count : ℤ → Result ℕ Refusal
+count (pos n) = if nat_lt 0 n then Ok n else Err Syntax
+count (negsuc n) = Err Syntax
+
+abbrev pub steps : ℤ → Result ℕ Refusal
+steps (pos n) = if nat_le n 1000000 then Ok n else Err ValueOutOfRange
+steps (negsuc n) = Err ValueOutOfRange
+
+-- one digit or more, and nothing else
+abbrev pub are_digits : List ℕ → Bool
+are_digits word = nat_lt 0 (length word) && all_ascii_digits word
+
+abbrev pub cursor : List ℕ → Result ℕ Refusal
+cursor word = if are_digits word && nat_lt (digits_value 10 word) (2 ^ 64) then Ok (digits_value 10 word) else Err InvalidCursor
+
 -- a word of this kind
 abbrev pub told : (kind : Kind) → List ℕ → Result (Told kind) Refusal
 told Plain word = Ok word
@@ -56,6 +82,9 @@ told Whole word = whole (number_of word)
 told Offset word = and_then (whole (number_of word)) offset
 told Span word = and_then (whole (number_of word)) span
 told Database word = and_then (whole (number_of word)) database
+told Count word = and_then (whole (number_of word)) count
+told Steps word = and_then (whole (number_of word)) steps
+told Cursor word = cursor word
 
 -- what words of these kinds tell
 abbrev pub AllTold : List Kind → Type 0

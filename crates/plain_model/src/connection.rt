@@ -19,4 +19,6 @@ pub enum ConnectionCommand {
     FlushDb,
     /// `FLUSHALL [ASYNC or SYNC]`
     FlushAll,
+    /// `DEBUG REHASH n`, with a number of steps of at most 1,000,000.
+    DebugRehash(u32),
 }

@@ -24,6 +24,17 @@ pub struct CopyOptions {
     pub replace: bool,
 }
 
+/// The options of SCAN.
+#[derive(Drop)]
+pub struct ScanOptions {
+    /// `MATCH pattern`: only keys that it matches.
+    pub pattern: Option<Bytes>,
+    /// `COUNT n`: how many keys are to be met at least, above 0.
+    pub count: u64,
+    /// `TYPE name`: only keys with a value of this type, whatever the case of its name.
+    pub type_name: Option<Bytes>,
+}
+
 /// A command on keys.
 #[derive(Drop)]
 pub enum KeyCommand {
@@ -67,4 +78,8 @@ pub enum KeyCommand {
     RandomKey,
     /// `OBJECT ENCODING key`
     ObjectEncoding(Bytes),
+    /// `KEYS pattern`
+    KeysLike(Bytes),
+    /// `SCAN cursor [MATCH pattern] [COUNT n] [TYPE name]`
+    Scan(u64, ScanOptions),
 }
