@@ -25,7 +25,7 @@ unknown : (rows : List (Definition Command)) (lower : List ℕ) (words : Words) 
 unknown [] lower words h = refl
 unknown (row ∷ rows) lower words h = ap (λ b. if b then row.read words else read_by rows lower words) h.0 ∙ unknown rows lower words h.1
 
-both : (a b : Bool) → (a && b) ≡ true → (a ≡ true) × (b ≡ true)
+pub both : (a b : Bool) → (a && b) ≡ true → (a ≡ true) × (b ≡ true)
 both true b e = (refl, e)
 both false b e = cc
 

@@ -1,18 +1,48 @@
 -- What words tell, from what reading them answers.
-use Rattle.std.proofs.Common.{◌≡◌, ℕ, ◌<◌, List, [], ◌∷◌, length, Some, None, Ok, Err, ap, w64, refl, arith}
-use Rattle.std.specs.Prelude.{ℤ, FitsSigned}
-use Rattle.int_text.specs.Decimal.{canonical, IsI64Text}
+use Rattle.std.proofs.Common.{◌≡◌, ℕ, ◌<◌, List, [], ◌∷◌, length, Bool, true, false, Some, None, Ok, Err, ap, sym, ◌∙◌, w64, refl, arith}
+use Rattle.std.specs.Prelude.{ℤ, FitsSigned, ◌&&◌, ◌^◌, nat_lt, if◌then◌else◌}
+use Rattle.std.specs.Str.{all_ascii_digits}
+use Rattle.std.specs.Str.Parse.{digits_value}
+use Rattle.std.proofs.lemmas.Bool.{lt-ltb, ltb-true}
+use Rattle.std.proofs.lemmas.Str.Parse.{IsNumeralModel, numerals_by_value, tells_all_ascii_digits}
+use Rattle.int_text.specs.Decimal.{canonical, IsI64Text, IsU64Text}
 use Rattle.plain_world.specs.Words.{Words}
 use Rattle.plain_model.specs.StringWords.{pairs_of}
-use Rattle.plain_model.specs.Shapes.{Whole, told, whole}
-use Rattle.plain_world.specs.declared.refusal.Refusal.TheVariants.{NotAnInteger}
+use Rattle.plain_model.specs.Shapes.{Whole, Cursor, told, whole, are_digits}
+use Rattle.plain_world.specs.declared.refusal.Refusal.TheVariants.{NotAnInteger, InvalidCursor}
 use Rattle.int_text.proofs.NumberOf.{reads_number_of}
+use Rattle.command_table.proofs.Tables.{both}
 
 pub number_told : (word : List ℕ) (n : ℤ) → FitsSigned w64 n → word ≡ canonical n → told Whole word ≡ Ok n
 number_told word n fits e = ap whole (reads_number_of word (Some n) ((fits, e), tt))
 
 pub no_number_told : (word : List ℕ) → ¬ (IsI64Text word) → told Whole word ≡ Err NotAnInteger
 no_number_told word none = ap whole (reads_number_of word None (tt, none))
+
+-- what the definition's test of digits tells
+abbrev digits : IsNumeralModel (λ ds. all_ascii_digits ds ≡ true) (digits_value 10)
+digits = numerals_by_value (λ ds. all_ascii_digits ds ≡ true) tells_all_ascii_digits
+
+-- the definition's test of a cursor is true of just the digits of a number of 64 bits
+passes : (word : List ℕ) → IsU64Text word → (are_digits word && nat_lt (digits_value 10 word) (2 ^ 64)) ≡ true
+passes word is = rw (lt-ltb 0 (length word) is.0.0, digits.from word is.0.1, lt-ltb (digits_value 10 word) (2 ^ 64) is.1) refl
+
+passing : (word : List ℕ) → (are_digits word && nat_lt (digits_value 10 word) (2 ^ 64)) ≡ true → IsU64Text word
+passing word e =
+    let parts = both (are_digits word) (nat_lt (digits_value 10 word) (2 ^ 64)) e in
+    let own = both (nat_lt 0 (length word)) (all_ascii_digits word) parts.0 in
+    ((ltb-true 0 (length word) own.0, digits.to word own.1), ltb-true (digits_value 10 word) (2 ^ 64) parts.1)
+
+pub cursor_told : (word : List ℕ) (n : ℕ) → IsU64Text word → n ≡ digits_value 10 word → told Cursor word ≡ Ok n
+cursor_told word n is value = ap (λ b. if b then Ok (digits_value 10 word) else Err InvalidCursor) (passes word is) ∙ ap Ok (sym value)
+
+pub no_cursor_told : (word : List ℕ) → ¬ (IsU64Text word) → told Cursor word ≡ Err InvalidCursor
+no_cursor_told word none =
+    let test : Bool = are_digits word && nat_lt (digits_value 10 word) (2 ^ 64) in
+    elim test as (λ b. test ≡ b → (if b then Ok (digits_value 10 word) else Err InvalidCursor) ≡ Err InvalidCursor) [
+      | true ↦ λ e. absurd (none (passing word e))
+      | false ↦ λ e. refl
+    ] refl
 
 -- fewer than two words make no pair
 pub no_pairs : (words : Words) → length words < 2 → pairs_of words ≡ []

@@ -67,6 +67,8 @@ key_row key.CopyKey = (codes "copy", shape.Choices 2)
 key_row key.MoveKey = (codes "move", shape.Fixed 2)
 key_row key.RandomKey = (codes "randomkey", shape.Fixed 0)
 key_row key.Object = (codes "object", shape.Fixed 2)
+key_row key.KeysLike = (codes "keys", shape.Fixed 1)
+key_row key.Scan = (codes "scan", shape.Choices 1)
 
 abbrev pub connection_row : ConnectionName → List ℕ × Shape
 connection_row connection.Ping = (codes "ping", shape.Between 0 1)
@@ -76,6 +78,7 @@ connection_row connection.Select = (codes "select", shape.Fixed 1)
 connection_row connection.DbSize = (codes "dbsize", shape.Fixed 0)
 connection_row connection.FlushDb = (codes "flushdb", shape.Choices 0)
 connection_row connection.FlushAll = (codes "flushall", shape.Choices 0)
+connection_row connection.Debug = (codes "debug", shape.Fixed 2)
 
 abbrev pub row_of : Name → List ℕ × Shape
 row_of (Strings name) = string_row name

@@ -3,16 +3,16 @@
 ghost use Rattle.std.specs.Prelude.{◌≡◌, ◌<◌, ◌∷◌, [], length, drop, true, Ok};
 ghost use Rattle.plain_model.specs.Meant.{meant};
 ghost use Rattle.plain_model.specs.Shapes.{and_then, chosen};
-ghost use Rattle.plain_model.specs.ConnectionWords.{ping_words, flush_words};
+ghost use Rattle.plain_model.specs.ConnectionWords.{ping_words, flush_words, debug_of};
 ghost use Rattle.plain_model.specs.declared.command.Command.TheVariants as commands;
-ghost use Rattle.command_table.specs.Readings.{Tells, TellsAs};
+ghost use Rattle.command_table.specs.Readings.{Tells, TellsAs, at};
 ghost use Rattle.command_table.specs.Rows.{fits, connection_row};
 
 use crate::ReadingFault;
 use crate::options::read_options;
 use crate::table::ConnectionName;
-use crate::words::{copied, database};
-use plain_model::ConnectionCommand;
+use crate::words::{copied, database, is_word, steps};
+use plain_model::{ConnectionCommand, Refusal};
 use resp_frames::Request;
 use std::alloc::Global;
 
@@ -31,14 +31,27 @@ fn ping(alloc: Global, request: &Request<'_>) -> Result<ConnectionCommand, Readi
 
 // FLUSHDB and FLUSHALL: options that say nothing.
 fn flush(
+    alloc: Global,
     request: &Request<'_>,
     command: ConnectionCommand,
 ) -> Result<ConnectionCommand, ReadingFault>
     requires { 0 < length request.now }
     ensures { Tells (flush_words command (drop 1 request.now)) result }
 {
-    read_options((), request, 1)?;
+    read_options(alloc, (), request, 1)?;
     Ok(command)
+}
+
+// DEBUG: its second word, and a number of steps.
+fn debug(request: &Request<'_>) -> Result<ConnectionCommand, ReadingFault>
+    requires { 2 < length request.now }
+    ensures { Tells (debug_of (at request.now 1) (at request.now 2)) result }
+{
+    if !is_word(request.word(1), b"rehash") {
+        return Err(ReadingFault::Refused(Refusal::Syntax));
+    }
+    let n = steps(request, 2)?;
+    Ok(ConnectionCommand::DebugRehash(n))
 }
 
 /// Turns the words of a command on the connection or the server into it. They are as many as its row takes.
@@ -57,7 +70,8 @@ pub fn read_connection(
         ConnectionName::Quit => Ok(ConnectionCommand::Quit),
         ConnectionName::Select => database(request, 1).map(ConnectionCommand::Select),
         ConnectionName::DbSize => Ok(ConnectionCommand::DbSize),
-        ConnectionName::FlushDb => flush(request, ConnectionCommand::FlushDb),
-        ConnectionName::FlushAll => flush(request, ConnectionCommand::FlushAll),
+        ConnectionName::FlushDb => flush(alloc, request, ConnectionCommand::FlushDb),
+        ConnectionName::FlushAll => flush(alloc, request, ConnectionCommand::FlushAll),
+        ConnectionName::Debug => debug(request),
     }
 }

@@ -1,20 +1,22 @@
-//! The options of EXPIRE and its like, of COPY, and of FLUSHDB and FLUSHALL.
+//! The options of EXPIRE and its like, of COPY, of SCAN, and of FLUSHDB and FLUSHALL.
 
 ghost use Rattle.std.specs.Prelude.{◌≡◌};
-ghost use Rattle.plain_model.specs.KeyWords.{expire_choices, copy_choices, no_expire_options, no_copy_options, clash};
+ghost use Rattle.plain_model.specs.KeyWords.{expire_choices, copy_choices, scan_choices, no_expire_options, no_copy_options, no_scan_options, clash};
 ghost use Rattle.plain_model.specs.ConnectionWords.{flush_choices};
 
 use crate::ReadingFault;
-use crate::options::{Options, own_database};
+use crate::options::{Options, own_copy, own_count, own_database};
 use crate::words::is_word;
-use plain_model::{CopyOptions, ExpireOptions, Refusal};
+use plain_model::{CopyOptions, ExpireOptions, Refusal, ScanOptions};
 use resp_frames::Request;
+use std::alloc::Global;
 
 impl Options for ExpireOptions {
     ghost choices = { expire_choices };
 
     fn with_option(
         self,
+        _alloc: Global,
         request: &Request<'_>,
         index: usize,
     ) -> Result<(ExpireOptions, usize), ReadingFault> {
@@ -40,6 +42,7 @@ impl Options for CopyOptions {
 
     fn with_option(
         self,
+        _alloc: Global,
         request: &Request<'_>,
         index: usize,
     ) -> Result<(CopyOptions, usize), ReadingFault> {
@@ -67,10 +70,41 @@ impl Options for CopyOptions {
     }
 }
 
+impl Options for ScanOptions {
+    ghost choices = { scan_choices };
+
+    fn with_option(
+        self,
+        alloc: Global,
+        request: &Request<'_>,
+        index: usize,
+    ) -> Result<(ScanOptions, usize), ReadingFault> {
+        let word = request.word(index);
+        if is_word(word, b"match") {
+            let pattern = Some(own_copy(alloc, request, index)?);
+            return Ok((ScanOptions { pattern, ..self }, 1));
+        }
+        if is_word(word, b"count") {
+            let count = own_count(request, index)?;
+            return Ok((ScanOptions { count, ..self }, 1));
+        }
+        if is_word(word, b"type") {
+            let type_name = Some(own_copy(alloc, request, index)?);
+            return Ok((ScanOptions { type_name, ..self }, 1));
+        }
+        Err(ReadingFault::Refused(Refusal::Syntax))
+    }
+}
+
 impl Options for () {
     ghost choices = { flush_choices };
 
-    fn with_option(self, request: &Request<'_>, index: usize) -> Result<((), usize), ReadingFault> {
+    fn with_option(
+        self,
+        _alloc: Global,
+        request: &Request<'_>,
+        index: usize,
+    ) -> Result<((), usize), ReadingFault> {
         let word = request.word(index);
         if is_word(word, b"async") || is_word(word, b"sync") {
             return Ok(((), 0));
@@ -98,6 +132,17 @@ pub fn no_copy_options() -> CopyOptions
     CopyOptions {
         db: None,
         replace: false,
+    }
+}
+
+/// None of the options of SCAN: ten keys are to be met.
+pub fn no_scan_options() -> ScanOptions
+    ensures { result ≡ no_scan_options }
+{
+    ScanOptions {
+        pattern: None,
+        count: 10,
+        type_name: None,
     }
 }
 

@@ -2,18 +2,18 @@
 
 ghost use Rattle.std.specs.Prelude.{◌≡◌, ◌<◌, [], ◌∷◌, length, drop, true, Ok};
 ghost use Rattle.plain_model.specs.Meant.{meant};
-ghost use Rattle.plain_model.specs.Shapes.{and_then, chosen};
-ghost use Rattle.plain_model.specs.KeyWords.{copy_choices, no_copy_options, object_of};
+ghost use Rattle.plain_model.specs.Shapes.{Cursor, and_then, chosen};
+ghost use Rattle.plain_model.specs.KeyWords.{copy_choices, no_copy_options, scan_choices, no_scan_options, object_of};
 ghost use Rattle.plain_model.specs.declared.command.Command.TheVariants as commands;
 ghost use Rattle.plain_model.specs.declared.keys.KeyCommand.{KeyCommand};
-ghost use Rattle.command_table.specs.Readings.{Tells, TellsAs, at, expire_parts};
+ghost use Rattle.command_table.specs.Readings.{Tells, TellsAs, at, told_at, expire_parts};
 ghost use Rattle.command_table.specs.Rows.{fits, key_row};
 
 use crate::ReadingFault;
-use crate::key_options::{clash, no_copy_options, no_expire_options};
+use crate::key_options::{clash, no_copy_options, no_expire_options, no_scan_options};
 use crate::options::read_options;
 use crate::table::KeyName;
-use crate::words::{copied, is_word, key_and_database, key_and_value, number, words};
+use crate::words::{copied, cursor, is_word, key_and_database, key_and_value, number, words};
 use plain_model::{Bytes, CopyOptions, ExpireOptions, KeyCommand, Refusal};
 use resp_frames::Request;
 use std::alloc::Global;
@@ -24,7 +24,7 @@ fn expire(alloc: Global, request: &Request<'_>) -> Result<(Bytes, i64, ExpireOpt
     ensures { Tells (expire_parts request.now) result }
 {
     let n = number(request, 2)?;
-    let options = read_options(no_expire_options(), request, 3)?;
+    let options = read_options(alloc, no_expire_options(), request, 3)?;
     if clash(options) {
         return Err(ReadingFault::Refused(Refusal::Syntax));
     }
@@ -37,7 +37,7 @@ fn copy(alloc: Global, request: &Request<'_>) -> Result<KeyCommand, ReadingFault
     requires { 2 < length request.now }
     ensures { Tells (and_then (chosen copy_choices no_copy_options 0 (drop 3 request.now)) (λ options. Ok (KeyCommand.Copy (at request.now 1) (at request.now 2) options))) result }
 {
-    let options = read_options(no_copy_options(), request, 3)?;
+    let options = read_options(alloc, no_copy_options(), request, 3)?;
     let (from, to) = key_and_value(alloc, request)?;
     Ok(KeyCommand::Copy(from, to, options))
 }
@@ -52,6 +52,16 @@ fn object(alloc: Global, request: &Request<'_>) -> Result<KeyCommand, ReadingFau
     }
     let key = copied(alloc, request, 2)?;
     Ok(KeyCommand::ObjectEncoding(key))
+}
+
+// SCAN: a cursor and options.
+fn scan(alloc: Global, request: &Request<'_>) -> Result<KeyCommand, ReadingFault>
+    requires { 1 < length request.now }
+    ensures { Tells (and_then (told_at (Cursor ∷ []) request.now 1) (λ a. and_then (chosen scan_choices no_scan_options 0 (drop 2 request.now)) (λ options. Ok (KeyCommand.Scan a.0 options)))) result }
+{
+    let from = cursor(request, 1)?;
+    let options = read_options(alloc, no_scan_options(), request, 2)?;
+    Ok(KeyCommand::Scan(from, options))
 }
 
 /// Turns the words of a command on keys into it. They are as many as its row takes.
@@ -98,5 +108,7 @@ pub fn read_key(
         }
         KeyName::RandomKey => Ok(KeyCommand::RandomKey),
         KeyName::Object => object(alloc, request),
+        KeyName::KeysLike => copied(alloc, request, 1).map(KeyCommand::KeysLike),
+        KeyName::Scan => scan(alloc, request),
     }
 }

@@ -2,27 +2,34 @@
 
 ghost use Rattle.std.specs.Prelude.{◌≡◌, ◌<◌, ◌≤◌, ◌+◌, List, length, drop};
 ghost use Rattle.plain_world.specs.Words.{in_lower_case};
-ghost use Rattle.plain_model.specs.Shapes.{Span, Database, Choice, choice_of, choose, chosen};
+ghost use Rattle.plain_model.specs.Shapes.{Plain, Span, Database, Count, Choice, choice_of, choose, chosen};
 ghost use Rattle.command_table.specs.Readings.{Tells, at, own_word};
 
 use crate::ReadingFault;
-use crate::words::{database, span};
-use plain_model::Refusal;
+use crate::words::{copied, count, database, span};
+use plain_model::{Bytes, Refusal};
 use resp_frames::Request;
+use std::alloc::Global;
 
 /// What the options of a command say, so far as they are read.
-pub trait Options: Copy {
+pub trait Options: Drop {
     /// The options.
     ghost choices: { List (Choice Self) };
 
     /// Reads the option at a place: what they say with it, and how many words behind it are its own.
-    fn with_option(self, request: &Request<'_>, index: usize) -> Result<(Self, usize), ReadingFault>
+    fn with_option(
+        self,
+        alloc: Global,
+        request: &Request<'_>,
+        index: usize,
+    ) -> Result<(Self, usize), ReadingFault>
         requires { index < length request.now }
         ensures { Tells (choose self (choice_of choices (in_lower_case (at request.now index))) (drop (index + 1) request.now)) result };
 }
 
 /// Reads the options from a place on.
 pub fn read_options<O: Options>(
+    alloc: Global,
     none: O,
     request: &Request<'_>,
     from: usize,
@@ -33,7 +40,7 @@ pub fn read_options<O: Options>(
     let mut options = none;
     let mut index = from;
     while index < request.len() {
-        let (next, own) = options.with_option(request, index)?;
+        let (next, own) = options.with_option(alloc, request, index)?;
         options = next;
         index = index + 1 + own;
     }
@@ -60,4 +67,26 @@ pub fn own_database(request: &Request<'_>, index: usize) -> Result<usize, Readin
         return Err(ReadingFault::Refused(Refusal::Syntax));
     }
     database(request, index + 1)
+}
+
+/// The one word of the option at a place, which is how many are to be met.
+pub fn own_count(request: &Request<'_>, index: usize) -> Result<u64, ReadingFault>
+    requires { index < length request.now }
+    ensures { Tells (own_word Count (drop (index + 1) request.now)) result }
+{
+    if request.len() - index < 2 {
+        return Err(ReadingFault::Refused(Refusal::Syntax));
+    }
+    count(request, index + 1)
+}
+
+/// A copy of the one word of the option at a place.
+pub fn own_copy(alloc: Global, request: &Request<'_>, index: usize) -> Result<Bytes, ReadingFault>
+    requires { index < length request.now }
+    ensures { Tells (own_word Plain (drop (index + 1) request.now)) result }
+{
+    if request.len() - index < 2 {
+        return Err(ReadingFault::Refused(Refusal::Syntax));
+    }
+    copied(alloc, request, index + 1)
 }

@@ -26,7 +26,7 @@ fn set(alloc: Global, request: &Request<'_>) -> Result<StringCommand, ReadingFau
     requires { 2 < length request.now }
     ensures { Tells (and_then (chosen set_choices no_set_choices 0 (drop 3 request.now)) (set_of (at request.now 1) (at request.now 2))) result }
 {
-    let options = read_options(no_set_options(), request, 3)?;
+    let options = read_options(alloc, no_set_options(), request, 3)?;
     if options.nx && options.xx || options.twice {
         return Err(ReadingFault::Refused(Refusal::Syntax));
     }
@@ -47,7 +47,7 @@ fn get_ex(alloc: Global, request: &Request<'_>) -> Result<StringCommand, Reading
     requires { 1 < length request.now }
     ensures { Tells (and_then (chosen getex_choices no_getex_choices 0 (drop 2 request.now)) (getex_of (at request.now 1))) result }
 {
-    let options = read_options(no_getex_options(), request, 2)?;
+    let options = read_options(alloc, no_getex_options(), request, 2)?;
     if options.twice {
         return Err(ReadingFault::Refused(Refusal::Syntax));
     }

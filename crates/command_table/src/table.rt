@@ -76,6 +76,8 @@ pub enum KeyName {
     MoveKey,
     RandomKey,
     Object,
+    KeysLike,
+    Scan,
 }
 
 /// Which command on the connection or the server.
@@ -88,6 +90,7 @@ pub enum ConnectionName {
     DbSize,
     FlushDb,
     FlushAll,
+    Debug,
 }
 
 /// Which command, by its family.
@@ -108,7 +111,7 @@ const OF_3: [Row; 4] = [
     Row(b"ttl", Keys(KeyName::Ttl), Fixed(1)),
 ];
 
-const OF_4: [Row; 11] = [
+const OF_4: [Row; 13] = [
     Row(b"mget", Strings(MGet), Words(0)),
     Row(b"mset", Strings(MSet), Pairs(0)),
     Row(b"incr", Strings(Incr), Fixed(1)),
@@ -117,16 +120,19 @@ const OF_4: [Row; 11] = [
     Row(b"pttl", Keys(KeyName::PTtl), Fixed(1)),
     Row(b"copy", Keys(KeyName::CopyKey), Choices(2)),
     Row(b"move", Keys(KeyName::MoveKey), Fixed(2)),
+    Row(b"keys", Keys(KeyName::KeysLike), Fixed(1)),
+    Row(b"scan", Keys(KeyName::Scan), Choices(1)),
     Row(b"ping", Connection(ConnectionName::Ping), Between(0, 1)),
     Row(b"echo", Connection(ConnectionName::Echo), Fixed(1)),
     Row(b"quit", Connection(ConnectionName::Quit), Any),
 ];
 
-const OF_5: [Row; 4] = [
+const OF_5: [Row; 5] = [
     Row(b"setnx", Strings(SetNx), Fixed(2)),
     Row(b"setex", Strings(SetEx), Fixed(3)),
     Row(b"getex", Strings(GetEx), Choices(1)),
     Row(b"touch", Keys(KeyName::Touch), Words(0)),
+    Row(b"debug", Connection(ConnectionName::Debug), Fixed(2)),
 ];
 
 const OF_6: [Row; 15] = [

@@ -1,8 +1,8 @@
 //! Commands as lines of text, for the tests.
 
 use plain_model::{
-    ConnectionCommand, CopyOptions, ExpireOptions, KeyCommand, PairList, SetOptions, StringCommand,
-    WordList,
+    Bytes, ConnectionCommand, CopyOptions, ExpireOptions, KeyCommand, PairList, ScanOptions,
+    SetOptions, StringCommand, WordList,
 };
 use std::alloc::{AllocError, Global};
 
@@ -138,6 +138,25 @@ fn expire_line(
     line(alloc, name, &[key, rest.as_bytes()])
 }
 
+fn push_option(line: &mut Vec<u8>, name: &[u8], option: &Option<Bytes>) -> Result<(), AllocError> {
+    if let Some(bytes) = option {
+        line.extend_from_slice(name)?;
+        line.extend_from_slice(bytes.as_slice())?;
+    }
+    Ok(())
+}
+
+fn scan_line(alloc: Global, cursor: u64, options: &ScanOptions) -> Result<Vec<u8>, AllocError> {
+    let count = options.count;
+    let mut bytes = Vec::from_slice(
+        alloc,
+        format!(in alloc; "Scan {cursor} {count}")?.as_bytes(),
+    )?;
+    push_option(&mut bytes, b" match=", &options.pattern)?;
+    push_option(&mut bytes, b" type=", &options.type_name)?;
+    Ok(bytes)
+}
+
 // Commands of one key or two.
 fn plain_key_line(alloc: Global, command: &KeyCommand) -> Result<Vec<u8>, AllocError> {
     match command {
@@ -153,6 +172,7 @@ fn plain_key_line(alloc: Global, command: &KeyCommand) -> Result<Vec<u8>, AllocE
         }
         KeyCommand::RandomKey => line(alloc, "RandomKey", &[]),
         KeyCommand::ObjectEncoding(key) => line(alloc, "ObjectEncoding", &[key.as_slice()]),
+        KeyCommand::KeysLike(pattern) => line(alloc, "KeysLike", &[pattern.as_slice()]),
         _ => line(alloc, "another", &[]),
     }
 }
@@ -189,6 +209,7 @@ pub fn key_line(alloc: Global, command: &KeyCommand) -> Result<Vec<u8>, AllocErr
             let db = format!(in alloc; "{db}")?;
             line(alloc, "MoveKey", &[key.as_slice(), db.as_bytes()])
         }
+        KeyCommand::Scan(cursor, options) => scan_line(alloc, *cursor, options),
         _ => plain_key_line(alloc, command),
     }
 }
@@ -207,5 +228,9 @@ pub fn connection_line(alloc: Global, command: &ConnectionCommand) -> Result<Vec
         ConnectionCommand::DbSize => line(alloc, "DbSize", &[]),
         ConnectionCommand::FlushDb => line(alloc, "FlushDb", &[]),
         ConnectionCommand::FlushAll => line(alloc, "FlushAll", &[]),
+        ConnectionCommand::DebugRehash(n) => {
+            let n = format!(in alloc; "{n}")?;
+            line(alloc, "DebugRehash", &[n.as_bytes()])
+        }
     }
 }

@@ -338,7 +338,71 @@ const KEYS: [Row; 106] = [
     Row("OBJECT FOO k x", "-WrongNumberOfArguments"),
 ];
 
-const CONNECTION: [Row; 33] = [
+const SCANS: [Row; 46] = [
+    Row("KEYS *", "KeysLike *"),
+    Row("keys ", "KeysLike "),
+    Row("KEYS", "-WrongNumberOfArguments"),
+    Row("KEYS a b", "-WrongNumberOfArguments"),
+    Row("SCAN 0", "Scan 0 10"),
+    Row("scan 18446744073709551615", "Scan 18446744073709551615 10"),
+    Row("SCAN 007", "Scan 7 10"),
+    Row(
+        "SCAN 0000000000000000000000000000000000000000000000000000000000000000000000000000000000000000000000000000",
+        "Scan 0 10",
+    ),
+    Row("SCAN 18446744073709551616", "-InvalidCursor"),
+    Row("SCAN ", "-InvalidCursor"),
+    Row("SCAN -1", "-InvalidCursor"),
+    Row("SCAN +1", "-InvalidCursor"),
+    Row("SCAN 1x", "-InvalidCursor"),
+    Row("SCAN x1", "-InvalidCursor"),
+    Row("SCAN 1.0", "-InvalidCursor"),
+    Row("SCAN", "-WrongNumberOfArguments"),
+    Row("SCAN 0 MATCH a*", "Scan 0 10 match=a*"),
+    Row("SCAN 0 match ", "Scan 0 10 match="),
+    Row("SCAN 0 MATCH COUNT", "Scan 0 10 match=COUNT"),
+    Row("SCAN 0 COUNT 1", "Scan 0 1"),
+    Row(
+        "SCAN 0 count 9223372036854775807",
+        "Scan 0 9223372036854775807",
+    ),
+    Row("SCAN 0 TYPE string", "Scan 0 10 type=string"),
+    Row("SCAN 0 type Foo", "Scan 0 10 type=Foo"),
+    Row("SCAN 0 TYPE ", "Scan 0 10 type="),
+    Row(
+        "SCAN 3 TYPE zset COUNT 5 MATCH k?",
+        "Scan 3 5 match=k? type=zset",
+    ),
+    Row(
+        "SCAN 0 TYPE MATCH MATCH TYPE",
+        "Scan 0 10 match=TYPE type=MATCH",
+    ),
+    Row(
+        "SCAN 0 COUNT 1 MATCH a COUNT 2 TYPE c MATCH b TYPE d",
+        "Scan 0 2 match=b type=d",
+    ),
+    Row("SCAN 0 COUNT 0", "-Syntax"),
+    Row("SCAN 0 COUNT -1", "-Syntax"),
+    Row("SCAN 0 COUNT -9223372036854775808", "-Syntax"),
+    Row("SCAN 0 COUNT x", "-NotAnInteger"),
+    Row("SCAN 0 COUNT ", "-NotAnInteger"),
+    Row("SCAN 0 COUNT 01", "-NotAnInteger"),
+    Row("SCAN 0 COUNT 9223372036854775808", "-NotAnInteger"),
+    Row("SCAN 0 COUNT", "-Syntax"),
+    Row("SCAN 0 MATCH", "-Syntax"),
+    Row("SCAN 0 TYPE", "-Syntax"),
+    Row("SCAN 0 MATCH a COUNT", "-Syntax"),
+    Row("SCAN 0 FOO", "-Syntax"),
+    Row("SCAN 0 0", "-Syntax"),
+    Row("SCAN 0 COUNT 5 FOO", "-Syntax"),
+    Row("SCAN 0 COUNT 0 COUNT 5", "-Syntax"),
+    Row("SCAN 0 COUNT x FOO", "-NotAnInteger"),
+    Row("SCAN 0 FOO COUNT x", "-Syntax"),
+    Row("SCAN x COUNT y", "-InvalidCursor"),
+    Row("SCAN x FOO", "-InvalidCursor"),
+];
+
+const CONNECTION: [Row; 47] = [
     Row("PING", "Ping"),
     Row("ping Hello", "Ping Hello"),
     Row("PING ", "Ping "),
@@ -372,6 +436,20 @@ const CONNECTION: [Row; 33] = [
     Row("FLUSHALL ASYNC sync ASYNC", "FlushAll"),
     Row("FLUSHALL FOO", "-Syntax"),
     Row("FLUSHALL SYNC FOO", "-Syntax"),
+    Row("DEBUG REHASH 0", "DebugRehash 0"),
+    Row("debug rehash 1000000", "DebugRehash 1000000"),
+    Row("DEBUG Rehash 1000001", "-ValueOutOfRange"),
+    Row("DEBUG REHASH 4294967296", "-ValueOutOfRange"),
+    Row("DEBUG REHASH -1", "-ValueOutOfRange"),
+    Row("DEBUG REHASH x", "-NotAnInteger"),
+    Row("DEBUG REHASH 9223372036854775808", "-NotAnInteger"),
+    Row("DEBUG FOO 1", "-Syntax"),
+    Row("DEBUG FOO x", "-Syntax"),
+    Row("DEBUG", "-WrongNumberOfArguments"),
+    Row("DEBUG REHASH", "-WrongNumberOfArguments"),
+    Row("DEBUG FOO", "-WrongNumberOfArguments"),
+    Row("DEBUG REHASH 1 2", "-WrongNumberOfArguments"),
+    Row("DEBUG FOO 1 2", "-WrongNumberOfArguments"),
 ];
 
 // The bytes of a request with these words.
@@ -406,7 +484,7 @@ fn answer(alloc: Global, feeder: &Feeder) -> Result<Vec<u8>, AllocError>
 
 #[test]
 fn requests_and_their_commands(rt: HostRuntime) -> Result<(), Fail> {
-    for rows in [&STRINGS[..], &KEYS[..], &CONNECTION[..]] {
+    for rows in [&STRINGS[..], &KEYS[..], &SCANS[..], &CONNECTION[..]] {
         for Row(line, wanted) in rows {
             let request = spelled_request(rt.alloc(), line)?;
             assert!(rt; request.len() <= 1000);

@@ -13,6 +13,7 @@ use plain_model::{
     Condition, GetExChoices, Lifetime, Refusal, Renewal, SetChoices, Time, TimeOrigin, TimeUnit,
 };
 use resp_frames::Request;
+use std::alloc::Global;
 
 /// An option of SET.
 #[derive(Clone, Copy)]
@@ -125,6 +126,7 @@ impl Options for SetChoices {
 
     fn with_option(
         self,
+        _alloc: Global,
         request: &Request<'_>,
         index: usize,
     ) -> Result<(SetChoices, usize), ReadingFault> {
@@ -147,6 +149,7 @@ impl Options for GetExChoices {
 
     fn with_option(
         self,
+        _alloc: Global,
         request: &Request<'_>,
         index: usize,
     ) -> Result<(GetExChoices, usize), ReadingFault> {

@@ -2,12 +2,12 @@
 
 ghost use Rattle.std.specs.Prelude.{◌≡◌, ◌<◌, ◌≤◌, [], ◌∷◌, length, drop, bytes_eq, Ok};
 ghost use Rattle.plain_world.specs.Words.{in_lower_case};
-ghost use Rattle.plain_model.specs.Shapes.{Plain, Whole, Offset, Span, Database, told};
+ghost use Rattle.plain_model.specs.Shapes.{Plain, Whole, Offset, Span, Database, Count, Steps, Cursor, told};
 ghost use Rattle.plain_model.specs.StringWords.{pairs_of};
 ghost use Rattle.command_table.specs.Readings.{Tells, TellsAs, at, told_at};
 
 use crate::ReadingFault;
-use int_text::read_i64;
+use int_text::{read_i64, read_u64};
 use plain_model::{Bytes, PairList, Refusal, WordList};
 use resp_frames::Request;
 use std::alloc::Global;
@@ -74,6 +74,41 @@ pub fn database(request: &Request<'_>, index: usize) -> Result<usize, ReadingFau
     match usize::try_from(n) {
         Ok(db) if db < 16 => Ok(db),
         _ => Err(ReadingFault::Refused(Refusal::DatabaseOutOfRange)),
+    }
+}
+
+/// A word as such a number above 0, which is how many are to be met.
+pub fn count(request: &Request<'_>, index: usize) -> Result<u64, ReadingFault>
+    requires { index < length request.now }
+    ensures { Tells (told Count (at request.now index)) result }
+{
+    let n = number(request, index)?;
+    match u64::try_from(n) {
+        Ok(count) if count > 0 => Ok(count),
+        _ => Err(ReadingFault::Refused(Refusal::Syntax)),
+    }
+}
+
+/// A word as such a number from 0 to 1,000,000, which is how many steps are to be made.
+pub fn steps(request: &Request<'_>, index: usize) -> Result<u32, ReadingFault>
+    requires { index < length request.now }
+    ensures { Tells (told Steps (at request.now index)) result }
+{
+    let n = number(request, index)?;
+    match u32::try_from(n) {
+        Ok(steps) if steps <= 1_000_000 => Ok(steps),
+        _ => Err(ReadingFault::Refused(Refusal::ValueOutOfRange)),
+    }
+}
+
+/// A word as a cursor: decimal digits, leading zeros too, of a number of 64 bits.
+pub fn cursor(request: &Request<'_>, index: usize) -> Result<u64, ReadingFault>
+    requires { index < length request.now }
+    ensures { Tells (told Cursor (at request.now index)) result }
+{
+    match read_u64(request.word(index)) {
+        Some(cursor) => Ok(cursor),
+        None => Err(ReadingFault::Refused(Refusal::InvalidCursor)),
     }
 }
 

@@ -1,6 +1,6 @@
 use Rattle.std.proofs.Common.{[], ◌∷◌, Ok, rules}
-use Rattle.plain_model.specs.Shapes.{Plain}
-use Rattle.plain_model.specs.KeyWords.{copy_choices, no_copy_options}
+use Rattle.plain_model.specs.Shapes.{Plain, Cursor}
+use Rattle.plain_model.specs.KeyWords.{copy_choices, no_copy_options, scan_choices, no_scan_options}
 use Rattle.plain_model.specs.declared.command.Command.TheVariants.{Keys}
 use Rattle.plain_model.specs.declared.keys.KeyCommand.TheVariants as keys
 use Rattle.command_table.specs.declared.table.KeyName.TheVariants as name
@@ -33,3 +33,9 @@ returns-in-CopyKey c =
     let words = c.args.request.now in
     at_name _ name.CopyKey words _ c.in-CopyKey.is c.requires (λ shape.
     choices_row Keys (Plain ∷ Plain ∷ []) copy_choices no_copy_options (λ a options. Ok (keys.Copy a.0 a.1.0 options)) words _ shape c.copy.ensures)
+
+pub returns-in-Scan : goal.returns-in-Scan
+returns-in-Scan c =
+    let words = c.args.request.now in
+    at_name _ name.Scan words _ c.in-Scan.is c.requires (λ shape.
+    choices_row Keys (Cursor ∷ []) scan_choices no_scan_options (λ a options. Ok (keys.Scan a.0 options)) words _ shape c.scan.ensures)
