@@ -7,6 +7,7 @@ pub mod Joining
 pub mod Within
 pub mod Calls
 pub mod Purging
+pub mod Rehashing
 pub mod Shrinking
 pub mod Picking
 pub mod Renaming

@@ -45,6 +45,19 @@ module _ {V : Type 0} (refs_of : V → List BlockRef) (value_of : Blocks → V �
     pub there_seen : (at : ℕ) (key : List ℕ) → StandsAt bases m db key moment at → is_some (look (model.live (means value_of db bases m) moment) key) ≡ true
     there_seen at key s = ap is_some (look_now refs_of value_of own bases db moment m key _ (look_stands refs_of value_of own bases db m a key at s.stands.element s.stands.found s.stands.bytes _ refl) s.in_time)
 
+    -- a key that is there stands at some item number
+    pub there_at : (key : List ℕ) → is_some (look (model.live (means value_of db bases m) moment) key) ≡ true → (at : ℕ) × StandsAt bases m db key moment at
+    there_at key seen = elim (cases_key m (table_at bases db) key (a.keyed db)) [
+      | inl s ↦ elim (cases_Bool (in_time moment (get (moments m (deadlines_at bases db)) key))) [
+        | inl there ↦ (s.at, record { stands = record { element = s.element; found = s.found; bytes = s.bytes }; in_time = there })
+        | inr late ↦ not_seen key (look_past refs_of value_of own bases db moment m a key s.at (record { element = s.element; found = s.found; bytes = s.bytes }) late) seen
+      ]
+      | inr lacks ↦ not_seen key (look_nothing refs_of value_of own bases db moment m key (look_lacks refs_of value_of own bases db m a key lacks)) seen
+    ]
+      where
+        not_seen : {X : Type 0} (key : List ℕ) → look (model.live (means value_of db bases m) moment) key ≡ None → is_some (look (model.live (means value_of db bases m) moment) key) ≡ true → X
+        not_seen key none seen = (let bad : false ≡ true = sym (ap is_some none) ∙ seen in absurd (cc bad))
+
     -- where no item number is that of a key that is there
     pub none_there : ((at : ℕ) (key : List ℕ) → IsSome (item (table_at bases db) at) → StandsAt bases m db key moment at → ⊥) → (key : List ℕ) → look (model.live (means value_of db bases m) moment) key ≡ None
     none_there none key = elim (cases_key m (table_at bases db) key (a.keyed db)) [

@@ -4,4 +4,5 @@ pub mod Sound
 pub mod Worlds
 pub mod Gone
 pub mod Scopes
+pub mod Rehash
 pub mod Calls

@@ -1,4 +1,4 @@
-ghost use Rattle.std.specs.Prelude.{◌≡◌, ◌≢◌, ◌<◌, ◌≤◌, ◌⊎◌, ℕ, List, IfOk, IfErr, OnOk, OnErr, Some, IfSome, IfNone, IsSome, IsTrue, length, replicate};
+ghost use Rattle.std.specs.Prelude.{◌≡◌, ◌≢◌, ◌<◌, ◌≤◌, ◌⊎◌, ℕ, List, false, IfOk, IfErr, OnOk, OnErr, Some, IfSome, IfNone, IsSome, IsTrue, length, replicate};
 ghost use Rattle.std.specs.FinMap.{get, insert, remove};
 ghost use Rattle.blocks.specs.Blocks.{Blocks, bytes_at};
 ghost use Rattle.rehash_dict.specs.Tables.{IsSettled};
@@ -11,6 +11,7 @@ ghost use Rattle.held.specs.Sound.{IsTimed};
 ghost use Rattle.held.specs.Calls.{IsDeadline, Begins, Joins, KeepsTimes};
 ghost use Rattle.held.specs.Databases.{no_base, base_at, table_at, deadlines_at, ChangesBase, ChangesTable, ChangesDeadlines};
 ghost use Rattle.held.specs.Gone.{IsPassed};
+ghost use Rattle.held.specs.Rehash.{keys_move, deadlines_move, StepsTable};
 
 use blocks::{BlockRef, BlockStore, Memory};
 use expiry::Deadlines;
@@ -249,6 +250,35 @@ impl<V: Drop> Databases<V> {
         ensures settled { OnOk result (IsSettled (tables (deadlines_at self.new db).table)) }
     {
         self.bases[db].deadlines.shrink()
+    }
+
+    // Makes one step of a rehash of a database's keys. `false` comes exactly where none is going on.
+    pub(crate) fn step_keys(&mut self, db: usize) -> bool
+        requires { db < length self.old.bases }
+        ensures value { result ≡ keys_move self.old db }
+        ensures same { result ≡ false → self.new ≡ self.old }
+        ensures changes { ChangesTable self.old self.new db }
+        ensures items { (table_at self.new db).items ≡ (table_at self.old db).items }
+        ensures seed { (table_at self.new db).seed ≡ (table_at self.old db).seed }
+        ensures keyed { (blocks : Blocks) → Keyed blocks (table_at self.old db) → Keyed blocks (table_at self.new db) }
+        ensures steps { (blocks : Blocks) → Keyed blocks (table_at self.old db) → StepsTable blocks (table_at self.old db) (table_at self.new db) }
+    {
+        self.bases[db].keys.rehash_step()
+    }
+
+    // The same of the deadlines.
+    pub(crate) fn step_deadlines(&mut self, db: usize) -> bool
+        requires { db < length self.old.bases }
+        ensures value { result ≡ deadlines_move self.old db }
+        ensures same { result ≡ false → self.new ≡ self.old }
+        ensures changes { ChangesDeadlines self.old self.new db }
+        ensures items { (deadlines_at self.new db).table.items ≡ (deadlines_at self.old db).table.items }
+        ensures seed { (deadlines_at self.new db).table.seed ≡ (deadlines_at self.old db).table.seed }
+        ensures keyed { (blocks : Blocks) → Keyed blocks (deadlines_at self.old db).table → Keyed blocks (deadlines_at self.new db).table }
+        ensures steps { (blocks : Blocks) → Keyed blocks (deadlines_at self.old db).table → StepsTable blocks (deadlines_at self.old db).table (deadlines_at self.new db).table }
+        ensures cursor { KeepsCursor (deadlines_at self.old db) (deadlines_at self.new db) }
+    {
+        self.bases[db].deadlines.rehash_step()
     }
 
     // Puts a value in the place of another, which it answers.

@@ -78,8 +78,9 @@ impl<V: Held, B: BlockStore> Keyspace<V, B> {
         count
     }
 
-    // The bytes of the key of an item number, where it is there at the moment.
-    fn there(&self, db: usize, at: usize, moment: u64) -> Option<&[u8]>
+    /// The bytes of the key of an item number, where it is there at the moment, in milliseconds. `None` comes exactly where the
+    /// number is no key's, or the key is gone.
+    pub fn there(&self, db: usize, at: usize, moment: u64) -> Option<&[u8]>
         requires db { db < 16 }
         requires arranged { IsArranged self.now.bases (B.blocks self.now.store) }
         ensures found { IfSome result (λ key. StandsAt self.now.bases (B.blocks self.now.store) db key.now moment at) }

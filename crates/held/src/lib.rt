@@ -6,6 +6,7 @@ mod gone;
 mod held;
 mod keyspace;
 mod moving;
+mod rehash;
 
 pub use databases::{Base, Databases};
 pub use held::Held;
