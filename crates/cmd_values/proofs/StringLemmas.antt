@@ -14,7 +14,8 @@ use Rattle.plain_world.specs.declared.reply.Part.TheVariants.{Refused, Number, B
 use Rattle.plain_model.specs.declared.command.Condition.{Condition}
 use Rattle.std.specs.Prelude.{Bool}
 use Rattle.plain_model.specs.StringSteps.{string_outcome, on_string, or_null, string_part, string_or_null, replace}
-use Rattle.keyspace.proofs.Running.{outcome_is, unchanged}
+use Rattle.keyspace.proofs.Running.{outcome_is, unchanged, nothing_shown}
+use Rattle.keyspace.specs.Shown.{Shows}
 use Rattle.plain_model.specs.declared.ctx.Ctx.{Ctx}
 use Rattle.keyspace.specs.declared.value.Value.TheVariants as values
 use Rattle.keyspace.specs.Databases.{Bases, means}
@@ -256,7 +257,7 @@ overflowed old key n next (Err x) at large is = tt
 pub ran_strings : {S E : Type 0} (blocks : S → Blocks) (step : S → S → Type 0) (old new : Keyspace S) (at : Ctx) (command : Command) (own same : StringCommand) (result : Result (List Part) E)
     → command ≡ Strings own → own ≡ same → Gives blocks old new at same result → Kept blocks step (string_scope at.db same) old new result → Runs blocks step old new at command result
 ran_strings blocks step old new at command own same result e f given kept =
-    record { answers = step_of old.bases.seed at.moment (sight blocks old at) (sight blocks new at) command own same result e f given; kept = subst (λ x. Kept blocks step (scope_of at.db x) old new result) (sym e) (subst (λ x. Kept blocks step (string_scope at.db x) old new result) (sym f) kept) }
+    record { answers = step_of old.bases.seed at.moment (sight blocks old at) (sight blocks new at) command own same result e f given; kept = subst (λ x. Kept blocks step (scope_of at.db x) old new result) (sym e) (subst (λ x. Kept blocks step (string_scope at.db x) old new result) (sym f) kept); shows = subst (λ x. IfOk result (λ reply. Shows blocks old new at x reply)) (sym e) (nothing_shown result) }
 
 -- a command on strings only looked
 pub looked_strings : {S E : Type 0} (blocks : S → Blocks) (step : S → S → Type 0) (keyspace : Keyspace S) (at : Ctx) (command : Command) (own same : StringCommand) (result : Result (List Part) E)

@@ -40,3 +40,8 @@ held_then blocks step scope a b c p q = record {
 pub calm : {S E : Type 0} (blocks : S → Blocks) (step : S → S → Type 0) (scope : Scope) (old new : Keyspace S) (result : Result (List Part) E) → IfOk result (λ reply. IsRefusal reply → ⊥) → Held blocks step scope old new → Kept blocks step scope old new result
 calm blocks step scope old new (Ok reply) f held = record { refusals = λ refused. absurd (f refused); sound = held.sound; served = held.served; settings = held.settings; within = held.within }
 calm blocks step scope old new (Err e) f held = record { refusals = tt; sound = held.sound; served = held.served; settings = held.settings; within = held.within }
+
+-- what shows nothing
+pub nothing_shown : {E : Type 0} (result : Result (List Part) E) → IfOk result (λ reply. Unit {0})
+nothing_shown (Ok reply) = tt
+nothing_shown (Err e) = tt

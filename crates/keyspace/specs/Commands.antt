@@ -10,6 +10,7 @@ use Rattle.plain_world.specs.declared.reply.Part.{Part}
 use Rattle.keyspace.specs.Databases.{Bases, Keyspace, means, SameSettings}
 use Rattle.keyspace.specs.Sound.{Sound}
 use Rattle.keyspace.specs.Scopes.{Scope, Within, scope_of}
+use Rattle.keyspace.specs.Shown.{Shows}
 
 -- the world that a command sees
 abbrev pub seen : Ctx → Bases → Blocks → World
@@ -43,3 +44,4 @@ pub record Kept {S E : Type 0} (blocks : S → Blocks) (step : S → S → Type 
 pub record Runs {S E : Type 0} (blocks : S → Blocks) (step : S → S → Type 0) (old new : Keyspace S) (at : Ctx) (command : Command) (result : Result (List Part) E) : Type 0 where
   pub answers : IfOk result (λ reply. may old.bases.seed (sight blocks old at) at.moment command reply (sight blocks new at))
   pub kept : Kept blocks step (scope_of at.db command) old new result
+  pub shows : IfOk result (λ reply. Shows blocks old new at command reply)

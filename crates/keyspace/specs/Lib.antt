@@ -5,4 +5,5 @@ pub mod Sound
 pub mod Worlds
 pub mod Scopes
 pub mod Calls
+pub mod Shown
 pub mod Commands

@@ -69,6 +69,8 @@ key_scope db (keys.Copy from to options) = two_keys db from (number_or db option
 key_scope db (keys.MoveKey key number) = two_keys db key number key
 key_scope db keys.RandomKey = untouched
 key_scope db (keys.ObjectEncoding key) = untouched
+key_scope db (keys.KeysLike pattern) = untouched
+key_scope db (keys.Scan cursor options) = untouched
 
 abbrev pub connection_scope : ℕ → ConnectionCommand → Scope
 connection_scope db (connection.Ping text) = untouched
@@ -78,9 +80,10 @@ connection_scope db (connection.Select number) = untouched
 connection_scope db connection.DbSize = no_key db
 connection_scope db connection.FlushDb = all_keys db
 connection_scope db connection.FlushAll = everything
+connection_scope db (connection.DebugRehash n) = untouched
 
--- What a command may change, where this database is selected. A key that it removes, or whose deadline it changes, it
--- doesn't write.
+-- What a command but DEBUG REHASH may change, where this database is selected. A key that it removes, or whose deadline it
+-- changes, it doesn't write.
 abbrev pub scope_of : ℕ → Command → Scope
 scope_of db (Strings command) = string_scope db command
 scope_of db (Keys command) = key_scope db command

@@ -1,0 +1,86 @@
+-- What a reply shows of the tables and values that stand, beside what the world fixes.
+use Rattle.std.specs.Prelude.{◌≡◌, ℕ, List, [], ◌∷◌, pos, Option, Some, None}
+use Rattle.blocks.specs.Blocks.{Blocks}
+use Rattle.rehash_dict.specs.Table.{Table}
+use Rattle.rehash_dict.specs.Scan.{scanned}
+use Rattle.scan_cursor.specs.Page.{scan_list}
+use Rattle.plain_world.specs.Worlds.{live, look}
+use Rattle.plain_world.specs.declared.reply.Part.{Part}
+use Rattle.plain_world.specs.declared.reply.Part.TheVariants.{Number, Bulk, Null}
+use Rattle.plain_model.specs.Scans.{Sought, Passes, keys_sought, paged}
+use Rattle.plain_model.specs.declared.command.Command.{Command}
+use Rattle.plain_model.specs.declared.command.Command.TheVariants.{Strings, Keys, Connection}
+use Rattle.plain_model.specs.declared.keys.KeyCommand.{KeyCommand}
+use Rattle.plain_model.specs.declared.keys.KeyCommand.TheVariants as keys
+use Rattle.plain_model.specs.declared.keys.ScanOptions.{ScanOptions}
+use Rattle.plain_model.specs.declared.connection.ConnectionCommand.{ConnectionCommand}
+use Rattle.plain_model.specs.declared.connection.ConnectionCommand.TheVariants as connection
+use Rattle.plain_model.specs.declared.ctx.Ctx.{Ctx}
+use Rattle.held.specs.Calls as held
+use Rattle.held.specs.Rehash.{Rehashed}
+use Rattle.keyspace.specs.Databases.{Bases, Keyspace, means, table_at}
+use Rattle.keyspace.specs.Values.{value_of, value_refs, IsEncodedAs}
+use Rattle.keyspace.specs.declared.value.Value.{Value}
+
+-- ---- SCAN
+
+-- a key stands at the item number at the moment, and MATCH and TYPE let it pass
+pub record PassesAt (bases : Bases) (m : Blocks) (at : Ctx) (sought : Sought) (item : ℕ) (key : List ℕ) : Type 0 where
+  pub stands : held.StandsAt bases m at.db key at.moment item
+  pub passes : Passes (live (means at.db bases m) at.moment) sought key
+
+-- the keys of those item numbers of which one passes, in their order
+pub data Sifted (P : ℕ → List ℕ → Type 0) : List ℕ → List (List ℕ) → Type 0 where
+  end : Sifted P [] []
+  keeps : (item : ℕ) (key : List ℕ) (items : List ℕ) (names : List (List ℕ)) → P item key → Sifted P items names → Sifted P (item ∷ items) (key ∷ names)
+  drops : (item : ℕ) (items : List ℕ) (names : List (List ℕ)) → ((key : List ℕ) → P item key → ⊥) → Sifted P items names → Sifted P (item ∷ items) names
+
+-- the item numbers of a move over a table, and the cursor behind it
+abbrev pub move_at : Table Value → ℕ → List ℕ
+move_at t cursor = (scanned t.older t.newer cursor).0
+
+abbrev pub after : Table Value → ℕ → ℕ
+after t cursor = (scanned t.older t.newer cursor).1
+
+-- The page is that of the key table as it stands: its moves until enough keys were met, without those that are gone, or that
+-- MATCH or TYPE drop.
+pub record IsTablePage (bases : Bases) (m : Blocks) (at : Ctx) (cursor : ℕ) (options : ScanOptions) (reply : List Part) : Type 0 where
+  pub items : List ℕ
+  pub next : ℕ
+  pub names : List (List ℕ)
+  pub moves : scan_list (move_at (table_at bases at.db)) (after (table_at bases at.db)) cursor options.count ≡ (items, next)
+  pub sifted : Sifted (PassesAt bases m at (keys_sought at.db options)) items names
+  pub is : reply ≡ paged next names
+
+-- ---- OBJECT ENCODING
+
+-- the name of the encoding of the value that stands at the key
+pub data IsActual (bases : Bases) (m : Blocks) (at : Ctx) (key : List ℕ) (reply : List Part) : Type 0 where
+  nothing : look (live (means at.db bases m) at.moment) key ≡ None → reply ≡ Null ∷ [] → IsActual bases m at key reply
+  encoded : (value : Value) (name : List ℕ) → held.Found value_refs value_of bases m at.db key at.moment value → IsEncodedAs m value name → reply ≡ Bulk name ∷ [] → IsActual bases m at key reply
+
+-- ---- DEBUG REHASH
+
+-- so many steps were made, and the reply says how many found a table
+pub record IsRehashed {S : Type 0} (blocks : S → Blocks) (steps : ℕ) (old new : Keyspace S) (reply : List Part) : Type 0 where
+  pub found : ℕ
+  pub tables : Rehashed (blocks old.store) steps found old.bases new.bases
+  pub store : new.store ≡ old.store
+  pub is : reply ≡ Number (pos found) ∷ []
+
+-- ---- each command
+
+abbrev pub key_shown : Bases → Blocks → Ctx → KeyCommand → List Part → Type 0
+key_shown bases m at (keys.ObjectEncoding key) reply = IsActual bases m at key reply
+key_shown bases m at (keys.Scan cursor options) reply = IsTablePage bases m at cursor options reply
+key_shown bases m at other reply = Unit {0}
+
+abbrev pub connection_shown : {S : Type 0} → (S → Blocks) → Keyspace S → Keyspace S → ConnectionCommand → List Part → Type 0
+connection_shown blocks old new (connection.DebugRehash steps) reply = IsRehashed blocks steps old new reply
+connection_shown blocks old new other reply = Unit {0}
+
+-- what the reply to a command shows
+abbrev pub Shows : {S : Type 0} → (S → Blocks) → Keyspace S → Keyspace S → Ctx → Command → List Part → Type 0
+Shows blocks old new at (Strings command) reply = Unit {0}
+Shows blocks old new at (Keys command) reply = key_shown old.bases (blocks old.store) at command reply
+Shows blocks old new at (Connection command) reply = connection_shown blocks old new command reply
