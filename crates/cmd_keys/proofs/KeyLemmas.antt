@@ -10,7 +10,7 @@ use Rattle.plain_model.specs.declared.keys.ExpireOptions.{ExpireOptions}
 use Rattle.plain_model.specs.Deadlines.{due, expire}
 use Rattle.plain_world.specs.Worlds.{World, Entry, live, look, in_time, deadline_of}
 use Rattle.plain_world.specs.declared.reply.Part.{Part}
-use Rattle.plain_world.specs.declared.reply.Part.TheVariants.{Number}
+use Rattle.plain_world.specs.declared.reply.Part.TheVariants.{Number, Bulk}
 use Rattle.plain_world.proofs.Lives.{was_in_time}
 use Rattle.plain_model.specs.Outcomes.{IsOutcome, IsRefusal, leaves, tells, refused}
 use Rattle.plain_model.specs.KeySteps.{key_outcome, may_keys, counts, permits, expire_where_permitted, expire_outcome, deadline_told, time_told}
@@ -20,16 +20,22 @@ use Rattle.plain_model.specs.declared.ctx.Ctx.{Ctx}
 use Rattle.plain_model.specs.declared.keys.KeyCommand.{KeyCommand}
 use Rattle.plain_model.specs.declared.keys.KeyCommand.TheVariants as keys
 use Rattle.plain_model.specs.declared.keys.CopyOptions.{CopyOptions}
+use Rattle.plain_model.specs.declared.keys.ScanOptions.{ScanOptions}
 use Rattle.plain_model.specs.declared.connection.ConnectionCommand.{ConnectionCommand}
 use Rattle.plain_model.specs.ConnectionSteps.{connection_outcome, may_connection}
 use Rattle.plain_model.specs.declared.command.Command.TheVariants.{Keys, Connection}
 use Rattle.blocks.specs.Blocks.{Blocks}
-use Rattle.keyspace.specs.Databases.{Keyspace}
+use Rattle.held.specs.Calls as held
+use Rattle.keyspace.specs.declared.value.Value.{Value}
+use Rattle.keyspace.specs.Values.{value_refs, value_of, IsEncodedAs}
+use Rattle.keyspace.specs.Databases.{Bases, Keyspace}
 use Rattle.keyspace.specs.Scopes.{connection_scope, key_scope}
 use Rattle.keyspace.specs.Commands.{Ready, Kept, Runs, sight}
+use Rattle.keyspace.specs.Shown.{IsActual, encoded, key_shown, connection_shown}
+use Rattle.plain_model.specs.declared.connection.ConnectionCommand.TheVariants as connection
 use Rattle.keyspace.proofs.Running.{outcome_is, unchanged}
 use Rattle.cmd_keys.specs.declared.keys.look.Timeless.{Timeless}
-use Rattle.cmd_keys.specs.Found.{Gives, Serves, Tells, IsDatabase, IsDeadlineAt, told_of}
+use Rattle.cmd_keys.specs.Found.{RehashesNone, Gives, Serves, Tells, IsDatabase, IsDeadlineAt, told_of}
 
 -- what stands at a key of the live world, and its deadline
 pub record StandsUntil (world : World) (moment : ℕ) (key : List ℕ) (deadline : Option ℕ) : Type 0 where
@@ -94,36 +100,91 @@ asked_copy command from to options asked is = one_of options.db (subst FitsKeys 
 pub asked_move : (command : KeyCommand) (key : List ℕ) (number : ℕ) → IsAsked (Keys command) → command ≡ keys.MoveKey key number → number < 16
 asked_move command key number asked is = subst FitsKeys is (fits_keys command asked)
 
+-- the count of SCAN
+pub asked_scan : (command : KeyCommand) (cursor : ℕ) (options : ScanOptions) → IsAsked (Keys command) → command ≡ keys.Scan cursor options → 0 < options.count
+asked_scan command cursor options asked is = (subst FitsKeys is (fits_keys command asked)).0
+
+-- a command on the connection or the server that makes no rehash steps shows nothing of the tables
+connection_shows : {S E : Type 0} (blocks : S → Blocks) (old new : Keyspace S) (command : ConnectionCommand) → RehashesNone command → (result : Result (List Part) E) → IfOk result (λ reply. connection_shown blocks old new command reply)
+connection_shows blocks old new command none (Err x) = tt
+connection_shows blocks old new command none (Ok reply) = one command none
+  where
+    one : (command : ConnectionCommand) → RehashesNone command → connection_shown blocks old new command reply
+    one (connection.Ping text) none = tt
+    one (connection.Echo text) none = tt
+    one connection.Quit none = tt
+    one (connection.Select number) none = tt
+    one connection.DbSize none = tt
+    one connection.FlushDb none = tt
+    one connection.FlushAll none = tt
+    one (connection.DebugRehash n) none = absurd none
+
+-- a command whose reply shows nothing of the tables
+key_shows : {E : Type 0} (P : List Part → Type 0) (result : Result (List Part) E) → ((reply : List Part) → P reply) → IfOk result P
+key_shows P (Ok reply) all = all reply
+key_shows P (Err x) all = tt
+
+-- what the connection may be answered is its outcome, but for DEBUG REHASH
+outcome_connection : (old : World) (moment : ℕ) (command : ConnectionCommand) → RehashesNone command → (reply : List Part) (new : World) → IsOutcome (connection_outcome moment old command) reply new → may_connection old moment command reply new
+outcome_connection old moment (connection.Ping text) none reply new o = o
+outcome_connection old moment (connection.Echo text) none reply new o = o
+outcome_connection old moment connection.Quit none reply new o = o
+outcome_connection old moment (connection.Select number) none reply new o = o
+outcome_connection old moment connection.DbSize none reply new o = o
+outcome_connection old moment connection.FlushDb none reply new o = o
+outcome_connection old moment connection.FlushAll none reply new o = o
+outcome_connection old moment (connection.DebugRehash n) none reply new o = absurd none
+
 -- a command on the connection or the server ran
 pub served_connection : {S E : Type 0} (blocks : S → Blocks) (step : S → S → Type 0) (old new : Keyspace S) (at : Ctx) (command same : ConnectionCommand) (result : Result (List Part) E)
-    → command ≡ same → Serves blocks old new at same result → Kept blocks step (connection_scope at.db same) old new result → Runs blocks step old new at (Connection command) result
-served_connection {E = E} blocks step old new at command same (Ok reply) is given kept =
-    record { answers = subst (λ c. may_connection (sight blocks old at) at.moment c reply (sight blocks new at)) (sym is) (outcome_is (connection_outcome at.moment (sight blocks old at) same) reply (sight blocks new at) given); kept = subst (λ c. Kept {E = E} blocks step (connection_scope at.db c) old new (Ok reply)) (sym is) kept }
-served_connection {E = E} blocks step old new at command same (Err x) is given kept = record { answers = tt; kept = subst (λ c. Kept {E = E} blocks step (connection_scope at.db c) old new (Err x)) (sym is) kept }
+    → command ≡ same → RehashesNone command → Serves blocks old new at same result → Kept blocks step (connection_scope at.db same) old new result → Runs blocks step old new at (Connection command) result
+served_connection {E = E} blocks step old new at command same (Ok reply) is none given kept = record {
+  answers = outcome_connection (sight blocks old at) at.moment command none reply (sight blocks new at) (subst (λ c. IsOutcome (connection_outcome at.moment (sight blocks old at) c) reply (sight blocks new at)) (sym is) (outcome_is (connection_outcome at.moment (sight blocks old at) same) reply (sight blocks new at) given));
+  kept = subst (λ c. Kept {E = E} blocks step (connection_scope at.db c) old new (Ok reply)) (sym is) kept;
+  shows = connection_shows {E = E} blocks old new command none (Ok reply);
+}
+served_connection {E = E} blocks step old new at command same (Err x) is none given kept = record { answers = tt; kept = subst (λ c. Kept {E = E} blocks step (connection_scope at.db c) old new (Err x)) (sym is) kept; shows = tt }
 
 -- one that tells the same in every world
 pub told_connection : {S E : Type 0} (blocks : S → Blocks) (step : S → S → Type 0) (keyspace : Keyspace S) (at : Ctx) (command same : ConnectionCommand) (result : Result (List Part) E)
-    → command ≡ same → Tells same result → Ready blocks keyspace at → Runs blocks step keyspace keyspace at (Connection command) result
-told_connection blocks step keyspace at command same result is told ready =
-    served_connection blocks step keyspace keyspace at command same result is (told at.moment (sight blocks keyspace at)) (unchanged blocks step (connection_scope at.db same) keyspace result ready.sound)
+    → command ≡ same → RehashesNone command → Tells same result → Ready blocks keyspace at → Runs blocks step keyspace keyspace at (Connection command) result
+told_connection blocks step keyspace at command same result is none told ready =
+    served_connection blocks step keyspace keyspace at command same result is none (told at.moment (sight blocks keyspace at)) (unchanged blocks step (connection_scope at.db same) keyspace result ready.sound)
+
+-- a command on keys ran that shows nothing of the tables
+pub ran_keys : {S E : Type 0} (blocks : S → Blocks) (step : S → S → Type 0) (old new : Keyspace S) (at : Ctx) (command same : KeyCommand) (result : Result (List Part) E)
+    → ((reply : List Part) (world : World) → IsOutcome (key_outcome at.moment (sight blocks old at) same) reply world → may_keys old.bases.seed (sight blocks old at) at.moment same reply world)
+    → ((reply : List Part) → key_shown old.bases (blocks old.store) at same reply)
+    → command ≡ same → Gives blocks old new at same result → Kept blocks step (key_scope at.db same) old new result → Runs blocks step old new at (Keys command) result
+ran_keys {E = E} blocks step old new at command same result fixed shows is given kept =
+    subst (λ c. Runs {E = E} blocks step old new at (Keys c) result) (sym is) (record { answers = answers result given; kept = kept; shows = key_shows _ result shows })
+  where
+    answers : (result : Result (List Part) E) → Gives blocks old new at same result → IfOk result (λ reply. may_keys old.bases.seed (sight blocks old at) at.moment same reply (sight blocks new at))
+    answers (Ok reply) given = fixed reply (sight blocks new at) (outcome_is (key_outcome at.moment (sight blocks old at) same) reply (sight blocks new at) given)
+    answers (Err x) given = tt
 
 -- a command on keys only looked
 pub asked_keys : {S E : Type 0} (blocks : S → Blocks) (step : S → S → Type 0) (keyspace : Keyspace S) (at : Ctx) (command same : KeyCommand) (result : Result (List Part) E)
-    → command ≡ same → IfOk result (λ reply. may_keys (sight blocks keyspace at) at.moment same reply (sight blocks keyspace at)) → Ready blocks keyspace at → Runs blocks step keyspace keyspace at (Keys command) result
-asked_keys {E = E} blocks step keyspace at command same result is given ready =
-    subst (λ c. Runs {E = E} blocks step keyspace keyspace at (Keys c) result) (sym is) (record { answers = given; kept = unchanged blocks step (key_scope at.db same) keyspace result ready.sound })
+    → command ≡ same → IfOk result (λ reply. may_keys keyspace.bases.seed (sight blocks keyspace at) at.moment same reply (sight blocks keyspace at)) → IfOk result (λ reply. key_shown keyspace.bases (blocks keyspace.store) at same reply) → Ready blocks keyspace at
+    → Runs blocks step keyspace keyspace at (Keys command) result
+asked_keys {E = E} blocks step keyspace at command same result is given shows ready =
+    subst (λ c. Runs {E = E} blocks step keyspace keyspace at (Keys c) result) (sym is) (record { answers = given; kept = unchanged blocks step (key_scope at.db same) keyspace result ready.sound; shows = shows })
 
 -- and told what the model tells
 pub told_keys : {S E : Type 0} (blocks : S → Blocks) (step : S → S → Type 0) (keyspace : Keyspace S) (at : Ctx) (command same : KeyCommand) (result : Result (List Part) E)
-    → ((reply : List Part) (new : World) → IsOutcome (key_outcome at.moment (sight blocks keyspace at) same) reply new → may_keys (sight blocks keyspace at) at.moment same reply new)
+    → ((reply : List Part) (new : World) → IsOutcome (key_outcome at.moment (sight blocks keyspace at) same) reply new → may_keys keyspace.bases.seed (sight blocks keyspace at) at.moment same reply new)
+    → ((reply : List Part) → key_shown keyspace.bases (blocks keyspace.store) at same reply)
     → command ≡ same → Gives blocks keyspace keyspace at same result → Ready blocks keyspace at → Runs blocks step keyspace keyspace at (Keys command) result
-told_keys {E = E} blocks step keyspace at command same result fixed is given ready = asked_keys blocks step keyspace at command same result is (answers result given) ready
-  where
-    answers : (result : Result (List Part) E) → Gives blocks keyspace keyspace at same result → IfOk result (λ reply. may_keys (sight blocks keyspace at) at.moment same reply (sight blocks keyspace at))
-    answers (Ok reply) given = fixed reply (sight blocks keyspace at) (outcome_is (key_outcome at.moment (sight blocks keyspace at) same) reply (sight blocks keyspace at) given)
-    answers (Err x) given = tt
+told_keys blocks step keyspace at command same result fixed shows is given ready =
+    ran_keys blocks step keyspace keyspace at command same result fixed shows is given (unchanged blocks step (key_scope at.db same) keyspace result ready.sound)
 
 -- what is asked of a key alone leaves the world
 pub and_stays : {E : Type 0} (P : List Part → Type 0) (world : World) (result : Result (List Part) E) → IfOk result P → IfOk result (λ reply. P reply × (world ≡ world))
 and_stays P world (Ok reply) p = (p, refl)
 and_stays P world (Err x) p = tt
+
+-- the name of an encoding that is told is the actual one
+pub actual_told : {E : Type 0} (bases : Bases) (m : Blocks) (at : Ctx) (key : List ℕ) (value : Value) (name told : List ℕ) (result : Result (List Part) E) → held.Found value_refs value_of bases m at.db key at.moment value → IsEncodedAs m value name → told ≡ name
+    → IfOk result (λ reply. reply ≡ Bulk told ∷ []) → IfOk result (λ reply. IsActual bases m at key reply)
+actual_told bases m at key value name told (Ok reply) found is same replied = encoded value name found is (replied ∙ ap (λ n. Bulk n ∷ []) same)
+actual_told bases m at key value name told (Err x) found is same replied = tt

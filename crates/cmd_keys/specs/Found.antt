@@ -6,7 +6,7 @@ use Rattle.plain_world.specs.declared.reply.Part.{Part}
 use Rattle.plain_model.specs.Outcomes.{leaves, tells}
 use Rattle.plain_model.specs.ConnectionSteps.{connection_outcome}
 use Rattle.plain_model.specs.declared.connection.ConnectionCommand.{ConnectionCommand}
-use Rattle.plain_model.specs.declared.connection.ConnectionCommand.TheVariants.{Select}
+use Rattle.plain_model.specs.declared.connection.ConnectionCommand.TheVariants.{Select, DebugRehash}
 use Rattle.plain_model.specs.KeySteps.{key_outcome, time_told}
 use Rattle.plain_model.specs.declared.ctx.Ctx.{Ctx}
 use Rattle.plain_model.specs.declared.keys.KeyCommand.{KeyCommand}
@@ -57,3 +57,8 @@ IsDatabase db = IfSome db (λ number. number < 16)
 abbrev pub SelectsNone : ConnectionCommand → Type 0
 SelectsNone (Select number) = ⊥
 SelectsNone other = Unit {0}
+
+-- the command makes no rehash steps of its own
+abbrev pub RehashesNone : ConnectionCommand → Type 0
+RehashesNone (DebugRehash n) = ⊥
+RehashesNone other = Unit {0}

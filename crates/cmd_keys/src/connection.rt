@@ -1,10 +1,13 @@
 //! Commands on the connection and on the server as a whole.
 
-ghost use Rattle.std.specs.Prelude.{◌≡◌, ◌<◌};
+ghost use Rattle.std.specs.Prelude.{◌≡◌, ◌<◌, ℕ, IfOk};
 ghost use Rattle.std.specs.FinMap.{len};
 ghost use Rattle.plain_world.specs.Worlds.{no_keys, with_base};
 ghost use Rattle.plain_model.specs.declared.connection.ConnectionCommand.TheVariants as commands;
+ghost use Rattle.keyspace.specs.Databases.{means, SameSettings};
+ghost use Rattle.keyspace.specs.Sound.{Sound};
 ghost use Rattle.keyspace.specs.Scopes.{no_key, all_keys, everything};
+ghost use Rattle.keyspace.specs.Shown.{IsRehashed};
 ghost use Rattle.keyspace.specs.Commands.{Ready, Held, Kept, sight};
 ghost use Rattle.cmd_keys.specs.Found.{Serves, Tells};
 ghost use Rattle.cmd_keys.specs.Emptied.{IsEmpty};
@@ -105,4 +108,18 @@ pub fn dbsize<B: BlockStore>(keyspace: &mut Keyspace<B>, at: &Ctx) -> Result<Rep
         // So many keys stand in no memory.
         Err(_) => Err(AllocError),
     }
+}
+
+/// `DEBUG REHASH n`: makes so many rehash steps, each in the lowest database whose keys are in a rehash, or else in the lowest
+/// whose deadlines are. The answer is how many of them found a table.
+pub fn debug_rehash<B: BlockStore>(keyspace: &mut Keyspace<B>, steps: u32) -> Result<Reply, Memory>
+    requires sound { Sound keyspace.old.bases (B.blocks keyspace.old.store) }
+    ensures shows { IfOk result (λ reply. IsRehashed B.blocks steps keyspace.old keyspace.new reply) }
+    ensures means { (number : ℕ) → means number keyspace.new.bases (B.blocks keyspace.new.store) ≡ means number keyspace.old.bases (B.blocks keyspace.old.store) }
+    ensures sound { Sound keyspace.new.bases (B.blocks keyspace.new.store) }
+    ensures store { keyspace.new.store ≡ keyspace.old.store }
+    ensures settings { SameSettings keyspace.old.bases keyspace.new.bases }
+{
+    let found = keyspace.rehash(steps);
+    Reply::number(keyspace.alloc(), i64::from(found))
 }

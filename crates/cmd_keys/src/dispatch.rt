@@ -4,12 +4,13 @@ ghost use Rattle.std.specs.Prelude.{◌≡◌, ◌<◌};
 ghost use Rattle.plain_model.specs.Meant.{IsAsked};
 ghost use Rattle.plain_model.specs.declared.command.Command.TheVariants.{Keys, Connection};
 ghost use Rattle.keyspace.specs.Commands.{Ready, Runs};
-ghost use Rattle.cmd_keys.specs.Found.{SelectsNone};
+ghost use Rattle.cmd_keys.specs.Found.{SelectsNone, RehashesNone};
 
 use crate::connection::{dbsize, echo, flushall, flushdb, ping, quit};
 use crate::keys::{
-    copy, del, exists, expire, expireat, expiretime, move_key, object_encoding, persist, pexpire,
-    pexpireat, pexpiretime, pttl, randomkey, rename, renamenx, touch, ttl, type_of, unlink,
+    copy, del, exists, expire, expireat, expiretime, keys_like, move_key, object_encoding, persist,
+    pexpire, pexpireat, pexpiretime, pttl, randomkey, rename, renamenx, scan, touch, ttl, type_of,
+    unlink,
 };
 use blocks::BlockStore;
 use keyspace::Keyspace;
@@ -28,10 +29,10 @@ pub fn run_keys<B: BlockStore>(
     ensures { Runs B.blocks B.step keyspace.old keyspace.new at.now (Keys command.now) result }
 {
     match command {
-        KeyCommand::Del(keys) => del(keyspace, at, keys.as_slice()),
-        KeyCommand::Unlink(keys) => unlink(keyspace, at, keys.as_slice()),
-        KeyCommand::Exists(keys) => exists(keyspace, at, keys.as_slice()),
-        KeyCommand::Touch(keys) => touch(keyspace, at, keys.as_slice()),
+        KeyCommand::Del(names) => del(keyspace, at, names.as_slice()),
+        KeyCommand::Unlink(names) => unlink(keyspace, at, names.as_slice()),
+        KeyCommand::Exists(names) => exists(keyspace, at, names.as_slice()),
+        KeyCommand::Touch(names) => touch(keyspace, at, names.as_slice()),
         KeyCommand::TypeOf(key) => type_of(keyspace, at, key.as_slice()),
         KeyCommand::Expire(key, n, options) => expire(keyspace, at, key.as_slice(), *n, *options),
         KeyCommand::PExpire(key, n, options) => pexpire(keyspace, at, key.as_slice(), *n, *options),
@@ -54,11 +55,13 @@ pub fn run_keys<B: BlockStore>(
         KeyCommand::MoveKey(key, number) => move_key(keyspace, at, key.as_slice(), *number),
         KeyCommand::RandomKey => randomkey(keyspace, at, dice),
         KeyCommand::ObjectEncoding(key) => object_encoding(keyspace, at, key.as_slice()),
+        KeyCommand::KeysLike(pattern) => keys_like(keyspace, at, pattern.as_slice()),
+        KeyCommand::Scan(cursor, options) => scan(keyspace, at, *cursor, options),
     }
 }
 
 /// Runs a command on the connection or the server by its own function. SELECT is none of them: whoever keeps the number of
-/// the selected database answers it.
+/// the selected database answers it. Nor is DEBUG REHASH, which leaves tables as no other command does.
 pub fn run_connection<B: BlockStore>(
     keyspace: &mut Keyspace<B>,
     at: &Ctx,
@@ -66,6 +69,7 @@ pub fn run_connection<B: BlockStore>(
 ) -> Result<Reply, Memory>
     requires ready { Ready B.blocks keyspace.old at.now }
     requires selects { SelectsNone command.now }
+    requires steps { RehashesNone command.now }
     ensures { Runs B.blocks B.step keyspace.old keyspace.new at.now (Connection command.now) result }
 {
     match command {
@@ -76,5 +80,6 @@ pub fn run_connection<B: BlockStore>(
         ConnectionCommand::DbSize => dbsize(keyspace, at),
         ConnectionCommand::FlushDb => flushdb(keyspace, at),
         ConnectionCommand::FlushAll => flushall(keyspace, at),
+        ConnectionCommand::DebugRehash(_) => unreachable!(),
     }
 }

@@ -9,9 +9,10 @@ mod connection;
 mod dispatch;
 mod keys;
 
-pub use connection::{dbsize, echo, flushall, flushdb, ping, quit};
+pub use connection::{dbsize, debug_rehash, echo, flushall, flushdb, ping, quit};
 pub use dispatch::{run_connection, run_keys};
 pub use keys::{
-    copy, del, exists, expire, expireat, expiretime, move_key, object_encoding, persist, pexpire,
-    pexpireat, pexpiretime, pttl, randomkey, rename, renamenx, touch, ttl, type_of, unlink,
+    copy, del, exists, expire, expireat, expiretime, keys_like, move_key, object_encoding, persist,
+    pexpire, pexpireat, pexpiretime, pttl, randomkey, rename, renamenx, scan, touch, ttl, type_of,
+    unlink,
 };
