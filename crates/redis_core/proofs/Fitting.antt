@@ -83,6 +83,8 @@ key_fits db (keys.Copy from to options) = fits_two db from (number_or db options
 key_fits db (keys.MoveKey key number) = fits_two db key number key
 key_fits db keys.RandomKey = fits_none
 key_fits db (keys.ObjectEncoding key) = fits_none
+key_fits db (keys.KeysLike pattern) = fits_none
+key_fits db (keys.Scan cursor options) = fits_none
 
 pub connection_fits : (db : ℕ) (command : ConnectionCommand) → Fits (connection_scope db command) (connection_touched db command)
 connection_fits db (connection.Ping text) = fits_none
@@ -92,6 +94,7 @@ connection_fits db (connection.Select number) = fits_none
 connection_fits db connection.DbSize = fits_keys db (λ other. ⊥)
 connection_fits db connection.FlushDb = fits_all db
 connection_fits db connection.FlushAll = fits_everything
+connection_fits db (connection.DebugRehash n) = fits_none
 
 pub fits_of : (db : ℕ) (command : Command) → Fits (scope_of db command) (touched_of db command)
 fits_of db (Strings command) = string_fits db command
@@ -146,6 +149,8 @@ key_databases db below (keys.Copy from to options) asked = (below, copied db bel
 key_databases db below (keys.MoveKey key number) asked = (below, asked_move (keys.MoveKey key number) key number asked refl)
 key_databases db below keys.RandomKey asked = tt
 key_databases db below (keys.ObjectEncoding key) asked = tt
+key_databases db below (keys.KeysLike pattern) asked = tt
+key_databases db below (keys.Scan cursor options) asked = tt
 
 pub connection_databases : (db : ℕ) → db < 16 → (command : ConnectionCommand) → AreDatabases (connection_touched db command)
 connection_databases db below (connection.Ping text) = tt
@@ -155,6 +160,7 @@ connection_databases db below (connection.Select number) = tt
 connection_databases db below connection.DbSize = below
 connection_databases db below connection.FlushDb = below
 connection_databases db below connection.FlushAll = tt
+connection_databases db below (connection.DebugRehash n) = tt
 
 pub databases_of : (db : ℕ) → db < 16 → (command : Command) → IsAsked command → AreDatabases (touched_of db command)
 databases_of db below (Strings command) asked = string_databases db below command

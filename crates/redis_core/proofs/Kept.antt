@@ -10,7 +10,7 @@ use Rattle.plain_model.specs.Steps.{may, step}
 use Rattle.plain_model.specs.StringSteps.{on_string, with_string, or_null, or_empty, ok, allows, append, set_range, number_at, count_on, count, any_there, set_outcome, with_lifetime, set_for, getex_outcome, string_outcome}
 use Rattle.plain_model.specs.Deadlines.{due, with_due, from_zero, lasts_until, expire}
 use Rattle.plain_model.specs.KeySteps.{permits, expire_where_permitted, expire_outcome, rename_outcome, renamenx_outcome, or_selected, copy, move, may_keys}
-use Rattle.plain_model.specs.ConnectionSteps.{connection_outcome}
+use Rattle.plain_model.specs.ConnectionSteps.{may_connection}
 use Rattle.plain_model.specs.declared.times.Time.{Time}
 use Rattle.plain_model.specs.declared.times.TimeUnit.{TimeUnit}
 use Rattle.plain_model.specs.declared.times.TimeUnit.TheVariants.{Seconds, Milliseconds}
@@ -137,42 +137,45 @@ module _ (old : World) where
   moved_keeps key number None = λ r. absurd r
   moved_keeps key number (Some entry) = either (is_some (look_in old number key)) _ _ (λ r. absurd r) (λ r. absurd r)
 
-  keys_keep : (moment : ℕ) (command : KeyCommand) (reply : List Part) (new : World) → may_keys old moment command reply new → IsRefusal reply → new ≡ old
-  keys_keep moment (keys.Del words) reply new m r = absurd (subst IsRefusal m.0 r)
-  keys_keep moment (keys.Unlink words) reply new m r = absurd (subst IsRefusal m.0 r)
-  keys_keep moment (keys.Exists words) reply new m r = m.1
-  keys_keep moment (keys.Touch words) reply new m r = m.1
-  keys_keep moment (keys.TypeOf key) reply new m r = m.1
-  keys_keep moment (keys.Expire key n options) reply new m r = m.1 ∙ expire_keeps moment key (record { unit = Seconds; from = Now; n = n }) options (subst IsRefusal m.0 r)
-  keys_keep moment (keys.PExpire key n options) reply new m r = m.1 ∙ expire_keeps moment key (record { unit = Milliseconds; from = Now; n = n }) options (subst IsRefusal m.0 r)
-  keys_keep moment (keys.ExpireAt key n options) reply new m r = m.1 ∙ expire_keeps moment key (record { unit = Seconds; from = Epoch; n = n }) options (subst IsRefusal m.0 r)
-  keys_keep moment (keys.PExpireAt key n options) reply new m r = m.1 ∙ expire_keeps moment key (record { unit = Milliseconds; from = Epoch; n = n }) options (subst IsRefusal m.0 r)
-  keys_keep moment (keys.Ttl key) reply new m r = m.1
-  keys_keep moment (keys.PTtl key) reply new m r = m.1
-  keys_keep moment (keys.ExpireTime key) reply new m r = m.1
-  keys_keep moment (keys.PExpireTime key) reply new m r = m.1
-  keys_keep moment (keys.Persist key) reply new m r = absurd (subst IsRefusal m.0 r)
-  keys_keep moment (keys.Rename from to) reply new m r = m.1 ∙ rename_keeps from to (look old from) (subst IsRefusal m.0 r)
-  keys_keep moment (keys.RenameNx from to) reply new m r = m.1 ∙ renamenx_keeps from to (look old from) (subst IsRefusal m.0 r)
-  keys_keep moment (keys.Copy from to options) reply new m r =
+  keys_keep : (seed moment : ℕ) (command : KeyCommand) (reply : List Part) (new : World) → may_keys seed old moment command reply new → IsRefusal reply → new ≡ old
+  keys_keep seed moment (keys.Del words) reply new m r = absurd (subst IsRefusal m.0 r)
+  keys_keep seed moment (keys.Unlink words) reply new m r = absurd (subst IsRefusal m.0 r)
+  keys_keep seed moment (keys.Exists words) reply new m r = m.1
+  keys_keep seed moment (keys.Touch words) reply new m r = m.1
+  keys_keep seed moment (keys.TypeOf key) reply new m r = m.1
+  keys_keep seed moment (keys.Expire key n options) reply new m r = m.1 ∙ expire_keeps moment key (record { unit = Seconds; from = Now; n = n }) options (subst IsRefusal m.0 r)
+  keys_keep seed moment (keys.PExpire key n options) reply new m r = m.1 ∙ expire_keeps moment key (record { unit = Milliseconds; from = Now; n = n }) options (subst IsRefusal m.0 r)
+  keys_keep seed moment (keys.ExpireAt key n options) reply new m r = m.1 ∙ expire_keeps moment key (record { unit = Seconds; from = Epoch; n = n }) options (subst IsRefusal m.0 r)
+  keys_keep seed moment (keys.PExpireAt key n options) reply new m r = m.1 ∙ expire_keeps moment key (record { unit = Milliseconds; from = Epoch; n = n }) options (subst IsRefusal m.0 r)
+  keys_keep seed moment (keys.Ttl key) reply new m r = m.1
+  keys_keep seed moment (keys.PTtl key) reply new m r = m.1
+  keys_keep seed moment (keys.ExpireTime key) reply new m r = m.1
+  keys_keep seed moment (keys.PExpireTime key) reply new m r = m.1
+  keys_keep seed moment (keys.Persist key) reply new m r = absurd (subst IsRefusal m.0 r)
+  keys_keep seed moment (keys.Rename from to) reply new m r = m.1 ∙ rename_keeps from to (look old from) (subst IsRefusal m.0 r)
+  keys_keep seed moment (keys.RenameNx from to) reply new m r = m.1 ∙ renamenx_keeps from to (look old from) (subst IsRefusal m.0 r)
+  keys_keep seed moment (keys.Copy from to options) reply new m r =
       m.1 ∙ either ((or_selected old options.db == old.selected) && bytes_eq from to) _ _ (λ x. refl) (copied_keeps (or_selected old options.db) to options.replace (look old from)) (subst IsRefusal m.0 r)
-  keys_keep moment (keys.MoveKey key number) reply new m r = m.1 ∙ either (number == old.selected) _ _ (λ x. refl) (moved_keeps key number (look old key)) (subst IsRefusal m.0 r)
-  keys_keep moment keys.RandomKey reply new m r = m.1
-  keys_keep moment (keys.ObjectEncoding key) reply new m r = m.1
+  keys_keep seed moment (keys.MoveKey key number) reply new m r = m.1 ∙ either (number == old.selected) _ _ (λ x. refl) (moved_keeps key number (look old key)) (subst IsRefusal m.0 r)
+  keys_keep seed moment keys.RandomKey reply new m r = m.1
+  keys_keep seed moment (keys.ObjectEncoding key) reply new m r = m.1
+  keys_keep seed moment (keys.KeysLike pattern) reply new m r = m.1
+  keys_keep seed moment (keys.Scan cursor options) reply new m r = m.1
 
-  connection_keeps : (moment : ℕ) (command : ConnectionCommand) → Keeps (connection_outcome moment old command)
-  connection_keeps moment (connection.Ping text) = λ r. refl
-  connection_keeps moment (connection.Echo text) = λ r. refl
-  connection_keeps moment connection.Quit = λ r. refl
-  connection_keeps moment (connection.Select number) = λ r. absurd r
-  connection_keeps moment connection.DbSize = λ r. refl
-  connection_keeps moment connection.FlushDb = λ r. absurd r
-  connection_keeps moment connection.FlushAll = λ r. absurd r
+  connection_keeps : (moment : ℕ) (command : ConnectionCommand) (reply : List Part) (new : World) → may_connection old moment command reply new → IsRefusal reply → new ≡ old
+  connection_keeps moment (connection.Ping text) reply new m r = m.1
+  connection_keeps moment (connection.Echo text) reply new m r = m.1
+  connection_keeps moment connection.Quit reply new m r = m.1
+  connection_keeps moment (connection.Select number) reply new m r = absurd (subst IsRefusal m.0 r)
+  connection_keeps moment connection.DbSize reply new m r = m.1
+  connection_keeps moment connection.FlushDb reply new m r = absurd (subst IsRefusal m.0 r)
+  connection_keeps moment connection.FlushAll reply new m r = absurd (subst IsRefusal m.0 r)
+  connection_keeps moment (connection.DebugRehash n) reply new m r = m.1
 
   command_keeps : (seed moment : ℕ) (command : Command) (reply : List Part) (new : World) → may seed old moment command reply new → IsRefusal reply → new ≡ old
   command_keeps seed moment (Strings command) reply new m r = m.1 ∙ outcome_keeps moment command (subst IsRefusal m.0 r)
-  command_keeps seed moment (Keys command) reply new m r = keys_keep moment command reply new m r
-  command_keeps seed moment (Connection command) reply new m r = m.1 ∙ connection_keeps moment command (subst IsRefusal m.0 r)
+  command_keeps seed moment (Keys command) reply new m r = keys_keep seed moment command reply new m r
+  command_keeps seed moment (Connection command) reply new m r = connection_keeps moment command reply new m r
 
 meant_keeps : (seed moment : ℕ) (old : World) (m : Result Command Refusal) (reply : List Part) (new : World)
     → MatchResult m (λ command. may seed old moment command reply new) (λ refusal. (reply ≡ Refused refusal ∷ []) × (new ≡ old)) → IsRefusal reply → new ≡ old

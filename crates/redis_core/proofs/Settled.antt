@@ -1,16 +1,16 @@
 -- What a command leaves when the tables that it touched are settled.
-use Rattle.std.proofs.Common.{◌≡◌, ◌⊎◌, inl, inr, ℕ, ◌+◌, ◌<◌, ◌≤◌, zero, suc, get_or, List, [], ◌∷◌, Option, Some, None, Result, Ok, Err, IfOk, OnOk, Bool, true, false, length, refl, sym, ap, ◌∙◌, subst, arith}
+use Rattle.std.proofs.Common.{◌≡◌, inl, inr, ℕ, ◌+◌, ◌<◌, ◌≤◌, zero, suc, get_or, List, [], ◌∷◌, Some, Result, Ok, Err, OnOk, length, refl, sym, ap, ◌∙◌, subst, arith}
 use Rattle.std.proofs.lemmas.Bool.{cases_eq, cases_lt, cond-true}
 use Rattle.blocks.specs.Blocks.{Blocks, ref_eq}
 use Rattle.blocks.proofs.Refs.{ref_eq-refl}
 use Rattle.blocks.proofs.Change.{one_if}
 use Rattle.rehash_dict.specs.Tables.{IsSettled}
-use Rattle.rehash_dict.specs.Table.{tables}
+use Rattle.rehash_dict.specs.Table.{at_item, tables}
 use Rattle.held.specs.declared.databases.Base.{Base}
-use Rattle.held.specs.Table.{Table, Element, item}
+use Rattle.held.specs.Table.{Element, item}
 use Rattle.held.specs.Databases.{no_base, base_at, table_at, deadlines_at}
 use Rattle.held.proofs.Within.{within_wider}
-use Rattle.plain_world.specs.Worlds.{World, live, selecting}
+use Rattle.plain_world.specs.Worlds.{live}
 use Rattle.plain_world.specs.declared.reply.Part.{Part}
 use Rattle.plain_model.specs.Outcomes.{IsRefusal}
 use Rattle.plain_model.specs.Steps.{may}
@@ -21,13 +21,25 @@ use Rattle.keyspace.specs.Values.{value_refs}
 use Rattle.keyspace.specs.Databases.{Bases, Keyspace, means}
 use Rattle.keyspace.specs.Sound.{Sound}
 use Rattle.keyspace.specs.Scopes.{Scope, no_key, Within, AreSettled, scope_of}
-use Rattle.keyspace.specs.Commands.{sight, Held, Kept, Runs}
-use Rattle.keyspace.proofs.Running.{held_then, same_held}
+use Rattle.keyspace.specs.Commands.{sight, Held, Runs}
+use Rattle.keyspace.proofs.Running.{held_then}
 use Rattle.keyspace.proofs.Serving.{further}
 use Rattle.redis_core.specs.declared.settling.Touched.{Touched}
-use Rattle.redis_core.specs.declared.settling.Touched.TheVariants.{Nothing, One, Two, All}
-use Rattle.redis_core.specs.Touched.{covers, shrinking, touched_of, Lost, Settles}
+use Rattle.redis_core.specs.declared.settling.Touched.TheVariants.{One, Two}
+use Rattle.keyspace.specs.Shown.{Shows, connection_shown}
+use Rattle.cmd_keys.specs.Found as found
+use Rattle.plain_model.specs.declared.command.Command.TheVariants.{Strings, Keys, Connection}
+use Rattle.plain_model.specs.declared.connection.ConnectionCommand.{ConnectionCommand}
+use Rattle.plain_model.specs.declared.connection.ConnectionCommand.TheVariants as connection
+use Rattle.redis_core.specs.Touched.{covers, shrinking, touched_of, RehashesNone, Lost, Settles}
 use Rattle.redis_core.proofs.Fitting.{Fits, fits_of, covers_or}
+
+-- where elements keep their item numbers no key is lost
+pub settles_items : (old new : Bases) (m : Blocks) → ((db : ℕ) → (table_at new db).items ≡ (table_at old db).items) → ((db : ℕ) → (deadlines_at new db).table.items ≡ (deadlines_at old db).table.items) → Settles old new m m
+settles_items old new m keys deadlines = record {
+  keys = λ db lost. absurd (lost.gone.each lost.at lost.stood.element (ap (λ items. at_item items lost.at) (keys db) ∙ lost.stood.found) lost.stood.bytes);
+  deadlines = λ db lost. absurd (lost.gone.each lost.at lost.stood.element (ap (λ items. at_item items lost.at) (deadlines db) ∙ lost.stood.found) lost.stood.bytes);
+}
 
 -- where nothing changed no key is lost
 pub settles_none : (bases : Bases) (m : Blocks) → Settles bases bases m m
@@ -64,6 +76,22 @@ module _ (scope : Scope) (touched : Touched) (fits : Fits scope touched) (old ne
     deadlines = λ db lost. elim (covers_or touched db) [ inl here ↦ (settled db here).deadlines | inr apart ↦ absurd (no_deadline_lost db apart lost) ];
   }
 
+-- what a reply shows of the tables before it, it shows whatever follows
+connection_shows_on : {S : Type 0} (blocks : S → Blocks) (old mid new : Keyspace S) (command : ConnectionCommand) → found.RehashesNone command → (reply : List Part) → connection_shown blocks old mid command reply → connection_shown blocks old new command reply
+connection_shows_on blocks old mid new (connection.Ping text) none reply s = tt
+connection_shows_on blocks old mid new (connection.Echo text) none reply s = tt
+connection_shows_on blocks old mid new connection.Quit none reply s = tt
+connection_shows_on blocks old mid new (connection.Select number) none reply s = tt
+connection_shows_on blocks old mid new connection.DbSize none reply s = tt
+connection_shows_on blocks old mid new connection.FlushDb none reply s = tt
+connection_shows_on blocks old mid new connection.FlushAll none reply s = tt
+connection_shows_on blocks old mid new (connection.DebugRehash n) none reply s = absurd none
+
+shows_on : {S : Type 0} (blocks : S → Blocks) (old mid new : Keyspace S) (at : Ctx) (command : Command) → RehashesNone command → (reply : List Part) → Shows blocks old mid at command reply → Shows blocks old new at command reply
+shows_on blocks old mid new at (Strings command) none reply s = tt
+shows_on blocks old mid new at (Keys command) none reply s = s
+shows_on blocks old mid new at (Connection command) none reply s = connection_shows_on blocks old mid new command none reply s
+
 -- ---- a command ran, and then its tables were settled
 
 module _ {S E : Type 0} (blocks : S → Blocks) (step : S → S → Type 0) (old mid new : Keyspace S) (at : Ctx) (command : Command) (reply : List Part) (calm : IsRefusal reply → ⊥)
@@ -81,14 +109,16 @@ module _ {S E : Type 0} (blocks : S → Blocks) (step : S → S → Type 0) (old
         within = within_wider value_refs (shrinking (touched_of at.db command)) (scope_of at.db command) (fits_of at.db command).into (λ number key no. absurd no) (λ number no. absurd no) mid.bases new.bases (blocks mid.store) (blocks new.store) settled.within;
       })
 
-  pub settled_runs : ((number : ℕ) → means number new.bases (blocks new.store) ≡ means number mid.bases (blocks mid.store)) → Runs {E = E} blocks step old new at command (Ok reply)
-  settled_runs world = record {
+  pub settled_runs : RehashesNone command → ((number : ℕ) → means number new.bases (blocks new.store) ≡ means number mid.bases (blocks mid.store)) → Runs {E = E} blocks step old new at command (Ok reply)
+  settled_runs none world = record {
+    shows = shows_on blocks old mid new at command none reply ran.shows;
     answers = subst (λ w. may old.bases.seed (sight blocks old at) at.moment command reply (live w at.moment)) (sym (world at.db)) ran.answers;
     kept = record { refusals = λ refused. absurd (calm refused); sound = held_both.sound; served = held_both.served; settings = held_both.settings; within = held_both.within };
   }
 
   pub settled_fails : (e : E) → Runs {E = E} blocks step old new at command (Err e)
   settled_fails e = record {
+    shows = tt;
     answers = tt;
     kept = record { refusals = tt; sound = held_both.sound; served = held_both.served; settings = held_both.settings; within = held_both.within };
   }

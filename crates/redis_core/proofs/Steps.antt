@@ -9,7 +9,7 @@ use Rattle.plain_model.specs.Meant.{quits as quits_of}
 use Rattle.plain_model.specs.Outcomes.{IsRefusal}
 use Rattle.plain_model.proofs.Asked.{FitsCommand, command_fits}
 use Rattle.plain_model.specs.declared.command.Command.TheVariants.{Connection}
-use Rattle.plain_model.specs.declared.connection.ConnectionCommand.TheVariants.{Select}
+use Rattle.plain_model.specs.declared.connection.ConnectionCommand.TheVariants.{Select, DebugRehash}
 use Rattle.plain_world.proofs.Lives.{live_later}
 use Rattle.plain_model.specs.Steps.{may, step}
 use Rattle.plain_model.specs.declared.command.Command.{Command}
@@ -24,10 +24,13 @@ use Rattle.keyspace.specs.Sound.{Sound}
 use Rattle.keyspace.specs.Scopes.{Within, scope_of}
 use Rattle.keyspace.proofs.Running.{same_settings}
 use Rattle.keyspace.proofs.Serving.{unmoved}
-use Rattle.redis_core.specs.Touched.{scope_meant, scope_asked, Settles}
-use Rattle.redis_core.proofs.Settled.{settles_none}
+use Rattle.keyspace.specs.Databases.{SameSettings}
+use Rattle.keyspace.specs.Shown.{Shows, IsRehashed}
+use Rattle.held.proofs.Rehashing.{keys_stay, deadlines_stay}
+use Rattle.redis_core.specs.Touched.{scope_meant, scope_asked, RehashesNone, AsksNoSteps, ShowsMeant, Settles}
+use Rattle.redis_core.proofs.Settled.{settles_none, settles_items}
 use Rattle.redis_core.specs.declared.answering.Answered.{Answered}
-use Rattle.redis_core.specs.Engines.{State, world_of, Keeps, Executes, Stands, Leads, Answers}
+use Rattle.redis_core.specs.Engines.{State, keyspace_of, world_of, Keeps, Executes, Stands, Leads, Answers}
 
 module _ (at : Ctx) (words : Words) where
   -- what a request may be answered, from what its words mean
@@ -38,7 +41,8 @@ module _ {S E : Type 0} (blocks : S → Blocks) (step_of : S → S → Type 0) (
   -- a command that selects no database ran
   pub family_leads : (old new : Keyspace S) (command : Command) (reply : List Part) (quit : Bool) → at.db < 16 → quit ≡ is_quit command → Runs {E = E} blocks step_of old new at command (Ok reply) → Settles old.bases new.bases (blocks old.store) (blocks new.store) → Leads {E = E} blocks step_of old new at command (Ok (record { reply = reply; selected = at.db; quit = quit }))
   family_leads old new command reply quit within is r settles = record {
-    within = r.kept.within;
+    within = λ none. r.kept.within;
+    shows = r.shows;
     settles = settles;
     answers = r.answers;
     quits = is;
@@ -47,7 +51,8 @@ module _ {S E : Type 0} (blocks : S → Blocks) (step_of : S → S → Type 0) (
 
   pub family_fails : (old new : Keyspace S) (command : Command) (e : E) → Runs blocks step_of old new at command (Err e) → Leads blocks step_of old new at command (Err e)
   family_fails old new command e r = record {
-    within = r.kept.within;
+    within = λ none. r.kept.within;
+    shows = tt;
     settles = tt;
     answers = tt;
     quits = tt;
@@ -62,7 +67,8 @@ module _ {S E : Type 0} (blocks : S → Blocks) (step_of : S → S → Type 0) (
   -- SELECT
   pub select_leads : (keyspace : Keyspace S) (command : Command) (number : ℕ) (reply : List Part) → Ready blocks keyspace at → IsAsked command → command ≡ Connection (Select number) → reply ≡ Simple (codes "OK") ∷ [] → Leads {E = E} blocks step_of keyspace keyspace at command (Ok (record { reply = reply; selected = number; quit = false }))
   select_leads keyspace command number reply ready asked is told = record {
-    within = unmoved (scope_of at.db command) keyspace.bases (blocks keyspace.store);
+    within = λ none. unmoved (scope_of at.db command) keyspace.bases (blocks keyspace.store);
+    shows = subst (λ c. Shows blocks keyspace keyspace at c reply) (sym is) tt;
     settles = settles_none keyspace.bases (blocks keyspace.store);
     answers = subst (λ c. may keyspace.bases.seed (sight blocks keyspace at) at.moment c reply (live (means number keyspace.bases (blocks keyspace.store)) at.moment)) (sym is) (told, refl);
     quits = sym (ap is_quit is);
@@ -70,26 +76,51 @@ module _ {S E : Type 0} (blocks : S → Blocks) (step_of : S → S → Type 0) (
   }
 
   pub select_fails : (keyspace : Keyspace S) (command : Command) (e : E) → Ready blocks keyspace at → Leads blocks step_of keyspace keyspace at command (Err e)
-  select_fails keyspace command e ready = record { within = unmoved (scope_of at.db command) keyspace.bases (blocks keyspace.store); settles = tt; answers = tt; quits = tt; stands = stays keyspace (Err e) ready.sound tt tt }
+  select_fails keyspace command e ready = record { within = λ none. unmoved (scope_of at.db command) keyspace.bases (blocks keyspace.store); shows = tt; settles = tt; answers = tt; quits = tt; stands = stays keyspace (Err e) ready.sound tt tt }
+
+  -- DEBUG REHASH
+  pub rehash_leads : (old new : Keyspace S) (command : Command) (steps : ℕ) (reply : List Part) → Ready blocks old at → command ≡ Connection (DebugRehash steps) → IsRehashed blocks steps old new reply
+      → ((number : ℕ) → means number new.bases (blocks new.store) ≡ means number old.bases (blocks old.store)) → Sound new.bases (blocks new.store) → SameSettings old.bases new.bases
+      → Leads {E = E} blocks step_of old new at command (Ok (record { reply = reply; selected = at.db; quit = false }))
+  rehash_leads old new command steps reply ready is shown world sound settings = record {
+    within = λ none. absurd (subst RehashesNone is none);
+    shows = subst (λ c. Shows blocks old new at c reply) (sym is) shown;
+    settles = subst (λ (s : S). Settles old.bases new.bases (blocks old.store) (blocks s)) (sym shown.store) (settles_items old.bases new.bases (blocks old.store) (keys_stay shown.tables) (deadlines_stay shown.tables));
+    answers = subst (λ c. may old.bases.seed (sight blocks old at) at.moment c reply (live (means at.db new.bases (blocks new.store)) at.moment)) (sym is) ((shown.found, shown.tables.few, shown.is), ap (λ w. live w at.moment) (world at.db));
+    quits = sym (ap is_quit is);
+    stands = record { within = ready.db; refused = λ r. absurd (subst IsRefusal shown.is r); sound = sound; served = subst (λ (s : S). Served step_of old.store s) (sym shown.store) no_step; settings = settings };
+  }
+
+  pub rehash_fails : (old new : Keyspace S) (command : Command) (steps : ℕ) (e : E) → command ≡ Connection (DebugRehash steps) → new.store ≡ old.store → Sound new.bases (blocks new.store) → SameSettings old.bases new.bases → Leads blocks step_of old new at command (Err e)
+  rehash_fails old new command steps e is store sound settings = record {
+    within = λ none. absurd (subst RehashesNone is none);
+    shows = tt;
+    settles = tt;
+    answers = tt;
+    quits = tt;
+    stands = record { within = tt; refused = tt; sound = sound; served = subst (λ (s : S). Served step_of old.store s) (sym store) no_step; settings = settings };
+  }
 
 module _ {S E : Type 0} (blocks : S → Blocks) (step_of : S → S → Type 0) (at : Ctx) (words : Words) where
   -- the command of a request ran
   pub ran : (old new : Keyspace S) (command : Command) (result : Result Answered E) → meant words ≡ Ok command
       → Leads blocks step_of old new at command result → Answers blocks step_of old new at words result
   ran old new command (Ok answered) e r = record {
-    within = subst (λ m. Within (scope_meant at.db m) old.bases new.bases (blocks old.store) (blocks new.store)) (sym e) r.within;
+    within = subst (λ m. AsksNoSteps m → Within (scope_meant at.db m) old.bases new.bases (blocks old.store) (blocks new.store)) (sym e) r.within;
+    shows = subst (λ m. ShowsMeant blocks old new at m answered.reply) (sym e) r.shows;
     settles = r.settles;
     answers = subst (λ m. leads at words old.bases.seed (means at.db old.bases (blocks old.store)) m answered.reply (live (means answered.selected new.bases (blocks new.store)) at.moment)) (sym e) r.answers;
     quits = r.quits ∙ sym (ap quits_of e);
     stands = r.stands;
   }
-  ran old new command (Err x) e r = record { within = subst (λ m. Within (scope_meant at.db m) old.bases new.bases (blocks old.store) (blocks new.store)) (sym e) r.within; settles = tt; answers = tt; quits = tt; stands = r.stands }
+  ran old new command (Err x) e r = record { shows = tt; within = subst (λ m. AsksNoSteps m → Within (scope_meant at.db m) old.bases new.bases (blocks old.store) (blocks new.store)) (sym e) r.within; settles = tt; answers = tt; quits = tt; stands = r.stands }
 
   -- the words of a request are refused
   pub refused : (keyspace : Keyspace S) (refusal : Refusal) (reply : List Part) → Ready blocks keyspace at → meant words ≡ Err refusal
       → reply ≡ Refused refusal ∷ [] → Answers {E = E} blocks step_of keyspace keyspace at words (Ok (record { reply = reply; selected = at.db; quit = false }))
   refused keyspace refusal reply ready e told = record {
-    within = unmoved (scope_asked at.db words) keyspace.bases (blocks keyspace.store);
+    within = λ none. unmoved (scope_asked at.db words) keyspace.bases (blocks keyspace.store);
+    shows = subst (λ m. ShowsMeant blocks keyspace keyspace at m reply) (sym e) tt;
     settles = settles_none keyspace.bases (blocks keyspace.store);
     answers = subst (λ m. leads at words keyspace.bases.seed (means at.db keyspace.bases (blocks keyspace.store)) m reply (live (means at.db keyspace.bases (blocks keyspace.store)) at.moment)) (sym e) (told, refl);
     quits = sym (ap quits_of e);
@@ -98,7 +129,7 @@ module _ {S E : Type 0} (blocks : S → Blocks) (step_of : S → S → Type 0) (
 
   -- memory was refused before anything changed
   pub not_read : (keyspace : Keyspace S) (e : E) → Ready blocks keyspace at → Answers blocks step_of keyspace keyspace at words (Err e)
-  not_read keyspace e ready = record { within = unmoved (scope_asked at.db words) keyspace.bases (blocks keyspace.store); settles = tt; answers = tt; quits = tt; stands = stays blocks step_of at keyspace (Err e) ready.sound tt tt }
+  not_read keyspace e ready = record { shows = tt; within = λ none. unmoved (scope_asked at.db words) keyspace.bases (blocks keyspace.store); settles = tt; answers = tt; quits = tt; stands = stays blocks step_of at keyspace (Err e) ready.sound tt tt }
 
 -- a step from what the keyspace means is one from the world that the engine holds: what is gone then is gone now
 from_held : {S : Type 0} (blocks : S → Blocks) (engine inside : State S) (last : ℕ) → inside ≡ record engine { last = last } → (moment : ℕ) → engine.last ≤ moment → (words : Words) (reply : List Part) (new : World)
@@ -126,7 +157,8 @@ executes {S = S} blocks step_of engine inside moment words answered bases store 
     let served : Served step_of inside.store store = a.stands.served in
     let late : inside.last ≡ max engine.last moment = ap (λ x. x.last) e in
     record {
-      within = subst (λ (x : State S). Within (scope_asked x.selected words) x.bases bases (blocks x.store) (blocks store)) e a.within;
+      within = subst (λ (x : State S). AsksNoSteps (meant words) → Within (scope_asked x.selected words) x.bases bases (blocks x.store) (blocks store)) e a.within;
+      shows = subst (λ (x : State S). ShowsMeant blocks (keyspace_of x) (record { bases = bases; store = store }) (record { db = x.selected; moment = inside.last }) (meant words) answered.reply) e a.shows;
       settles = subst (λ (x : State S). Settles x.bases bases (blocks x.store) (blocks store)) e a.settles;
       may = from_held blocks engine inside (max engine.last moment) e inside.last (omega (arith, late)) words answered.reply (world_of blocks new) a.answers;
       last = late;

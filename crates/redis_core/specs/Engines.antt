@@ -5,7 +5,7 @@ use Rattle.plain_world.specs.Words.{Words}
 use Rattle.plain_world.specs.Worlds.{World, live, new_world}
 use Rattle.plain_model.specs.Outcomes.{IsRefusal}
 use Rattle.plain_model.specs.Steps.{may, step}
-use Rattle.plain_model.specs.Meant.{is_quit, asks_to_quit}
+use Rattle.plain_model.specs.Meant.{meant, is_quit, asks_to_quit}
 use Rattle.plain_model.specs.declared.command.Command.{Command}
 use Rattle.plain_model.specs.declared.command.Command.TheVariants.{Strings, Keys, Connection}
 use Rattle.cmd_keys.specs.Found as connection
@@ -17,7 +17,8 @@ use Rattle.keyspace.specs.Sound.{Sound}
 use Rattle.keyspace.specs.Databases.{Keyspace}
 use Rattle.keyspace.specs.Commands.{sight}
 use Rattle.keyspace.specs.Scopes.{Within, scope_of}
-use Rattle.redis_core.specs.Touched.{scope_asked, Settles}
+use Rattle.keyspace.specs.Shown.{Shows}
+use Rattle.redis_core.specs.Touched.{scope_asked, RehashesNone, AsksNoSteps, ShowsMeant, Settles}
 use Rattle.rdb_reader.specs.declared.fault.LoadFault.{LoadFault}
 use Rattle.rdb_reader.specs.declared.fault.LoadFault.TheVariants as faults
 
@@ -51,6 +52,10 @@ module _ {S : Type 0} (blocks : S → Blocks) where
     pub sound : Sound bases (blocks store)
     pub within : selected < 16
 
+-- its databases, over its store
+abbrev pub keyspace_of : {S : Type 0} → State S → Keyspace S
+keyspace_of engine = record { bases = engine.bases; store = engine.store }
+
 -- databases, store and the selected one stay
 pub record Stays {S : Type 0} (old new : State S) : Type 0 where
   pub bases : new.bases ≡ old.bases
@@ -72,7 +77,9 @@ pub record Executes {S : Type 0} (blocks : S → Blocks) (step_of : S → S → 
   pub keeps : Keeps blocks step_of old new
   pub alive : new.is_spent ≡ false
   -- nothing changes outside what the request writes: tables grow from those before, and all other keys keep their blocks
-  pub within : Within (scope_asked old.selected words) old.bases new.bases (blocks old.store) (blocks new.store)
+  pub within : AsksNoSteps (meant words) → Within (scope_asked old.selected words) old.bases new.bases (blocks old.store) (blocks new.store)
+  -- pages are those of the tables as they stand, encodings those of the values, and DEBUG REHASH makes its steps
+  pub shows : ShowsMeant blocks (keyspace_of old) (keyspace_of new) (record { db = old.selected; moment = new.last }) (meant words) reply
   pub settles : Settles old.bases new.bases (blocks old.store) (blocks new.store)
 
 -- QUIT ends the run (Redis command reference, "QUIT")
@@ -106,7 +113,8 @@ pub record Stands {S E : Type 0} (blocks : S → Blocks) (step_of : S → S → 
 pub record Leads {S E : Type 0} (blocks : S → Blocks) (step_of : S → S → Type 0) (old new : Keyspace S) (at : Ctx) (command : Command) (result : Result Answered E) : Type 0 where
   pub answers : IfOk result (λ answered. may old.bases.seed (sight blocks old at) at.moment command answered.reply (live (means answered.selected new.bases (blocks new.store)) at.moment))
   pub quits : IfOk result (λ answered. answered.quit ≡ is_quit command)
-  pub within : Within (scope_of at.db command) old.bases new.bases (blocks old.store) (blocks new.store)
+  pub within : RehashesNone command → Within (scope_of at.db command) old.bases new.bases (blocks old.store) (blocks new.store)
+  pub shows : IfOk result (λ answered. Shows blocks old new at command answered.reply)
   pub settles : IfOk result (λ answered. Settles old.bases new.bases (blocks old.store) (blocks new.store))
   pub stands : Stands blocks step_of old new at result
 
@@ -114,6 +122,7 @@ pub record Leads {S E : Type 0} (blocks : S → Blocks) (step_of : S → S → T
 pub record Answers {S E : Type 0} (blocks : S → Blocks) (step_of : S → S → Type 0) (old new : Keyspace S) (at : Ctx) (words : Words) (result : Result Answered E) : Type 0 where
   pub answers : IfOk result (λ answered. step old.bases.seed (means at.db old.bases (blocks old.store)) at.moment words answered.reply (live (means answered.selected new.bases (blocks new.store)) at.moment))
   pub quits : IfOk result (λ answered. answered.quit ≡ asks_to_quit words)
-  pub within : Within (scope_asked at.db words) old.bases new.bases (blocks old.store) (blocks new.store)
+  pub within : AsksNoSteps (meant words) → Within (scope_asked at.db words) old.bases new.bases (blocks old.store) (blocks new.store)
+  pub shows : IfOk result (λ answered. ShowsMeant blocks old new at (meant words) answered.reply)
   pub settles : IfOk result (λ answered. Settles old.bases new.bases (blocks old.store) (blocks new.store))
   pub stands : Stands blocks step_of old new at result

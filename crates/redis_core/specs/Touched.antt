@@ -16,7 +16,11 @@ use Rattle.plain_model.specs.declared.keys.KeyCommand.{KeyCommand}
 use Rattle.plain_model.specs.declared.keys.KeyCommand.TheVariants as keys
 use Rattle.plain_model.specs.declared.connection.ConnectionCommand.{ConnectionCommand}
 use Rattle.plain_model.specs.declared.connection.ConnectionCommand.TheVariants as connection
-use Rattle.keyspace.specs.Databases.{Bases}
+use Rattle.keyspace.specs.Databases.{Bases, Keyspace}
+use Rattle.keyspace.specs.Shown.{Shows}
+use Rattle.cmd_keys.specs.Found as found
+use Rattle.plain_model.specs.declared.ctx.Ctx.{Ctx}
+use Rattle.plain_world.specs.declared.reply.Part.{Part}
 use Rattle.keyspace.specs.Scopes.{Scope, untouched, number_or, scope_of}
 use Rattle.redis_core.specs.declared.settling.Touched.{Touched}
 use Rattle.redis_core.specs.declared.settling.Touched.TheVariants.{Nothing, One, Two, All}
@@ -79,6 +83,8 @@ key_touched db (keys.Copy from to options) = Two db (number_or db options.db)
 key_touched db (keys.MoveKey key number) = Two db number
 key_touched db keys.RandomKey = Nothing
 key_touched db (keys.ObjectEncoding key) = Nothing
+key_touched db (keys.KeysLike pattern) = Nothing
+key_touched db (keys.Scan cursor options) = Nothing
 
 abbrev pub connection_touched : ℕ → ConnectionCommand → Touched
 connection_touched db (connection.Ping text) = Nothing
@@ -88,6 +94,7 @@ connection_touched db (connection.Select number) = Nothing
 connection_touched db connection.DbSize = One db
 connection_touched db connection.FlushDb = One db
 connection_touched db connection.FlushAll = All
+connection_touched db (connection.DebugRehash n) = Nothing
 
 abbrev pub touched_of : ℕ → Command → Touched
 touched_of db (Strings command) = string_touched db command
@@ -104,9 +111,28 @@ abbrev pub scope_meant : ℕ → Result Command Refusal → Scope
 scope_meant db (Ok command) = scope_of db command
 scope_meant db (Err refusal) = untouched
 
--- what the words of a request may change, where this database is selected; a request that is refused changes nothing
+-- what the words of a request but DEBUG REHASH may change, where this database is selected; a request that is refused changes
+-- nothing
 abbrev pub scope_asked : ℕ → Words → Scope
 scope_asked db words = scope_meant db (meant words)
+
+-- the command makes no rehash steps of its own
+abbrev pub RehashesNone : Command → Type 0
+RehashesNone (Strings command) = Unit {0}
+RehashesNone (Keys command) = Unit {0}
+RehashesNone (Connection command) = found.RehashesNone command
+
+-- the same of what words mean
+abbrev pub AsksNoSteps : Result Command Refusal → Type 0
+AsksNoSteps (Ok command) = RehashesNone command
+AsksNoSteps (Err refusal) = Unit {0}
+
+-- ---- what a reply shows of the tables and values
+
+-- the same of what words mean: a refusal shows nothing
+abbrev pub ShowsMeant : {S : Type 0} → (S → Blocks) → Keyspace S → Keyspace S → Ctx → Result Command Refusal → List Part → Type 0
+ShowsMeant blocks old new at (Ok command) reply = Shows blocks old new at command reply
+ShowsMeant blocks old new at (Err refusal) reply = Unit {0}
 
 -- ---- which tables are settled
 

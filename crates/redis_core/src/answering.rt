@@ -2,16 +2,16 @@
 
 ghost use Rattle.std.specs.Prelude.{◌≡◌, IfOk, IfSome, IfNone, IsTrue, IsFalse};
 ghost use Rattle.plain_model.specs.Outcomes.{IsRefusal};
-ghost use Rattle.redis_core.specs.Touched.{Settles};
+ghost use Rattle.redis_core.specs.Touched.{RehashesNone, Settles};
 ghost use Rattle.plain_model.specs.Meant.{IsAsked, is_quit};
 ghost use Rattle.plain_model.specs.declared.command.Command.TheVariants.{Connection};
-ghost use Rattle.plain_model.specs.declared.connection.ConnectionCommand.TheVariants.{Select};
+ghost use Rattle.plain_model.specs.declared.connection.ConnectionCommand.TheVariants.{Select, DebugRehash};
 ghost use Rattle.keyspace.specs.Commands.{Ready, Runs};
 ghost use Rattle.redis_core.specs.Engines.{Leads, Answers, SelectsNone};
 
 use crate::settling::{settle, touched_by};
 use blocks::BlockStore;
-use cmd_keys::{run_connection, run_keys};
+use cmd_keys::{debug_rehash, run_connection, run_keys};
 use cmd_values::run_strings;
 use command_table::{ReadingFault, read};
 use keyspace::Keyspace;
@@ -41,6 +41,17 @@ fn selected_by(command: &Command) -> Option<usize>
     }
 }
 
+// How many rehash steps a command makes of its own, if it makes any.
+fn steps_of(command: &Command) -> Option<u32>
+    ensures some { IfSome result (λ steps. command.now ≡ Connection (DebugRehash steps)) }
+    ensures none { IfNone result (RehashesNone command.now) }
+{
+    match command {
+        Command::Connection(ConnectionCommand::DebugRehash(steps)) => Some(*steps),
+        _ => None,
+    }
+}
+
 // Whether a command ends the run.
 fn ends_run(command: &Command) -> bool
     ensures { result ≡ is_quit command.now }
@@ -48,7 +59,7 @@ fn ends_run(command: &Command) -> bool
     matches!(command, Command::Connection(ConnectionCommand::Quit))
 }
 
-// Runs a command of any family that selects no database.
+// Runs a command of any family that selects no database and makes no rehash steps of its own.
 fn run_family<B: BlockStore>(
     keyspace: &mut Keyspace<B>,
     at: &Ctx,
@@ -58,6 +69,7 @@ fn run_family<B: BlockStore>(
     requires ready { Ready B.blocks keyspace.old at.now }
     requires asked { IsAsked command.now }
     requires stays { SelectsNone command.now }
+    requires steps { RehashesNone command.now }
     ensures { Runs B.blocks B.step keyspace.old keyspace.new at.now command.now result }
 {
     match command {
@@ -78,7 +90,7 @@ fn is_refusal(reply: &Reply) -> bool
     }
 }
 
-// Runs a command that selects no database. Where it isn't refused, the tables of the databases that it may have changed are
+// Runs a command that selects no database and makes no rehash steps of its own. Where it isn't refused, the tables of the databases that it may have changed are
 // made smaller where their elements are few.
 fn run_settled<B: BlockStore>(
     keyspace: &mut Keyspace<B>,
@@ -89,6 +101,7 @@ fn run_settled<B: BlockStore>(
     requires ready { Ready B.blocks keyspace.old at.now }
     requires asked { IsAsked command.now }
     requires stays { SelectsNone command.now }
+    requires steps { RehashesNone command.now }
     ensures runs { Runs B.blocks B.step keyspace.old keyspace.new at.now command.now result }
     ensures settles { IfOk result (λ reply. Settles keyspace.old.bases keyspace.new.bases (B.blocks keyspace.old.store) (B.blocks keyspace.new.store)) }
 {
@@ -106,7 +119,8 @@ fn run_settled<B: BlockStore>(
     }
 }
 
-// Runs a command of any family. SELECT is answered here, since the engine keeps which database is selected.
+// Runs a command of any family. SELECT is answered here, since the engine keeps which database is selected; no table is made
+// smaller after DEBUG REHASH.
 fn run<B: BlockStore>(
     keyspace: &mut Keyspace<B>,
     at: &Ctx,
@@ -122,6 +136,16 @@ fn run<B: BlockStore>(
             Ok(reply) => Ok(Answered {
                 reply,
                 selected,
+                quit: false,
+            }),
+            Err(error) => Err(error),
+        };
+    }
+    if let Some(steps) = steps_of(command) {
+        return match debug_rehash(keyspace, steps) {
+            Ok(reply) => Ok(Answered {
+                reply,
+                selected: at.db,
                 quit: false,
             }),
             Err(error) => Err(error),

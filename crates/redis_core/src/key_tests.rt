@@ -1,17 +1,9 @@
 //! Each command on keys, deadlines, databases and the connection, one inline request after the other on one engine. The
 //! expected bytes are worked out from the command reference.
 
-ghost use Rattle.std.specs.Prelude.{◌≤◌, length};
-
-use crate::Engine;
-use blocks::PlainStore;
-use object_codec::Limits;
-use outside::MemSink;
-use resp_frames::{Feeder, spell};
+use crate::test_talk::{Row, begun, compare};
+use resp_frames::Feeder;
 use std::test::Fail;
-
-// The moment in milliseconds at which a request comes, the request, and the bytes of its reply.
-struct Row(u64, &'static [u8], &'static [u8]);
 
 const TOLD: [Row; 31] = [
     // a key is there through the moment of its deadline, and a clock that goes back is not believed
@@ -198,73 +190,29 @@ const MOVED: [Row; 37] = [
 
 #[test]
 fn what_is_told_of_deadlines(rt: HostRuntime) -> Result<(), Fail> {
-    let store = PlainStore::new(rt.alloc());
-    let mut engine = Engine::new(rt.alloc(), store, Limits::default(), 7)?;
-    for Row(moment, request, reply) in &TOLD {
-        assert!(rt; request.len() <= 1000);
-        let mut feeder = Feeder::new(rt.alloc());
-        feeder.feed(request)?;
-        assert_eq!(rt; feeder.next_request(), Ok(true));
-        let done = engine.execute(&feeder.current(), *moment)?;
-        let mut sink = MemSink::new(vec![in rt.alloc(); 0; 200]?, Vec::new(rt.alloc()));
-        assert!(rt; spell(&done.reply, &mut sink).is_ok());
-        assert_eq!(rt; sink.written(), *reply);
-        assert!(rt; !done.quit);
-    }
+    let mut engine = begun(rt.alloc())?;
+    compare(&rt, rt.alloc(), &mut engine, &TOLD)?;
     Ok(())
 }
 
 #[test]
 fn deadlines_are_set_and_kept(rt: HostRuntime) -> Result<(), Fail> {
-    let store = PlainStore::new(rt.alloc());
-    let mut engine = Engine::new(rt.alloc(), store, Limits::default(), 7)?;
-    for Row(moment, request, reply) in &SET {
-        assert!(rt; request.len() <= 1000);
-        let mut feeder = Feeder::new(rt.alloc());
-        feeder.feed(request)?;
-        assert_eq!(rt; feeder.next_request(), Ok(true));
-        let done = engine.execute(&feeder.current(), *moment)?;
-        let mut sink = MemSink::new(vec![in rt.alloc(); 0; 200]?, Vec::new(rt.alloc()));
-        assert!(rt; spell(&done.reply, &mut sink).is_ok());
-        assert_eq!(rt; sink.written(), *reply);
-        assert!(rt; !done.quit);
-    }
+    let mut engine = begun(rt.alloc())?;
+    compare(&rt, rt.alloc(), &mut engine, &SET)?;
     Ok(())
 }
 
 #[test]
 fn times_and_keys(rt: HostRuntime) -> Result<(), Fail> {
-    let store = PlainStore::new(rt.alloc());
-    let mut engine = Engine::new(rt.alloc(), store, Limits::default(), 7)?;
-    for Row(moment, request, reply) in &READ {
-        assert!(rt; request.len() <= 1000);
-        let mut feeder = Feeder::new(rt.alloc());
-        feeder.feed(request)?;
-        assert_eq!(rt; feeder.next_request(), Ok(true));
-        let done = engine.execute(&feeder.current(), *moment)?;
-        let mut sink = MemSink::new(vec![in rt.alloc(); 0; 200]?, Vec::new(rt.alloc()));
-        assert!(rt; spell(&done.reply, &mut sink).is_ok());
-        assert_eq!(rt; sink.written(), *reply);
-        assert!(rt; !done.quit);
-    }
+    let mut engine = begun(rt.alloc())?;
+    compare(&rt, rt.alloc(), &mut engine, &READ)?;
     Ok(())
 }
 
 #[test]
 fn keys_move_and_go(rt: HostRuntime) -> Result<(), Fail> {
-    let store = PlainStore::new(rt.alloc());
-    let mut engine = Engine::new(rt.alloc(), store, Limits::default(), 7)?;
-    for Row(moment, request, reply) in &MOVED {
-        assert!(rt; request.len() <= 1000);
-        let mut feeder = Feeder::new(rt.alloc());
-        feeder.feed(request)?;
-        assert_eq!(rt; feeder.next_request(), Ok(true));
-        let done = engine.execute(&feeder.current(), *moment)?;
-        let mut sink = MemSink::new(vec![in rt.alloc(); 0; 200]?, Vec::new(rt.alloc()));
-        assert!(rt; spell(&done.reply, &mut sink).is_ok());
-        assert_eq!(rt; sink.written(), *reply);
-        assert!(rt; !done.quit);
-    }
+    let mut engine = begun(rt.alloc())?;
+    compare(&rt, rt.alloc(), &mut engine, &MOVED)?;
     let mut feeder = Feeder::new(rt.alloc());
     feeder.feed(b"quit now\n")?;
     assert_eq!(rt; feeder.next_request(), Ok(true));

@@ -6,9 +6,13 @@ mod engine;
 #[cfg(test)]
 mod key_tests;
 mod laws;
+#[cfg(test)]
+mod scan_tests;
 mod settling;
 #[cfg(test)]
 mod string_tests;
+#[cfg(test)]
+mod test_talk;
 #[cfg(test)]
 mod tests;
 

@@ -84,6 +84,8 @@ fn touched_by_keys(command: &KeyCommand, db: usize) -> Touched
         KeyCommand::MoveKey(_, number) => Touched::Two(db, *number),
         KeyCommand::RandomKey => Touched::Nothing,
         KeyCommand::ObjectEncoding(_) => Touched::Nothing,
+        KeyCommand::KeysLike(_) => Touched::Nothing,
+        KeyCommand::Scan(_, _) => Touched::Nothing,
     }
 }
 
@@ -98,6 +100,7 @@ fn touched_by_connection(command: &ConnectionCommand, db: usize) -> Touched
         ConnectionCommand::DbSize => Touched::One(db),
         ConnectionCommand::FlushDb => Touched::One(db),
         ConnectionCommand::FlushAll => Touched::All,
+        ConnectionCommand::DebugRehash(_) => Touched::Nothing,
     }
 }
 

@@ -1,9 +1,8 @@
-use Rattle.std.proofs.Common.{◌≡◌, inl, inr, refl, sym, ap, subst, ◌∙◌}
+use Rattle.std.proofs.Common.{inl, inr, refl, sym, subst, ◌∙◌}
 use Rattle.keyspace.proofs.Running.{same_held, held_then}
 use Rattle.keyspace.specs.Commands.{Held}
-use Rattle.keyspace.specs.Scopes.{AreSettled}
 use Rattle.redis_core.specs.declared.settling.Touched.{Touched}
-use Rattle.redis_core.specs.declared.settling.Touched.TheVariants.{Nothing, One, Two, All}
+use Rattle.redis_core.specs.declared.settling.Touched.TheVariants.{One, Two}
 use Rattle.redis_core.specs.Touched.{covers, shrinking, AreDatabases}
 use Rattle.redis_core.proofs.Settled.{held_shrinks, settled_then, one_settled, two_settled, ok_so, covered}
 use Rattle.redis_core.proofs.settling.settle.Goals as goal
