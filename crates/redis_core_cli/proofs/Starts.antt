@@ -1,7 +1,9 @@
 -- A run begins, or does not.
 use Rattle.std.proofs.Common.{◌≡◌, ℕ, List, ap, ◌∙◌, subst, sym, max, arith}
 use Rattle.std.specs.Prelude.{Option, None, Ok, Err, true}
-use Rattle.blocks.specs.Plain.{Plain, plain_blocks, IsPlainStep}
+use Rattle.class_heap.specs.declared.heap.ClassHeap.{ClassHeap}
+use Rattle.class_heap.specs.Heap.{heap_blocks, heap_slabs, IsClassHeapStep}
+use Rattle.blocks.specs.Slabs.{no_slabs}
 use Rattle.blocks.specs.Blocks.{no_blocks, Served, no_step}
 use Rattle.plain_world.specs.Worlds.{World, new_world, live}
 use Rattle.object_codec.specs.declared.limits.Limits.{Limits}
@@ -26,35 +28,37 @@ use Rattle.redis_core_cli.specs.declared.ending.Ending.{Ending}
 pub begun_world : (old new : Engine) (seed : ℕ) (limits : Limits) → Begun seed limits old → Stays old new → world_of new ≡ new_world
 begun_world old new seed limits b same =
     ap (λ w. live w new.last)
-    (ap (λ db. means db new.bases (plain_blocks new.store)) (same.selected ∙ b.new.selected)
-    ∙ ap (λ bases. means 0 bases (plain_blocks new.store)) same.bases
-    ∙ ap (λ store. means 0 old.bases (plain_blocks store)) same.store
+    (ap (λ db. means db new.bases (heap_blocks new.store)) (same.selected ∙ b.new.selected)
+    ∙ ap (λ bases. means 0 bases (heap_blocks new.store)) same.bases
+    ∙ ap (λ store. means 0 old.bases (heap_blocks store)) same.store
     ∙ b.new.empty)
     ∙ new_live new.last
 
 -- a new engine is a first one, and one that was served more stays it
-pub first_new : (engine : Engine) (store : Plain) (seed : ℕ) (limits : Limits) → plain_blocks store ≡ no_blocks → engine.store ≡ store → engine.bases.seed ≡ seed → engine.bases.limits ≡ limits → Sound engine.bases (plain_blocks engine.store) → IsFirst seed limits engine
-first_new engine store seed limits empty same is are sound = record { seed_is = is; limits_are = are; sound = sound; store = store; empty = empty; served = subst (Served IsPlainStep store) (sym same) no_step }
+pub first_new : (engine : Engine) (store : ClassHeap) (seed : ℕ) (limits : Limits) → heap_blocks store ≡ no_blocks → heap_slabs store ≡ no_slabs → engine.store ≡ store → engine.bases.seed ≡ seed → engine.bases.limits ≡ limits → Sound engine.bases (heap_blocks engine.store) → IsFirst seed limits engine
+first_new engine store seed limits empty bare same is are sound = record { seed_is = is; limits_are = are; sound = sound; store = store; empty = empty; bare = bare; served = subst (Served IsClassHeapStep store) (sym same) no_step }
 
-pub first_then : (old new : Engine) (seed : ℕ) (limits : Limits) → IsFirst seed limits old → Keeps plain_blocks IsPlainStep old new → IsFirst seed limits new
+pub first_then : (old new : Engine) (seed : ℕ) (limits : Limits) → IsFirst seed limits old → Keeps heap_blocks IsClassHeapStep old new → IsFirst seed limits new
 first_then old new seed limits f keeps = record {
   seed_is = keeps.settings.seed ∙ f.seed_is;
   limits_are = keeps.settings.limits ∙ f.limits_are;
   sound = keeps.sound;
   store = f.store;
   empty = f.empty;
-  served = both IsPlainStep f.store old.store new.store f.served keeps.served;
+  bare = f.bare;
+  served = both IsClassHeapStep f.store old.store new.store f.served keeps.served;
 }
 
 pub first_stays : (old new : Engine) (seed : ℕ) (limits : Limits) → IsFirst seed limits old → Stays old new → IsFirst seed limits new
 first_stays old new seed limits f same =
-    let S : Plain → Type 0 = λ store. Served IsPlainStep f.store store in
+    let S : ClassHeap → Type 0 = λ store. Served IsClassHeapStep f.store store in
     record {
       seed_is = ap (λ bases. bases.seed) same.bases ∙ f.seed_is;
       limits_are = ap (λ bases. bases.limits) same.bases ∙ f.limits_are;
-      sound = subst (λ bases. Sound bases (plain_blocks new.store)) (sym same.bases) (subst (λ store. Sound old.bases (plain_blocks store)) (sym same.store) f.sound);
+      sound = subst (λ bases. Sound bases (heap_blocks new.store)) (sym same.bases) (subst (λ store. Sound old.bases (heap_blocks store)) (sym same.store) f.sound);
       store = f.store;
       empty = f.empty;
+      bare = f.bare;
       served = subst S (sym same.store) f.served;
     }
 

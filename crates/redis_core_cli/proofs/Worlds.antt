@@ -5,7 +5,9 @@ use Rattle.outside.specs.Streams.{SinkSeen}
 use Rattle.plain_world.specs.Words.{Words}
 use Rattle.plain_world.specs.Worlds.{live}
 use Rattle.plain_world.specs.declared.reply.Part.{Part}
+use Rattle.plain_model.specs.Runs.{Turn, run, calls_of, replies_of}
 use Rattle.plain_model.specs.Steps.{step}
+use Rattle.plain_model.proofs.Covered.{runs_covered}
 use Rattle.redis_core.specs.Engines.{quits}
 use Rattle.serving.proofs.Said.{served_as}
 use Rattle.serving.specs.Timed.{Timed}
@@ -13,7 +15,7 @@ use Rattle.serving.specs.declared.ending.Ended.{Ended}
 use Rattle.serving.specs.declared.ending.Ended.TheVariants as served
 use Rattle.redis_core_cli.specs.Engines.{Engine, world_of, IsFirst}
 use Rattle.redis_core_cli.specs.Given.{Options, Given, Wrong, Run, Outside, options_read, given_read}
-use Rattle.redis_core_cli.specs.Headline.{MayAnswer, never, standing_clock}
+use Rattle.redis_core_cli.specs.Headline.{Clocked, MayAnswer, never, standing_clock}
 use Rattle.redis_core_cli.specs.Running as running
 use Rattle.redis_core_cli.specs.Running.{Runs, begun, not_begun, RunsOf, RunsWords, unread, ReadsNoMore}
 use Rattle.redis_core_cli.specs.Starting.{Standing, ReadsMoment, BeginsWith, Begins}
@@ -23,24 +25,36 @@ use Rattle.redis_core_cli.specs.declared.words.Given.TheVariants as read
 use Rattle.redis_core_cli.specs.declared.words.Options as words_options
 use Rattle.redis_core_cli.specs.declared.ending.Ending.{Ending}
 
-pub path_answers : (options : Options) (asked : List Words) (replies : List (List Part)) (first last : Timed Engine) → first.engine.bases.seed ≡ options.seed → goes options first asked replies last → MayAnswer options (standing_of first) asked replies (standing_of last)
-path_answers options [] [] first last seed p = record {
+-- the turns of an engine's way
+record Turns (options : Options) (first : Standing) (asked : List Words) (replies : List (List Part)) (last : Standing) : Type 0 where
+  turns : List Turn
+  clocked : Clocked first.last first.clock asked (calls_of turns) last.last last.clock
+  are : replies_of turns ≡ replies
+  ran : run options.seed first.world turns last.world
+
+path_turns : (options : Options) (asked : List Words) (replies : List (List Part)) (first last : Timed Engine) → first.engine.bases.seed ≡ options.seed → goes options first asked replies last → Turns options (standing_of first) asked replies (standing_of last)
+path_turns options [] [] first last seed p = record {
   turns = [];
   clocked = (ap (λ t. t.engine.last) p, ap (λ t. t.clock) p);
   are = refl;
   ran = ap (λ t. world_of t.engine) p;
 }
-path_answers options [] (reply ∷ replies) first last seed p = absurd p
-path_answers options (words ∷ asked) [] first last seed p = absurd p
-path_answers options (words ∷ asked) (reply ∷ replies) first last seed p =
+path_turns options [] (reply ∷ replies) first last seed p = absurd p
+path_turns options (words ∷ asked) [] first last seed p = absurd p
+path_turns options (words ∷ asked) (reply ∷ replies) first last seed p =
     let mid : Timed Engine = p.0 in
-    let next = path_answers options asked replies mid last (p.1.answers.keeps.settings.seed ∙ seed) p.2 in
+    let next = path_turns options asked replies mid last (p.1.answers.keeps.settings.seed ∙ seed) p.2 in
     record {
       turns = record { call = record { words = words; moment = mid.engine.last }; seen = live (world_of first.engine) mid.engine.last; reply = reply } ∷ next.turns;
       clocked = (p.1.now, mid.clock, p.1.read, refl, p.1.answers.last, next.clocked);
       are = ap (λ l. reply ∷ l) next.are;
       ran = (refl, world_of mid.engine, subst (λ s. step s (world_of first.engine) mid.engine.last words reply (world_of mid.engine)) seed p.1.answers.may, next.ran);
     }
+
+pub path_answers : (options : Options) (asked : List Words) (replies : List (List Part)) (first last : Timed Engine) → first.engine.bases.seed ≡ options.seed → goes options first asked replies last → MayAnswer options (standing_of first) asked replies (standing_of last)
+path_answers options asked replies first last seed p =
+    let t = path_turns options asked replies first last seed p in
+    record { turns = t.turns; clocked = t.clocked; are = t.are; ran = t.ran; covered = runs_covered options.seed (world_of first.engine) t.turns (world_of last.engine) t.ran }
 
 -- where all is answered, what is seen of the last state has its clock
 reads_seen : (last : Timed Engine) (seen : Standing) (ended : Ended) (clock : Option Answers) → (ended ≡ served.WriteFault) ⊎ ((ended ≡ served.Memory) ⊎ (seen ≡ standing_of last)) → ReadsNoMore ended last.clock clock → ReadsNoMore ended seen.clock clock

@@ -1,7 +1,9 @@
--- The program's engine, over a plain store.
+-- The program's engine, over a class heap.
 use Rattle.std.specs.Prelude.{◌≡◌, ℕ}
 use Rattle.blocks.specs.Blocks.{no_blocks, Served}
-use Rattle.blocks.specs.Plain.{Plain, plain_blocks, IsPlainStep}
+use Rattle.blocks.specs.Slabs.{no_slabs}
+use Rattle.class_heap.specs.declared.heap.ClassHeap.{ClassHeap}
+use Rattle.class_heap.specs.Heap.{heap_blocks, heap_slabs, IsClassHeapStep}
 use Rattle.plain_world.specs.Worlds.{World}
 use Rattle.object_codec.specs.declared.limits.Limits.{Limits}
 use Rattle.keyspace.specs.Sound.{Sound}
@@ -9,23 +11,24 @@ use Rattle.redis_core.specs.Engines.{State, IsNew}
 use Rattle.redis_core.specs.Engines as engines
 
 abbrev pub Engine : Type 0
-Engine = State Plain
+Engine = State ClassHeap
 
 -- the world that it holds
 abbrev pub world_of : Engine → World
-world_of engine = engines.world_of plain_blocks engine
+world_of engine = engines.world_of heap_blocks engine
 
 -- Its hashes have this seed and its values these limits, and its keyspace is sound: each live block of the store is owned exactly once. The store was
--- served placings, returns and writes alone, from one without a block.
+-- served placings by the heap's rule, returns and writes alone, from one without a block or a slab.
 pub record IsFirst (seed : ℕ) (limits : Limits) (engine : Engine) : Type 0 where
   pub seed_is : engine.bases.seed ≡ seed
   pub limits_are : engine.bases.limits ≡ limits
-  pub sound : Sound engine.bases (plain_blocks engine.store)
-  pub store : Plain
-  pub empty : plain_blocks store ≡ no_blocks
-  pub served : Served IsPlainStep store engine.store
+  pub sound : Sound engine.bases (heap_blocks engine.store)
+  pub store : ClassHeap
+  pub empty : heap_blocks store ≡ no_blocks
+  pub bare : heap_slabs store ≡ no_slabs
+  pub served : Served IsClassHeapStep store engine.store
 
 -- it has no key yet
 pub record Begun (seed : ℕ) (limits : Limits) (engine : Engine) : Type 0 where
-  pub new : IsNew plain_blocks engine
+  pub new : IsNew heap_blocks engine
   pub first : IsFirst seed limits engine

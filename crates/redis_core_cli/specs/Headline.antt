@@ -7,6 +7,7 @@ use Rattle.outside.specs.Streams.{SinkSeen}
 use Rattle.plain_world.specs.Worlds.{World}
 use Rattle.plain_world.specs.Words.{Words}
 use Rattle.plain_world.specs.declared.reply.Part.{Part}
+use Rattle.plain_model.specs.Coverage.{IsCovered}
 use Rattle.plain_model.specs.Runs.{run, Call, Turn, calls_of, replies_of, moment_after}
 use Rattle.rdb_grammar.specs.Files.{IsFile, IsFault}
 use Rattle.rdb_grammar.specs.declared.fault.LoadKind.{LoadKind}
@@ -31,12 +32,14 @@ Clocked last clock (words ∷ asked) (call ∷ calls) last' clock' =
 Clocked last clock [] (call ∷ calls) last' clock' = ⊥
 Clocked last clock (words ∷ asked) [] last' clock' = ⊥
 
--- from here on, a plain map may answer the requests by these replies
+-- From here on, a plain map may answer the requests by these replies, and each complete scan among them covers all that stayed
+-- throughout it.
 pub record MayAnswer (options : Options) (first : Standing) (asked : List Words) (replies : List (List Part)) (last : Standing) : Type 0 where
   pub turns : List Turn
   pub clocked : Clocked first.last first.clock asked (calls_of turns) last.last last.clock
   pub are : replies_of turns ≡ replies
   pub ran : run options.seed first.world turns last.world
+  pub covered : IsCovered turns
 
 -- what is known of a world is known whether memory is refused or not
 abbrev pub never : Standing → Bool

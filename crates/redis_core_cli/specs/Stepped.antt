@@ -2,7 +2,7 @@
 use Rattle.std.specs.Prelude.{◌≡◌, ℕ, List, Option, Bool}
 use Rattle.outside.specs.Clocks.{Answers}
 use Rattle.outside.specs.Streams.{SinkSeen}
-use Rattle.blocks.specs.Plain.{plain_blocks, IsPlainStep}
+use Rattle.class_heap.specs.Heap.{heap_blocks, IsClassHeapStep}
 use Rattle.plain_world.specs.Words.{Words}
 use Rattle.plain_world.specs.declared.reply.Part.{Part}
 use Rattle.redis_core.specs.Engines.{Executes}
@@ -28,7 +28,7 @@ pub record BeginsEngine (options : Options) (before : Outside) (first : Timed En
 
 -- the replies are those of the engine's way
 abbrev pub goes : Options → Timed Engine → List Words → List (List Part) → Timed Engine → Type 0
-goes options first = path (TimedStep (Executes plain_blocks IsPlainStep)) first
+goes options first = path (TimedStep (Executes heap_blocks IsClassHeapStep)) first
 
 abbrev pub is_spent : Timed Engine → Bool
 is_spent timed = timed_spent (λ engine. engine.is_spent) timed

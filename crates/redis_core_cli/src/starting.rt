@@ -8,7 +8,7 @@ ghost use Rattle.redis_core_cli.specs.Starting.{Starts, LoadsNamed, UsesHost, Co
 
 use crate::ending::Ending;
 use crate::words::Options;
-use blocks::PlainStore;
+use class_heap::ClassHeap;
 use object_codec::Limits;
 use outside::Host;
 use rdb_reader::LoadFault;
@@ -28,12 +28,12 @@ fn not_loaded(fault: LoadFault) -> Ending
 }
 
 // An engine without a key.
-fn begin(alloc: Global, limits: Limits, seed: u64) -> Result<Engine<PlainStore>, Ending>
+fn begin(alloc: Global, limits: Limits, seed: u64) -> Result<Engine<ClassHeap>, Ending>
     requires { AreInRange limits }
     ensures begun { IfOk result (λ engine. Begun seed limits engine) }
     ensures memory { IfErr result (λ ending. ending ≡ Ending.Memory) }
 {
-    match Engine::new(alloc, PlainStore::new(alloc), limits, seed) {
+    match Engine::new(alloc, ClassHeap::new(alloc), limits, seed) {
         Ok(engine) => Ok(engine),
         Err(_) => Err(Ending::Memory),
     }
@@ -41,7 +41,7 @@ fn begin(alloc: Global, limits: Limits, seed: u64) -> Result<Engine<PlainStore>,
 
 // Loads the host's file of this name.
 fn load_file<H: Host>(
-    engine: &mut Engine<PlainStore>,
+    engine: &mut Engine<ClassHeap>,
     host: &mut H,
     name: &str,
     limit: u64,
@@ -66,7 +66,7 @@ pub fn start<H: Host>(
     options: Options<'_>,
     host: &mut H,
     moment: u64,
-) -> Result<Engine<PlainStore>, Ending>
+) -> Result<Engine<ClassHeap>, Ending>
     requires { AreInRange options.limits }
     ensures starts { Starts (H.seen host.old).files (options_read options.entry) moment result }
     ensures host { UsesHost (options_read options.entry).file (H.seen host.old) (H.seen host.new) (host_failed result) }
