@@ -11,13 +11,13 @@ use Rattle.stream_node.proofs.Lists.{Texts, first, behind, same_fronts}
 use Rattle.stream_node.proofs.Same.{same_number}
 use Rattle.stream_node.proofs.Marches.{Next, same_entries, goes_on, not_back}
 
-record SameHead (live : ℕ) (deleted : ℕ) (master : Texts) (rest : Texts) (l : ℕ) (d : ℕ) (m : Texts) (r : Texts) : Type 0 where
+pub record SameHead (live : ℕ) (deleted : ℕ) (master : Texts) (rest : Texts) (l : ℕ) (d : ℕ) (m : Texts) (r : Texts) : Type 0 where
   pub live_same : live ≡ l
   pub deleted_same : deleted ≡ d
   pub master_same : master ≡ m
   pub rest_same : rest ≡ r
 
-one_head : (list : Texts) (live deleted l d : ℕ) (master rest m r : Texts) → IsHead list live deleted master rest → IsHead list l d m r → SameHead live deleted master rest l d m r
+pub one_head : (list : Texts) (live deleted l d : ℕ) (master rest m r : Texts) → IsHead list live deleted master rest → IsHead list l d m r → SameHead live deleted master rest l d m r
 one_head list live deleted l d master rest m r a b =
     let e : number live ∷ number deleted ∷ number (length master) ∷ (master ++ number 0 ∷ rest) ≡ number l ∷ number d ∷ number (length m) ∷ (m ++ number 0 ∷ r) = sym a.elements ∙ b.elements in
     let n = same_number (length master) (length m) a.fields_fit b.fields_fit (ap (λ (x : Texts). first (behind (behind x))) e) in
@@ -99,7 +99,7 @@ shape_or_order key list (inr (inr more)) back = full_or_order key list more.0 mo
 stop_of : (key : Id) (list : Texts) (es : List Stored) → Node key list es → Stop key list
 stop_of key list es n = record { live = n.live; deleted = n.deleted; master = n.master; behind = n.behind; entries = es; rest = []; head = n.head; begins = n.all_entries }
 
-not_both : (key : Id) (list : Texts) (es : List Stored) (f : NodeFault) → Node key list es → IsFault key list f → ⊥
+pub not_both : (key : Id) (list : Texts) (es : List Stored) (f : NodeFault) → Node key list es → IsFault key list f → ⊥
 unfolding stop_of
 not_both key list es faults.Shape n f = full_or_shape key list (stop_of key list es n) (n.count, refl) f
 not_both key list es faults.Count n f =

@@ -15,10 +15,10 @@ fits_count n h = record { sfits = h }
 pub same_number : (m n : ℕ) → m < 2 ^ 63 → n < 2 ^ 63 → number m ≡ number n → m ≡ n
 same_number m n a b e = ap lib.Signed.mag (canonical_injective (pos m) (pos n) (fits_count m a) (fits_count n b) e)
 
-same_id : (a b : Id) → a.ms ≡ b.ms → a.seq ≡ b.seq → a ≡ b
+pub same_id : (a b : Id) → a.ms ≡ b.ms → a.seq ≡ b.seq → a ≡ b
 same_id a b p q = λ i. record { ms = p i; seq = q i }
 
-same_flags : (a b c d : Bool) → flags a b ≡ flags c d → (a ≡ c) × (b ≡ d)
+pub same_flags : (a b c d : Bool) → flags a b ≡ flags c d → (a ≡ c) × (b ≡ d)
 same_flags true true true true e = (refl, refl)
 same_flags true true true false e = absurd (omega (arith, e))
 same_flags true true false true e = absurd (omega (arith, e))
@@ -36,7 +36,7 @@ same_flags false false true false e = absurd (omega (arith, e))
 same_flags false false false true e = absurd (omega (arith, e))
 same_flags false false false false e = (refl, refl)
 
-few_flags : (a b : Bool) → flags a b < 2 ^ 63
+pub few_flags : (a b : Bool) → flags a b < 2 ^ 63
 few_flags true true = omega arith
 few_flags true false = omega arith
 few_flags false true = omega arith
@@ -62,10 +62,10 @@ one_start key list a b c d i j r t s u =
       rest = ap (λ (x : Texts). behind (behind (behind x))) e;
     }
 
-abbrev values_of : List Pair → Texts
+abbrev pub values_of : List Pair → Texts
 values_of pairs = map (λ (p : Pair). p.1) pairs
 
-abbrev flat : List Pair → Texts
+abbrev pub flat : List Pair → Texts
 flat pairs = flat_map (λ (p : Pair). p.0 ∷ p.1 ∷ []) pairs
 
 same_pairs : (p q : List Pair) → fields_of p ≡ fields_of q → values_of p ≡ values_of q → p ≡ q
@@ -78,7 +78,7 @@ same_pairs (x ∷ p) (y ∷ q) e f =
     let b : x.1 ≡ y.1 = ap first f in
     λ i. (a i, b i) ∷ more i
 
-length-flat : (p : List Pair) → length (flat p) ≡ 2 * length p
+pub length-flat : (p : List Pair) → length (flat p) ≡ 2 * length p
 length-flat [] = refl
 length-flat (x ∷ p) = omega (arith, length-flat p)
 
@@ -105,7 +105,7 @@ one_body false master list p q r t a b =
     let f = same_fronts (flat p) (flat q) (number (size (body false p)) ∷ r) (number (size (body false q)) ∷ t) n (ap behind e) in
     (same_flat p q f.0, ap behind f.1)
 
-same_stored : (e f : Stored) → e.id ≡ f.id → e.deleted ≡ f.deleted → e.pairs ≡ f.pairs → e ≡ f
+pub same_stored : (e f : Stored) → e.id ≡ f.id → e.deleted ≡ f.deleted → e.pairs ≡ f.pairs → e ≡ f
 same_stored e f a b c = λ i. record { id = a i; deleted = b i; pairs = c i }
 
 -- the same entry, and the same rest

@@ -1,4 +1,16 @@
+pub mod Appended
+pub mod Entries
 pub mod Entry
 pub mod Faults
+pub mod Marked
+pub mod Next
 pub mod Node
+pub mod Pairs
+pub mod Reading
+pub mod Rest
+pub mod Room
 pub mod Rows
+pub mod View
+pub mod Views
+pub mod Walk
+pub mod Written

@@ -1,10 +1,35 @@
-//! Nodes of streams: what a listpack of entries is, and its first fault. Reading and writing nodes is not here yet.
+//! Nodes of streams: listpacks of entries, checked, read, and written.
 #![tactic(auto)]
 
+mod appending;
+mod body;
+mod entries;
+mod entry;
+mod entry_pairs;
 mod fault;
+mod head;
 mod id;
 mod laws;
+mod marking;
+mod node;
+mod pairs;
+mod put;
+mod rest;
+mod room;
+mod start;
 
+pub use appending::append;
+pub use entries::Entries;
+pub use entry::Entry;
+pub use entry_pairs::EntryPairs;
 pub use fault::NodeFault;
 pub use id::Id;
-pub use laws::{at_most_one, rows};
+pub use laws::{at_most_one, entries_are_read, rows};
+pub use listpack::Memory;
+pub use marking::mark_deleted;
+pub use node::{Node, check};
+pub use pairs::Pairs;
+pub use room::{has_room, room_is_enough};
+
+#[cfg(test)]
+mod tests;

@@ -1,0 +1,241 @@
+-- How many bytes elements take at most.
+use Rattle.std.proofs.Common.{◌≡◌, Bool, true, false, ℕ, zero, suc, ◌+◌, ◌<◌, ◌≤◌, ◌^◌, List, [], ◌∷◌, ◌++◌, ◌-◌, ◌/◌, ◌%◌, length, map, ap, arith, inl, inr, pos}
+use Rattle.std.specs.Prelude.{ℤ, Option, Some, None, FitsSigned, slice_set, sum_by, unwrap_or, if◌then◌else◌}
+use Rattle.std.specs.Int.{w64}
+use Rattle.std.proofs.lemmas.Bool.Decides.{nat_tests}
+use Rattle.std.proofs.lemmas.List.{length-append}
+use Rattle.byteorder.specs.Numbers.{length-bytes_low_first}
+use Rattle.byteorder.specs.Endian.{little_bytes, low_bytes}
+use Rattle.int_text.specs.Decimal.{canonical}
+use Rattle.int_text.proofs.Signed.{canonical_length}
+use Rattle.int_text.proofs.NumberOf
+use lib.Signed.{mag}
+use Rattle.std.proofs.lemmas.Fmt.{length-decimal-le}
+use Rattle.std.proofs.lemmas.List.Sums.{sum_by-cons}
+use Rattle.listpack.specs.Entry.{back_length, entry_of}
+use Rattle.listpack.specs.Pack.{IsPack, entries, spellings_of, texts}
+use Rattle.listpack.specs.Writing.{magnitude, is_small, has_bits, thirteen_low, number_spelling, text_head, spelling, entry}
+use Rattle.listpack.proofs.Writings.{number_cases, spelling_as}
+use Rattle.stream_node.specs.declared.id.Id.{Id}
+use Rattle.stream_node.specs.Entry.{Pair, number, flags, fields_of, body, size}
+use Rattle.stream_node.specs.Entries.{element, count}
+use Rattle.stream_node.specs.Written.{difference, start_texts, body_texts, entry_texts, head_texts}
+use Rattle.stream_node.specs.Appended.{same_texts, fields_in, added, appended, pack_len}
+use Rattle.stream_node.specs.Marked.{flags_at, marked_spellings}
+use Rattle.stream_node.specs.Room.{pair_bytes, IsRoomy, RoomEnough}
+use Rattle.stream_node.proofs.Same.{flat}
+use Rattle.stream_node.proofs.Grown.{difference_fits}
+use Rattle.stream_node.proofs.Appendings.{written_end}
+use Rattle.stream_node.proofs.Lists.{Texts}
+use Rattle.stream_node.proofs.Written.{written, written-append, length-pack, length-values, length-own}
+
+back_short : (n : ℕ) → length (back_length n) ≤ 5
+unfolding back_length
+back_short n = grind (arith, nat_tests)
+
+-- k bytes, whatever they say
+low_bytes_are : (b k n : ℕ) → length (b ∷ little_bytes k n) ≡ suc k
+low_bytes_are b k n = omega (arith, length-bytes_low_first 0 k n)
+
+number_short : (n : ℤ) → length (number_spelling n) ≤ 9
+unfolding number_spelling
+number_short n =
+    let a = low_bytes_are 0xF1 2 (low_bytes w64 2 n) in
+    let b = low_bytes_are 0xF2 3 (low_bytes w64 3 n) in
+    let c = low_bytes_are 0xF3 4 (low_bytes w64 4 n) in
+    let d = low_bytes_are 0xF4 8 (low_bytes w64 8 n) in
+    by_tests (is_small n) (has_bits 12 n) (has_bits 15 n) (has_bits 23 n) (has_bits 31 n) (magnitude n ∷ []) ((0xC0 + thirteen_low n / 256) ∷ thirteen_low n % 256 ∷ []) (0xF1 ∷ little_bytes 2 (low_bytes w64 2 n)) (0xF2 ∷ little_bytes 3 (low_bytes w64 3 n)) (0xF3 ∷ little_bytes 4 (low_bytes w64 4 n)) (0xF4 ∷ little_bytes 8 (low_bytes w64 8 n))
+    (omega arith) (omega arith) (omega (arith, a)) (omega (arith, b)) (omega (arith, c)) (omega (arith, d))
+  where
+    by_tests : (p q r s t : Bool) (u v w x y z : List ℕ) → length u ≤ 9 → length v ≤ 9 → length w ≤ 9 → length x ≤ 9 → length y ≤ 9 → length z ≤ 9
+        → length (if p then u else (if q then v else (if r then w else (if s then x else (if t then y else z))))) ≤ 9
+    by_tests true q r s t u v w x y z a b c d e f = a
+    by_tests false true r s t u v w x y z a b c d e f = b
+    by_tests false false true s t u v w x y z a b c d e f = c
+    by_tests false false false true t u v w x y z a b c d e f = d
+    by_tests false false false false true u v w x y z a b c d e f = e
+    by_tests false false false false false u v w x y z a b c d e f = f
+
+head_short : (n : ℕ) → length (text_head n) ≤ 5
+unfolding text_head
+head_short n = let d = low_bytes_are 0xF0 4 n in grind (arith, nat_tests, d)
+
+-- the bytes of an entry
+entry_most : (text : List ℕ) → length (entry text) ≤ length text + 14
+entry_most text =
+    let s = spelling text in
+    let whole = length-append s (back_length (length s)) in
+    elim (number_cases text) [
+      | inl none ↦ omega (arith, whole, back_short (length s), ap length (spelling_as text None none), head_short (length text), length-append (text_head (length text)) text)
+      | inr some ↦ omega (arith, whole, back_short (length s), ap length (spelling_as text (Some some.0) some.1), number_short some.0)
+    ]
+
+count_most : (n : ℕ) → n < 2 ^ 64 → length (entry (number n)) ≤ 34
+count_most n small = omega (arith, entry_most (number n), length-decimal-le 20 n (omega arith) (omega (arith, small)) small)
+
+signed_most : (n : ℤ) → FitsSigned w64 n → length (entry (canonical n)) ≤ 34
+signed_most n fits = omega (arith, entry_most (canonical n), canonical_length n fits)
+
+-- a number that is read is one of 64 bits
+read_small : (text : List ℕ) → count text < 2 ^ 63
+read_small text = elim (NumberOf.number_cases text) [
+  | inl none ↦ omega (arith, ap (λ (o : Option ℤ). mag (unwrap_or o (pos 0))) none)
+  | inr some ↦ let fits = some.2 in omega (arith, ap (λ (o : Option ℤ). mag (unwrap_or o (pos 0))) some.1, fits.sfits)
+]
+
+written_cons : (x : List ℕ) (xs : Texts) → written (x ∷ xs) ≡ length (entry x) + written xs
+written_cons x xs = length-append (entry x) (entries (map spelling xs))
+
+-- the pairs, and how many there are
+fields_and_values : (pairs : List Pair) → written (fields_of pairs) + written (body true pairs) ≤ sum_by pair_bytes pairs
+fields_and_values [] = omega arith
+fields_and_values (p ∷ pairs) =
+    omega (
+      arith,
+      fields_and_values pairs,
+      sum_by-cons pair_bytes p pairs,
+      written_cons p.0 (fields_of pairs),
+      written_cons p.1 (body true pairs),
+      entry_most p.0,
+      entry_most p.1,
+    )
+
+flat_most : (pairs : List Pair) → written (flat pairs) ≤ sum_by pair_bytes pairs
+flat_most [] = omega arith
+flat_most (p ∷ pairs) =
+    omega (
+      arith,
+      flat_most pairs,
+      sum_by-cons pair_bytes p pairs,
+      written_cons p.0 (p.1 ∷ flat pairs),
+      written_cons p.1 (flat pairs),
+      entry_most p.0,
+      entry_most p.1,
+    )
+
+many_most : (pairs : List Pair) → length pairs ≤ sum_by pair_bytes pairs
+many_most [] = omega arith
+many_most (p ∷ pairs) = omega (arith, many_most pairs, sum_by-cons pair_bytes p pairs)
+
+flags_most : (same : Bool) → length (entry (number (flags false same))) ≤ 34
+flags_most true = count_most 2 (omega arith)
+flags_most false = count_most 0 (omega arith)
+
+start_most : (key id : Id) (same : Bool) → written (start_texts key id same) ≤ 102
+start_most key id same =
+    let ms = canonical (difference id.ms key.ms) in
+    let seq = canonical (difference id.seq key.seq) in
+    omega (
+      arith,
+      written_cons (number (flags false same)) (ms ∷ seq ∷ []),
+      written_cons ms (seq ∷ []),
+      written_cons seq [],
+      flags_most same,
+      signed_most (difference id.ms key.ms) (difference_fits id.ms key.ms),
+      signed_most (difference id.seq key.seq) (difference_fits id.seq key.seq),
+    )
+
+body_own : (pairs : List Pair) → sum_by pair_bytes pairs < 2 ^ 32 → written (body_texts false pairs) ≤ sum_by pair_bytes pairs + 68
+body_own pairs small =
+    let end = number (size (body false pairs)) in
+    omega (
+      arith,
+      small,
+      written-append (body false pairs) (end ∷ []),
+      written_cons (number (length pairs)) (flat pairs),
+      written_cons end [],
+      flat_most pairs,
+      count_most (length pairs) (omega (arith, small, many_most pairs)),
+      count_most (size (body false pairs)) (omega (arith, small, many_most pairs, length-own pairs)),
+    )
+
+body_same : (pairs : List Pair) → sum_by pair_bytes pairs < 2 ^ 32 → written (body_texts true pairs) ≤ written (body true pairs) + 34
+body_same pairs small =
+    let end = number (size (body true pairs)) in
+    omega (
+      arith,
+      written-append (body true pairs) (end ∷ []),
+      written_cons end [],
+      count_most (size (body true pairs)) (omega (arith, small, many_most pairs, length-values pairs)),
+    )
+
+entry_bytes : (key id : Id) (same : Bool) (pairs : List Pair) → sum_by pair_bytes pairs < 2 ^ 32 → written (entry_texts key id same pairs) ≤ sum_by pair_bytes pairs + 170
+entry_bytes key id true pairs small =
+    omega (arith, written-append (start_texts key id true) (body_texts true pairs), start_most key id true, body_same pairs small, fields_and_values pairs)
+entry_bytes key id false pairs small =
+    omega (arith, written-append (start_texts key id false) (body_texts false pairs), start_most key id false, body_own pairs small)
+
+head_bytes : (pairs : List Pair) → sum_by pair_bytes pairs < 2 ^ 32 → written (head_texts pairs) ≤ written (fields_of pairs) + 136
+head_bytes pairs small =
+    let many = number (length pairs) in
+    let rest : Texts = fields_of pairs ++ number 0 ∷ [] in
+    omega (
+      arith,
+      written_cons (number 1) (number 0 ∷ many ∷ rest),
+      written_cons (number 0) (many ∷ rest),
+      written_cons many rest,
+      written-append (fields_of pairs) (number 0 ∷ []),
+      written_cons (number 0) [],
+      count_most 0 (omega arith),
+      count_most 1 (omega arith),
+      count_most (length pairs) (omega (arith, small, many_most pairs)),
+    )
+
+added_most : (key id : Id) (list : Texts) (pairs : List Pair) → sum_by pair_bytes pairs < 2 ^ 32 → written (added key list id pairs) ≤ sum_by pair_bytes pairs + 400
+added_most key id [] pairs small =
+    omega (
+      arith,
+      written-append (head_texts pairs) (entry_texts key id true pairs),
+      written-append (start_texts key id true) (body_texts true pairs),
+      head_bytes pairs small,
+      start_most key id true,
+      body_same pairs small,
+      fields_and_values pairs,
+    )
+added_most key id (x ∷ list) pairs small = omega (arith, entry_bytes key id (same_texts (fields_of pairs) (fields_in (x ∷ list))) pairs small)
+
+-- an element in the place of another
+set_most : (ss : Texts) (i : ℕ) (s : List ℕ) → length (entries (slice_set ss i s)) ≤ length (entries ss) + length (entry_of s)
+set_most [] i s = omega arith
+set_most (x ∷ ss) zero s = omega (arith, length-append (entry_of s) (entries ss), length-append (entry_of x) (entries ss))
+set_most (x ∷ ss) (suc i) s = omega (arith, set_most ss i s, length-append (entry_of x) (entries (slice_set ss i s)), length-append (entry_of x) (entries ss))
+
+append_room : (key id : Id) (pack : List ℕ) (pairs : List Pair) → IsPack pack → IsRoomy pack pairs → pack_len (appended key pack id pairs) < 2 ^ 32
+append_room key id pack pairs p room =
+    let ss = spellings_of pack in
+    let list = texts pack in
+    let n : ℕ = count (element list 0) + 1 in
+    omega (
+      arith,
+      room,
+      length-pack pack p,
+      written_end (slice_set ss 0 (spelling (number n))) (added key list id pairs),
+      set_most ss 0 (spelling (number n)),
+      count_most n (omega (arith, read_small (element list 0))),
+      added_most key id list pairs (omega (arith, room)),
+    )
+
+mark_room : (pack : List ℕ) (index : ℕ) → IsPack pack → length pack + 192 < 2 ^ 32 → pack_len (marked_spellings pack index) < 2 ^ 32
+mark_room pack index p room =
+    let ss = spellings_of pack in
+    let list = texts pack in
+    let at = flags_at list index in
+    let a : ℕ = count (element list 0) - 1 in
+    let b : ℕ = count (element list 1) + 1 in
+    let c : ℕ = count (element list at) + 1 in
+    let one = slice_set ss 0 (spelling (number a)) in
+    let two = slice_set one 1 (spelling (number b)) in
+    omega (
+      arith,
+      room,
+      length-pack pack p,
+      set_most ss 0 (spelling (number a)),
+      set_most one 1 (spelling (number b)),
+      set_most two at (spelling (number c)),
+      count_most a (omega (arith, read_small (element list 0))),
+      count_most b (omega (arith, read_small (element list 1))),
+      count_most c (omega (arith, read_small (element list at))),
+    )
+
+pub room_enough : RoomEnough
+room_enough = record { append = append_room; mark = mark_room }

@@ -1,0 +1,8 @@
+use Rattle.std.proofs.Common.{take}
+use Rattle.std.specs.List.{flat_map}
+use Rattle.stream_node.specs.Written.{Extends}
+use Rattle.stream_node.proofs.Written.{field_texts}
+use Rattle.stream_node.proofs.put.put_fields.Given as goal
+
+abbrev pub invariant-loop-index : goal.invariant-loop-index
+invariant-loop-index l = Extends l.initial.pack.items l.pack.items (flat_map field_texts (take l.index l.pairs))
