@@ -1,0 +1,11 @@
+pub mod Maps
+pub mod Orders
+pub mod Owned
+pub mod Uses
+pub mod Gaps
+pub mod Undoing
+pub mod Changing
+pub mod Listing
+pub mod Tallies
+pub mod Places
+pub mod Copies

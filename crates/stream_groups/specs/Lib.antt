@@ -1,0 +1,6 @@
+pub mod Seen
+pub mod Groups
+pub mod GroupsCode
+pub mod Kept
+pub mod Consumers
+pub mod Waits
