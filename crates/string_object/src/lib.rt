@@ -3,6 +3,7 @@
 
 mod copy;
 mod laws;
+mod relocate;
 #[cfg(test)]
 mod tests;
 mod text;

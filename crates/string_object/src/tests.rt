@@ -1,7 +1,7 @@
 // Expected answers and encodings are those of the Redis command reference (APPEND, INCRBY, SETRANGE, OBJECT ENCODING).
 
 use crate::{Text, text_laws};
-use blocks::PlainStore;
+use blocks::{Moved, PlainStore};
 use object_codec::Name;
 use std::test::Fail;
 
@@ -40,6 +40,11 @@ fn ranges_are_written(rt: HostRuntime) -> Result<(), Fail> {
     assert_eq!(rt; text.set_range(&mut store, 1, b"z")?, 5);
     assert_eq!(rt; text.bytes(&store, &mut room), b"\0z\0ab".as_slice());
     assert_eq!(rt; text.name(&store), Name::Raw);
+    // A plain store has no slab, so no block wants to move.
+    let passed = |used| Moved { next: None, used };
+    assert_eq!(rt; text.relocate_part(&mut store, 0, 32), passed(1));
+    assert_eq!(rt; text.relocate_part(&mut store, 1, 32), passed(0));
+    assert_eq!(rt; text.bytes(&store, &mut room), b"\0z\0ab".as_slice());
     text.release(&mut store);
     text_laws();
     Ok(())
