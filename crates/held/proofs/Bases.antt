@@ -61,7 +61,7 @@ module _ {V : Type 0} (a b c : Bases V) (db : ℕ) where
   base_then p q = record {
     others = λ number other. q.others number other ∙ p.others number other;
     count = q.count ∙ p.count;
-    settings = record { limits = q.settings.limits ∙ p.settings.limits; seed = q.settings.seed ∙ p.settings.seed };
+    settings = record { limits = q.settings.limits ∙ p.settings.limits; seed = q.settings.seed ∙ p.settings.seed; turn = q.settings.turn ∙ p.settings.turn };
   }
 
   pub order_then : (m : Blocks) → ChangesBase a b db → InOrder m a b db → InOrder m b c db → InOrder m a c db
@@ -135,7 +135,7 @@ module _ {V : Type 0} (refs_of : V → List BlockRef) (value_of : Blocks → V �
       kept_timed db = timed_frame m after (table_at bases db) (deadlines_at bases db) (intact.arranged.timed db) (λ at e found. (kept_table db at e found).0)
 
       pub arranged_out : IsArranged bases after
-      arranged_out = record { keyed = kept_keyed; timed = λ db. (kept_timed db).0; sixteen = intact.arranged.sixteen; limits = intact.arranged.limits; seeds = intact.arranged.seeds }
+      arranged_out = record { keyed = kept_keyed; timed = λ db. (kept_timed db).0; sixteen = intact.arranged.sixteen; limits = intact.arranged.limits; seeds = intact.arranged.seeds; turn = intact.arranged.turn }
 
       values_out : (db : ℕ) → map_of after (value_of after) (table_at bases db) ≡ map_of m (value_of m) (table_at bases db)
       values_out db = map_of-frame m after (value_of m) (value_of after) (table_at bases db) (intact.arranged.keyed db) (kept_keyed db) (kept_table db)
@@ -172,6 +172,7 @@ module _ {V : Type 0} (refs_of : V → List BlockRef) (value_of : Blocks → V �
         | inl here ↦ subst (λ n. HasSeed (base_at new n) old.seed) (sym here) (order.seeds (subst (λ n. HasSeed (base_at old n) old.seed) here (a.seeds number within)))
         | inr other ↦ subst (λ (b : Base V). HasSeed b old.seed) (sym (c.others number other)) (a.seeds number within)
       ]);
+      turn = omega (arith, a.turn, c.settings.turn);
     }
 
     pub means_changed : (base : Database) → base_means value_of m (base_at new db) ≡ base → means value_of db new m ≡ with_base (means value_of db old m) base

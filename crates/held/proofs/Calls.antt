@@ -515,7 +515,7 @@ module _ {V : Type 0} (refs_of : V → List BlockRef) (value_of : Blocks → V �
       }
 
   pub settings_then : (a b c : Bases V) → SameSettings a b → SameSettings b c → SameSettings a c
-  settings_then a b c p q = record { limits = q.limits ∙ p.limits; seed = q.seed ∙ p.seed }
+  settings_then a b c p q = record { limits = q.limits ∙ p.limits; seed = q.seed ∙ p.seed; turn = q.turn ∙ p.turn }
 
   -- ---- databases without a key
 
@@ -540,8 +540,8 @@ module _ {V : Type 0} (refs_of : V → List BlockRef) (value_of : Blocks → V �
         in_list (suc n) zero within = record { keys = refl; deadlines = refl }
         in_list (suc n) (suc number) within = in_list n number (omega (arith, within))
 
-    pub new_sound : (m : Blocks) → m ≡ no_blocks → AreInRange bases.limits → bases.seed ≡ seed → SoundBeside refs_of bases m []
-    new_sound m dead limits same = record {
+    pub new_sound : (m : Blocks) → m ≡ no_blocks → AreInRange bases.limits → bases.seed ≡ seed → bases.turn ≡ 0 → SoundBeside refs_of bases m []
+    new_sound m dead limits same first = record {
       owns = λ r. (let nothing : times r (owned refs_of bases) ≡ 0 = ap (λ list. times r (flat_map (λ (b : Base V). refs refs_of b.keys) list)) none in let dead_r : live m r ≡ 0 = ap (λ (b : Blocks). live b r) dead in omega arith);
       arranged = record {
         keyed = each_new (λ b. Keyed m b.keys) (λ number. Keyed-none m number);
@@ -549,5 +549,6 @@ module _ {V : Type 0} (refs_of : V → List BlockRef) (value_of : Blocks → V �
         sixteen = ap length none;
         limits = limits;
         seeds = λ number within. subst (HasSeed (base_at bases number)) (sym same) (new_seeds number within);
+        turn = omega (arith, first);
       };
     }

@@ -29,7 +29,7 @@ module _ {V : Type 0} (m : Blocks) (db : ℕ) (name : BlockRef) (key : List ℕ)
     begins_none = record {
       grown = no_step;
       cursor = refl;
-      changes = record { base = record { others = λ number other. refl; count = refl; settings = record { limits = refl; seed = refl } }; keys = refl };
+      changes = record { base = record { others = λ number other. refl; count = refl; settings = record { limits = refl; seed = refl; turn = refl } }; keys = refl };
       keyed = t.keyed;
       seed = refl;
       times = sym (same_deadline (moments m (deadlines_at old db)) key None (moments_lack m (deadlines_at old db) key t.keyed (untimed m (table_at old db) (deadlines_at old db) key t lacks)));
@@ -95,7 +95,7 @@ module _ {V : Type 0} (m : Blocks) (db : ℕ) (name : BlockRef) (key : List ℕ)
     keeps_same new same = subst (λ (x : Bases V). KeepsTimes old x m db) (sym same) (record {
       grown = no_step;
       cursor = refl;
-      changes = record { base = record { others = λ number other. refl; count = refl; settings = record { limits = refl; seed = refl } }; keys = refl };
+      changes = record { base = record { others = λ number other. refl; count = refl; settings = record { limits = refl; seed = refl; turn = refl } }; keys = refl };
       timed = t;
       seed = refl;
       times = refl;

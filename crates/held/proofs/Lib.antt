@@ -6,7 +6,11 @@ pub mod Bases
 pub mod Joining
 pub mod Within
 pub mod Calls
+pub mod Dropping
+pub mod Finds
+pub mod Relocating
 pub mod Purging
+pub mod Turns
 pub mod Rehashing
 pub mod Shrinking
 pub mod Picking

@@ -47,14 +47,14 @@ module _ {V : Type 0} (refs_of : V → List BlockRef) (value_of : Blocks → V �
   pub preserves_none : (old new : Bases V) → IsArranged old m → new ≡ old → Preserves refs_of value_of m old new
   preserves_none old new a same =
       let P : Bases V → Type 0 = λ b. Preserves refs_of value_of m old b in
-      subst P (sym same) (record { arranged = a; means = λ number. refl; sound = λ out s. s; settings = record { limits = refl; seed = refl } })
+      subst P (sym same) (record { arranged = a; means = λ number. refl; sound = λ out s. s; settings = record { limits = refl; seed = refl; turn = refl } })
 
   pub preserves_then : (old mid new : Bases V) → Preserves refs_of value_of m old mid → Preserves refs_of value_of m mid new → Preserves refs_of value_of m old new
   preserves_then old mid new p q = record {
     arranged = q.arranged;
     means = λ number. q.means number ∙ p.means number;
     sound = λ out s. q.sound out (p.sound out s);
-    settings = record { limits = q.settings.limits ∙ p.settings.limits; seed = q.settings.seed ∙ p.settings.seed };
+    settings = record { limits = q.settings.limits ∙ p.settings.limits; seed = q.settings.seed ∙ p.settings.seed; turn = q.settings.turn ∙ p.settings.turn };
   }
 
   preserves_items : (old new : Bases V) (db : ℕ) → IsArranged old m → KeepsItems old new m db → Preserves refs_of value_of m old new

@@ -12,11 +12,13 @@ use Rattle.expiry.specs.Timed.{Timed, moments, no_deadline}
 use Rattle.held.specs.declared.databases.Base.{Base}
 use Rattle.held.specs.Table.{Table, no_keys, refs, map_of}
 
--- the databases by their numbers, each with its keys and their deadlines, and what every value is made with
+-- The databases by their numbers, each with its keys and their deadlines, what every value is made with, and the
+-- number of the database whose turn the next expiry step is.
 pub record Bases (V : Type 0) : Type 0 where
   pub bases : List (Base V)
   pub limits : Limits
   pub seed : ℕ
+  pub turn : ℕ
 
 -- what a value means is read out of the blocks that it owns, and out of no other
 abbrev pub ReadsOwn : {V : Type 0} → (V → List BlockRef) → (Blocks → V → Value) → Type 0
@@ -67,10 +69,11 @@ module _ {V : Type 0} where
   abbrev pub means : (Blocks → V → Value) → ℕ → Bases V → Blocks → World
   means value_of selected bases blocks = record { bases = λ number. base_means value_of blocks (base_at bases number); selected = selected }
 
-  -- no call changes what values are made with
+  -- what values are made with stays, and whose turn the next expiry step is
   pub record SameSettings (old new : Bases V) : Type 0 where
     pub limits : new.limits ≡ old.limits
     pub seed : new.seed ≡ old.seed
+    pub turn : new.turn ≡ old.turn
 
   -- no database changes but one
   pub record ChangesBase (old new : Bases V) (db : ℕ) : Type 0 where

@@ -5,4 +5,6 @@ pub mod Worlds
 pub mod Gone
 pub mod Scopes
 pub mod Rehash
+pub mod Expiry
+pub mod Relocation
 pub mod Calls

@@ -27,14 +27,15 @@ module _ {V : Type 0} where
     pub keys : base.keys.seed ≡ seed
     pub deadlines : base.deadlines.table.seed ≡ seed
 
-  -- There are 16 databases, in each the keys are live blocks whose bytes differ and the deadlines are those of keys, and
-  -- limits and seeds are in order.
+  -- There are 16 databases, in each the keys are live blocks whose bytes differ and the deadlines are those of keys,
+  -- limits and seeds are in order, and the turn is that of one of them.
   pub record IsArranged (bases : Bases V) (blocks : Blocks) : Type 0 where
     pub keyed : (db : ℕ) → Keyed blocks (table_at bases db)
     pub timed : (db : ℕ) → IsTimed blocks (table_at bases db) (deadlines_at bases db)
     pub sixteen : length bases.bases ≡ 16
     pub limits : AreInRange bases.limits
     pub seeds : (db : ℕ) → db < 16 → HasSeed (base_at bases db) bases.seed
+    pub turn : bases.turn < 16
 
   -- The databases, and the values that are out of them with these references, name live blocks, none of them twice.
   pub record IsIntact (refs_of : V → List BlockRef) (bases : Bases V) (blocks : Blocks) (out : List BlockRef) : Type 0 where

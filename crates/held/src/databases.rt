@@ -1,20 +1,24 @@
-ghost use Rattle.std.specs.Prelude.{◌≡◌, ◌≢◌, ◌<◌, ◌≤◌, ◌⊎◌, ℕ, List, false, IfOk, IfErr, OnOk, OnErr, Some, IfSome, IfNone, IsSome, IsTrue, length, replicate};
+ghost use Rattle.std.specs.Prelude.{◌≡◌, ◌≢◌, ◌<◌, ◌≤◌, ◌+◌, ◌%◌, ◌⊎◌, ℕ, List, false, IfOk, IfErr, OnOk, OnErr, Some, IfSome, IfNone, IsSome, IsTrue, length, replicate};
 ghost use Rattle.std.specs.FinMap.{get, insert, remove};
 ghost use Rattle.blocks.specs.Blocks.{Blocks, bytes_at};
-ghost use Rattle.rehash_dict.specs.Tables.{IsSettled};
+ghost use Rattle.rehash_dict.specs.Tables.{removed, IsSettled};
 ghost use Rattle.rehash_dict.specs.Table.{table_len, tables};
-ghost use Rattle.rehash_dict.specs.Keyed.{hash_of, key_tables};
+ghost use Rattle.rehash_dict.specs.Keyed.{hash_of, same_key, key_tables};
+ghost use Rattle.rehash_dict.specs.Steps.{Renames};
 ghost use Rattle.expiry.specs.Timed.{moments, Grows, KeepsCursor};
 ghost use Rattle.expiry.specs.Changes.{HasDeadline, Sets, Clears};
+ghost use Rattle.expiry.specs.Found.{move_of, AreGone};
+ghost use Rattle.rev_cursor.specs.Span.{times as span_times};
 ghost use Rattle.held.specs.Table.{Element, item, value_at, key_at, no_keys, Stands, Lacks, Keyed, Adds, Swaps, Removes, TableGrows};
 ghost use Rattle.held.specs.Sound.{IsTimed};
 ghost use Rattle.held.specs.Calls.{IsDeadline, Begins, Joins, KeepsTimes};
 ghost use Rattle.held.specs.Databases.{no_base, base_at, table_at, deadlines_at, ChangesBase, ChangesTable, ChangesDeadlines};
 ghost use Rattle.held.specs.Gone.{IsPassed};
 ghost use Rattle.held.specs.Rehash.{keys_move, deadlines_move, StepsTable};
+ghost use Rattle.held.specs.Expiry.{found_in, cursor_behind};
 
 use blocks::{BlockRef, BlockStore, Memory};
-use expiry::Deadlines;
+use expiry::{Deadlines, Gone};
 use object_codec::Limits;
 use rehash_dict::Dict;
 use std::alloc::Global;
@@ -31,13 +35,15 @@ pub struct Base<V> {
     deadlines: Deadlines,
 }
 
-/// The 16 databases, and what every value is made with. The calls of the keyspace alone use it.
+/// The 16 databases, what every value is made with, and the number of the database whose turn the next expiry step is. The
+/// calls of the keyspace alone use it.
 #[derive(Drop)]
 pub struct Databases<V> {
     alloc: Global,
     bases: Vec<Base<V>>,
     limits: Limits,
     seed: u64,
+    turn: usize,
 }
 
 impl<V> Model for Databases<V> {
@@ -47,7 +53,7 @@ impl<V> Model for Databases<V> {
 
     ghost Value = { Bases V };
 
-    ghost view = { λ d. record { bases = d.bases.items; limits = d.limits; seed = d.seed } };
+    ghost view = { λ d. record { bases = d.bases.items; limits = d.limits; seed = d.seed; turn = d.turn } };
 }
 
 impl<V: Drop> Base<V> {
@@ -68,6 +74,7 @@ impl<V: Drop> Databases<V> {
         ensures bases { IfOk result (λ bases. bases.bases ≡ replicate 16 (no_base seed)) }
         ensures limits { IfOk result (λ bases. bases.limits ≡ limits) }
         ensures seed { IfOk result (λ bases. bases.seed ≡ seed) }
+        ensures turn { IfOk result (λ bases. bases.turn ≡ 0) }
     {
         let mut bases = Vec::new(alloc);
         for _ in 0..COUNT {
@@ -78,6 +85,7 @@ impl<V: Drop> Databases<V> {
             bases,
             limits,
             seed,
+            turn: 0,
         })
     }
 
@@ -281,6 +289,34 @@ impl<V: Drop> Databases<V> {
         self.bases[db].deadlines.rehash_step()
     }
 
+    // The number of the database whose turn the next expiry step is.
+    pub(crate) fn turn(&self) -> usize
+        ensures { result ≡ self.now.turn }
+    {
+        self.turn
+    }
+
+    // The turn passes to the next database, and from the last one to database 0.
+    pub(crate) fn pass_turn(&mut self)
+        requires { self.old.turn < 16 }
+        ensures { self.new ≡ record self.old { turn = (self.old.turn + 1) % 16 } }
+    {
+        self.turn = (self.turn + 1) % COUNT;
+    }
+
+    // Looks for keys of a database that are gone at the moment, in milliseconds, by one move of the search.
+    pub(crate) fn cycle(&mut self, db: usize, moment: u64, found: &mut Gone)
+        requires { db < length self.old.bases }
+        ensures changes { ChangesDeadlines self.old self.new db }
+        ensures table { (deadlines_at self.new db).table ≡ (deadlines_at self.old db).table }
+        ensures cursor { (deadlines_at self.new db).cursor ≡ cursor_behind (deadlines_at self.old db) moment }
+        ensures found { found.new ≡ found_in (deadlines_at self.old db) moment }
+        ensures gone { AreGone (deadlines_at self.old db).table moment found.new }
+        ensures once { (at : ℕ) → span_times at (move_of (deadlines_at self.old db)).0 ≤ 1 }
+    {
+        self.bases[db].deadlines.cycle(moment, found);
+    }
+
     // Puts a value in the place of another, which it answers.
     pub(crate) fn swap_value(&mut self, db: usize, at: usize, value: V) -> V
         requires db { db < length self.old.bases }
@@ -384,6 +420,7 @@ impl<V: Drop> Databases<V> {
         ensures removed { IfSome result (λ pair. Removes (B.blocks store.now) (table_at self.old db) (table_at self.new db) key.now pair.0 pair.1) }
         ensures keyed { Keyed (B.blocks store.now) (table_at self.new db) }
         ensures grown { TableGrows (B.blocks store.now) (table_at self.old db) (table_at self.new db) }
+        ensures tables { IfSome result (λ _. key_tables (B.blocks store.now) (table_at self.new db) ≡ removed same_key (key_tables (B.blocks store.now) (table_at self.old db)) key.now) }
         ensures same { IfNone result (self.new ≡ self.old) }
         ensures none { IfNone result (Lacks (B.blocks store.now) (table_at self.old db) key.now) }
     {
@@ -400,5 +437,41 @@ impl<V: Drop> Databases<V> {
         let none = Base::new(self.alloc, self.seed);
         let was = mem::replace(&mut self.bases[db], none);
         was.keys
+    }
+
+    // The item number of a key's deadline.
+    pub(crate) fn find_deadline<B: BlockStore>(
+        &self,
+        store: &B,
+        db: usize,
+        key: &[u8],
+    ) -> Option<usize>
+        requires db { db < length self.now.bases }
+        requires keyed { Keyed (B.blocks store.now) (deadlines_at self.now db).table }
+        ensures found { IfSome result (λ at. Stands (B.blocks store.now) (deadlines_at self.now db).table at key.now) }
+        ensures none { IfNone result (Lacks (B.blocks store.now) (deadlines_at self.now db).table key.now) }
+    {
+        self.bases[db].deadlines.table().find(store, key)
+    }
+
+    // Names a key by another block, which has the same bytes.
+    pub(crate) fn swap_name(&mut self, db: usize, at: usize, new: BlockRef)
+        requires db { db < length self.old.bases }
+        requires item { IsSome (item (table_at self.old db) at) }
+        ensures changes { ChangesTable self.old self.new db }
+        ensures renames { Renames (table_at self.old db) (table_at self.new db) at new }
+    {
+        self.bases[db].keys.swap_ref(at, new);
+    }
+
+    // The same of the deadline of a key.
+    pub(crate) fn swap_timed(&mut self, db: usize, at: usize, new: BlockRef)
+        requires db { db < length self.old.bases }
+        requires item { IsSome (item (deadlines_at self.old db).table at) }
+        ensures changes { ChangesDeadlines self.old self.new db }
+        ensures renames { Renames (deadlines_at self.old db).table (deadlines_at self.new db).table at new }
+        ensures cursor { KeepsCursor (deadlines_at self.old db) (deadlines_at self.new db) }
+    {
+        self.bases[db].deadlines.swap_ref(at, new);
     }
 }

@@ -1,4 +1,4 @@
-ghost use Rattle.std.specs.Prelude.{◌≡◌, ◌<◌, ◌≤◌, ◌+◌, ℕ, [], List, Option, None, Some, IfSome, IfNone, is_some, true, if◌then◌else◌};
+ghost use Rattle.std.specs.Prelude.{◌≡◌, ◌<◌, ◌≤◌, ◌+◌, ℕ, [], ◌∷◌, List, Option, None, Some, IfSome, IfNone, is_some, true, if◌then◌else◌};
 ghost use Rattle.std.specs.FinMap as map;
 ghost use Rattle.blocks.specs.declared.BlockRef.{BlockRef};
 ghost use Rattle.blocks.specs.Blocks.{Changes, Served, bytes_at};
@@ -10,6 +10,7 @@ ghost use Rattle.held.specs.Scopes.{no_key, Within};
 ghost use Rattle.held.specs.Worlds.{without};
 ghost use Rattle.held.specs.Calls.{StandsAt};
 ghost use Rattle.held.specs.Gone.{Loses, Thins};
+ghost use Rattle.held.specs.Expiry.{Thinned};
 
 use crate::keyspace::{is_in_time, release_both};
 use crate::{Held, Keyspace};
@@ -17,11 +18,12 @@ use blocks::{BlockRef, BlockStore};
 
 impl<V: Held, B: BlockStore> Keyspace<V, B> {
     // Removes the key that this block names, with its deadline and all its blocks.
-    fn drop_named(&mut self, db: usize, name: BlockRef)
+    pub(crate) fn drop_named(&mut self, db: usize, name: BlockRef)
         requires db { db < 16 }
         requires intact { IsIntact V.refs_of self.old.bases (B.blocks self.old.store) [] }
         requires named { Names (table_at self.old.bases db) name }
         ensures means { means V.value_of db self.new.bases (B.blocks self.new.store) ≡ without (means V.value_of db self.old.bases (B.blocks self.old.store)) (bytes_at (B.blocks self.old.store) name) }
+        ensures thinned { Thinned V.refs_of (name ∷ []) self.old.bases self.new.bases (B.blocks self.old.store) (B.blocks self.new.store) db }
         ensures loses { Loses (B.blocks self.old.store) (deadlines_at self.old.bases db) (deadlines_at self.new.bases db) (bytes_at (B.blocks self.old.store) name) }
         ensures arranged { IsArranged self.new.bases (B.blocks self.new.store) }
         ensures changes { Changes (B.blocks self.old.store) (B.blocks self.new.store) (owned V.refs_of self.old.bases) (owned V.refs_of self.new.bases) }

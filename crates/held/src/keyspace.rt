@@ -75,7 +75,7 @@ pub(crate) fn is_in_time(moment: u64, deadline: Option<u64>) -> bool
 
 impl<V: Held, B: BlockStore> Keyspace<V, B> {
     /// A keyspace without a key, over a store without a live block. Values are made with these limits, and hashes
-    /// with this seed.
+    /// with this seed. Expiry steps begin at database 0.
     pub fn new(alloc: Global, store: B, limits: Limits, seed: u64) -> Result<Keyspace<V, B>, Memory>
         requires empty { B.blocks store ≡ no_blocks }
         requires limits { AreInRange limits }
@@ -84,6 +84,7 @@ impl<V: Held, B: BlockStore> Keyspace<V, B> {
         ensures store { IfOk result (λ keyspace. keyspace.store ≡ store) }
         ensures limits { IfOk result (λ keyspace. keyspace.bases.limits ≡ limits) }
         ensures seed { IfOk result (λ keyspace. keyspace.bases.seed ≡ seed) }
+        ensures turn { IfOk result (λ keyspace. keyspace.bases.turn ≡ 0) }
     {
         let bases = Databases::new(alloc, limits, seed)?;
         Ok(Keyspace { store, bases })

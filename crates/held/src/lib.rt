@@ -2,11 +2,13 @@
 #![tactic(auto)]
 
 mod databases;
+mod expiring;
 mod gone;
 mod held;
 mod keyspace;
 mod moving;
 mod rehash;
+mod relocate;
 
 pub use databases::{Base, Databases};
 pub use held::Held;

@@ -4,3 +4,4 @@ pub mod Running
 pub mod Serving
 pub mod Tables
 pub mod Calls
+pub mod Moving

@@ -17,7 +17,7 @@ pub outcome_is : (outcome : Outcome) (reply : List Part) (new : World) → outco
 outcome_is outcome reply new e = (sym (ap (λ o. o.reply) e), sym (ap (λ o. o.world) e))
 
 pub same_settings : (bases : Bases) → SameSettings bases bases
-same_settings bases = record { limits = refl; seed = refl }
+same_settings bases = record { limits = refl; seed = refl; turn = refl }
 
 pub same_held : {S : Type 0} (blocks : S → Blocks) (step : S → S → Type 0) (scope : Scope) (keyspace : Keyspace S) → Sound keyspace.bases (blocks keyspace.store) → Held blocks step scope keyspace keyspace
 same_held blocks step scope keyspace sound = record { sound = sound; served = Served.no_step; settings = same_settings keyspace.bases; within = unmoved scope keyspace.bases (blocks keyspace.store) }
@@ -32,7 +32,7 @@ pub held_then : {S : Type 0} (blocks : S → Blocks) (step : S → S → Type 0)
 held_then blocks step scope a b c p q = record {
   sound = q.sound;
   served = Served-then _ _ _ p.served q.served;
-  settings = record { limits = q.settings.limits ∙ p.settings.limits; seed = q.settings.seed ∙ p.settings.seed };
+  settings = record { limits = q.settings.limits ∙ p.settings.limits; seed = q.settings.seed ∙ p.settings.seed; turn = q.settings.turn ∙ p.settings.turn };
   within = further scope a.bases b.bases c.bases (blocks a.store) (blocks b.store) (blocks c.store) p.within q.within;
 }
 

@@ -1,6 +1,7 @@
 -- What a value over the blocks of a store means, and the blocks that it owns: a line for each type of value.
-use Rattle.std.specs.Prelude.{◌≡◌, ℕ, List, [], pos}
+use Rattle.std.specs.Prelude.{◌≡◌, ℕ, List, [], length, map, pos}
 use Rattle.std.proofs.Common.{refl, ap}
+use Rattle.std.proofs.lemmas.List.{length-map}
 use Rattle.blocks.specs.declared.BlockRef.{BlockRef}
 use Rattle.blocks.specs.Blocks.{Blocks}
 use Rattle.string_object.specs.declared.text.Text.TheVariants.{Number}
@@ -21,6 +22,13 @@ value_of blocks (Text text) = Str (text_bytes blocks text)
 -- the references that it owns
 abbrev pub value_refs : Value → List BlockRef
 value_refs (Text text) = text_refs text
+
+-- the marks of these: 0 for the block of a string
+abbrev pub value_marks : Value → List ℕ
+value_marks (Text text) = map (λ at. 0) (text_refs text)
+
+pub value_marked : (value : Value) → length (value_marks value) ≡ length (value_refs value)
+value_marked (Text text) = length-map (text_refs text) (λ at. 0)
 
 -- this is the name of its encoding (Redis command reference, "OBJECT ENCODING")
 abbrev pub IsEncodedAs : Blocks → Value → List ℕ → Type 0

@@ -1,9 +1,9 @@
 // Expected answers are those of the Redis command reference (SET, GET, DEL, FLUSHDB, DBSIZE).
 
-ghost use Rattle.std.specs.Prelude.{◌<◌};
+ghost use Rattle.std.specs.Prelude.{◌<◌, ◌^◌};
 
 use crate::{Keyspace, Lifted, Value};
-use blocks::{Memory, PlainStore};
+use blocks::{Memory, Moved, PlainStore};
 use object_codec::Limits;
 use std::alloc::Global;
 use std::marker::Model;
@@ -41,6 +41,19 @@ impl Held {
         self.keyspace.put(db, key, Value::Text(text), None)
     }
 
+    // The same with a deadline in milliseconds.
+    fn set_until(&mut self, db: usize, key: &[u8], bytes: &[u8], last: u64) -> Result<(), Memory>
+        requires db { db < 16 }
+        requires latest { last < 2 ^ 63 }
+    {
+        let text = Text::make(&mut self.keyspace.store, bytes)?;
+        self.keyspace.put(db, key, Value::Text(text), Some(last))
+    }
+
+    fn expire(&mut self, steps: u32, moment: u64) -> u64 {
+        self.keyspace.expire(steps, moment)
+    }
+
     // Whether these bytes stand at the key.
     fn has(&self, db: usize, key: &[u8], bytes: &[u8]) -> bool
         requires { db < 16 }
@@ -64,6 +77,16 @@ impl Held {
         let value = Value::Text(text);
         self.keyspace.lower(Lifted { db, item, value });
         true
+    }
+
+    // Passes the blocks of the key of an item number.
+    fn relocate(&mut self, db: usize, at: usize) -> Option<Moved>
+        requires { db < 16 }
+    {
+        if !self.keyspace.table(db).is_entry(at) {
+            return None;
+        }
+        Some(self.keyspace.relocate_key_part(db, at, None, 33))
     }
 
     fn drop_key(&mut self, db: usize, key: &[u8]) -> bool
@@ -105,6 +128,14 @@ fn keys_come_and_go(rt: HostRuntime) -> Result<(), Fail> {
     assert!(rt; held.has(0, b"", b"10"));
     assert!(rt; held.has(0, b"ax", &[7; 900]));
     assert!(rt; !held.has(0, b"b", b"b"));
+    // The first key has a block, and its value too.
+    let whole = Moved {
+        next: None,
+        used: 2,
+    };
+    assert_eq!(rt; held.relocate(0, 0), Some(whole));
+    assert_eq!(rt; held.relocate(0, 100), None);
+    assert!(rt; held.has(0, b"m", b"m"));
     assert!(rt; held.drop_key(0, b"m"));
     assert!(rt; !held.drop_key(0, b"m"));
     assert!(rt; !held.has(0, b"m", b"m"));
@@ -128,6 +159,33 @@ fn values_are_lifted_and_lowered(rt: HostRuntime) -> Result<(), Fail> {
     assert!(rt; !held.renumber(3, b"m", 1));
     assert!(rt; !held.renumber(4, b"k", 1));
     assert_eq!(rt; held.count(3), 2);
+    Ok(())
+}
+
+// Four moves go through a database of four keys, so each of 16 databases is searched in 64 steps. A key stays through the
+// moment of its deadline (EXPIRE).
+#[test]
+fn keys_that_are_gone_expire(rt: HostRuntime) -> Result<(), Fail> {
+    let mut held = Held::new(rt.alloc())?;
+    held.set_until(0, b"a", b"first", 100)?;
+    held.set_until(0, b"b", b"second", 200)?;
+    held.set_until(1, b"c", b"third", 99)?;
+    held.set(1, b"d", b"stays")?;
+    held.set_until(15, b"e", b"fourth", 50)?;
+    assert_eq!(rt; held.expire(0, 1000), 0);
+    assert_eq!(rt; held.expire(64, 100), 2);
+    assert_eq!(rt; held.count(0), 2);
+    assert_eq!(rt; held.count(1), 1);
+    assert_eq!(rt; held.count(15), 0);
+    assert!(rt; held.has(0, b"a", b"first"));
+    assert!(rt; held.has(1, b"d", b"stays"));
+    assert_eq!(rt; held.expire(64, 201), 2);
+    assert_eq!(rt; held.count(0), 0);
+    // the turn is database 0's again
+    held.set_until(1, b"f", b"fifth", 300)?;
+    assert_eq!(rt; held.expire(1, 400), 0);
+    assert_eq!(rt; held.expire(64, 400), 1);
+    assert_eq!(rt; held.count(1), 1);
     Ok(())
 }
 

@@ -12,5 +12,5 @@ items-init g c =
       holds = holds_nothing c.args.bytes.now s.0 c.args.moment c.in-Ok.at world c.requires.empty s.1;
       sound = c.requires.sound;
       served = no_step;
-      settings = record { limits = refl; seed = refl };
+      settings = record { limits = refl; seed = refl; turn = refl };
     }

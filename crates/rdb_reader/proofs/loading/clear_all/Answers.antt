@@ -6,7 +6,7 @@ use Rattle.rdb_reader.proofs.Clears.{next_cleared, all_cleared}
 use Rattle.rdb_reader.proofs.loading.clear_all.Goals as goal
 
 pub databases-init : goal.databases-init
-databases-init g c = record { cleared = λ k below. absurd (omega (arith, below)); sound = c.requires; served = no_step; settings = record { limits = refl; seed = refl } }
+databases-init g c = record { cleared = λ k below. absurd (omega (arith, below)); sound = c.requires; served = no_step; settings = record { limits = refl; seed = refl; turn = refl } }
 
 pub databases-preserved : goal.databases-preserved
 databases-preserved g c =

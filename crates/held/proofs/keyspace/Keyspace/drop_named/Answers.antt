@@ -5,6 +5,7 @@ use Rattle.held.proofs.Tables.{some_bytes}
 use Rattle.held.proofs.Purging.{drops_loses}
 use Rattle.held.proofs.Calls.{dropped_owned, dropped_means, dropped_arranged, dropped_changes}
 use Rattle.held.proofs.Calls.{dropped_within}
+use Rattle.held.proofs.Dropping.{named_thinned}
 use Rattle.held.proofs.keyspace.Keyspace.drop_named.Goals as goal
 
 pub release_both-requires : goal.release_both-requires
@@ -30,3 +31,10 @@ returns-clause-changes g c =
 
 pub returns-clause-within : goal.returns-clause-within
 returns-clause-within g c = dropped_within g.V.Held.refs_of g.V.Held.value_of g.met.V.Held.reads_own c.args.self.now.bases c.clear_deadline.new.self c.args.db (g.B.BlockStore.blocks c.args.self.now.store) c.requires.intact c.bytes-key.result.now c.clear_deadline.ensures.changes c.clear_deadline.ensures.moments c.clear_deadline.ensures.cleared c.clear_deadline.ensures.keyed c.remove.new.self c.remove.ensures.changes c.in-Some.at c.in-Some.value c.in-Some.ensures.removed c.remove.ensures.keyed c.clear_deadline.ensures.grown c.clear_deadline.ensures.cursor c.remove.ensures.grown c.requires.db (g.B.BlockStore.blocks c.release_both.new.store) c.release_both.ensures.changes
+
+pub returns-clause-thinned : goal.returns-clause-thinned
+returns-clause-thinned g c =
+    named_thinned g.V.Held.refs_of c.args.self.now.bases c.clear_deadline.new.self c.remove.new.self (g.B.BlockStore.blocks c.args.self.now.store) (g.B.BlockStore.blocks c.release_both.new.store) c.args.db c.args.name c.in-Some.at c.bytes-key.result.now c.in-Some.value c.requires.intact.arranged c.requires.named c.bytes-key.ensures
+    c.clear_deadline.ensures.changes c.clear_deadline.ensures.cleared c.remove.ensures.changes c.in-Some.ensures.removed c.in-Some.ensures.tables
+    (dropped_arranged g.V.Held.refs_of g.V.Held.value_of g.met.V.Held.reads_own c.args.self.now.bases c.clear_deadline.new.self c.args.db (g.B.BlockStore.blocks c.args.self.now.store) c.requires.intact c.bytes-key.result.now c.clear_deadline.ensures.changes c.clear_deadline.ensures.moments c.clear_deadline.ensures.cleared c.clear_deadline.ensures.keyed c.remove.new.self c.remove.ensures.changes c.in-Some.at c.in-Some.value c.in-Some.ensures.removed c.remove.ensures.keyed (g.B.BlockStore.blocks c.release_both.new.store) c.release_both.ensures.changes)
+    (dropped_within g.V.Held.refs_of g.V.Held.value_of g.met.V.Held.reads_own c.args.self.now.bases c.clear_deadline.new.self c.args.db (g.B.BlockStore.blocks c.args.self.now.store) c.requires.intact c.bytes-key.result.now c.clear_deadline.ensures.changes c.clear_deadline.ensures.moments c.clear_deadline.ensures.cleared c.clear_deadline.ensures.keyed c.remove.new.self c.remove.ensures.changes c.in-Some.at c.in-Some.value c.in-Some.ensures.removed c.remove.ensures.keyed c.clear_deadline.ensures.grown c.clear_deadline.ensures.cursor c.remove.ensures.grown c.requires.db (g.B.BlockStore.blocks c.release_both.new.store) c.release_both.ensures.changes)

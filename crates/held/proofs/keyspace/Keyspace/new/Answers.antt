@@ -7,4 +7,4 @@ pub returns-clause-means : goal.returns-clause-means
 returns-clause-means g c = new_means_world g.V.Held.refs_of g.V.Held.value_of g.met.V.Held.reads_own c.in_ok-bases.bases c.args.seed c.in_ok-bases.ensures.bases (g.B.BlockStore.blocks c.args.store)
 
 pub returns-clause-sound : goal.returns-clause-sound
-returns-clause-sound g c = new_sound g.V.Held.refs_of g.V.Held.value_of g.met.V.Held.reads_own c.in_ok-bases.bases c.args.seed c.in_ok-bases.ensures.bases (g.B.BlockStore.blocks c.args.store) c.requires.empty (subst AreInRange (sym c.in_ok-bases.ensures.limits) c.requires.limits) c.in_ok-bases.ensures.seed
+returns-clause-sound g c = new_sound g.V.Held.refs_of g.V.Held.value_of g.met.V.Held.reads_own c.in_ok-bases.bases c.args.seed c.in_ok-bases.ensures.bases (g.B.BlockStore.blocks c.args.store) c.requires.empty (subst AreInRange (sym c.in_ok-bases.ensures.limits) c.requires.limits) c.in_ok-bases.ensures.seed c.in_ok-bases.ensures.turn

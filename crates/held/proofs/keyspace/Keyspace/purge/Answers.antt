@@ -13,7 +13,7 @@ loop-at-init g c = record {
   purged = purge_begins g.V.Held.refs_of g.V.Held.value_of g.met.V.Held.reads_own c.args.self.now.bases (g.B.BlockStore.blocks c.args.self.now.store) c.args.db c.args.moment c.requires.intact;
   served = no_step;
   within = within_none g.V.Held.refs_of (no_key c.args.db) c.args.self.now.bases (g.B.BlockStore.blocks c.args.self.now.store);
-  settings = record { limits = refl; seed = refl };
+  settings = record { limits = refl; seed = refl; turn = refl };
 }
 
 pub loop-at-preserved : goal.loop-at-preserved

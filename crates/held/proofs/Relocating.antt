@@ -1,0 +1,473 @@
+-- Blocks that move, and what the databases mean by them.
+use Rattle.std.proofs.Common.{◌≡◌, ◌≢◌, inl, inr, ℕ, ◌+◌, ◌-◌, ◌<◌, ◌≤◌, false, List, [], ◌∷◌, Option, Some, None, IsSome, refl, sym, ap, ◌∙◌, subst, arith}
+use Rattle.std.specs.Prelude.{IfSome, count_by}
+use Rattle.std.proofs.lemmas.Bool.{cases_eq, cond-false}
+use Rattle.blocks.specs.declared.BlockRef.{BlockRef}
+use Rattle.blocks.specs.declared.Moved.{Moved}
+use Rattle.blocks.specs.Blocks.{Blocks, times, Changes, Owned}
+use Rattle.blocks.specs.Slabs.{Heap, wants, Calmer}
+use Rattle.blocks.proofs.Refs.{cases_ref}
+use Rattle.blocks.proofs.Change.{one, cases_in, live-once, Changes-then, Changes-beside, Changes-owned, Owned-others}
+use Rattle.object_codec.specs.Limits.{AreInRange}
+use Rattle.plain_world.specs.Worlds.{Value}
+use Rattle.rehash_dict.specs.Keyed.{key_tables}
+use Rattle.rehash_dict.specs.Steps.{Renames}
+use Rattle.rehash_dict.proofs.Keys.{Keyed-frame}
+use Rattle.rehash_dict.proofs.MapOf.{map_of-same, map_of-frame, map_of-renames, refs_changed}
+use Rattle.expiry.specs.Timed.{Timed, moments, KeepsCursor}
+use Rattle.held.specs.declared.databases.Base.{Base}
+use Rattle.held.specs.Table.{Table, Element, item, key_at, Stands, Lacks, Keyed, Swaps, own_of, map_of}
+use Rattle.held.specs.Databases.{ReadsOwn, Bases, base_at, table_at, deadlines_at, owned, base_means, with_deadlines, ChangesBase, ChangesTable, ChangesDeadlines}
+use Rattle.held.specs.Sound.{Names, IsTimed, IsArranged, IsIntact}
+use Rattle.held.specs.Relocation.{is_passed, IsBounded, PassesPart, Relocates, Replaces, PassesName, PassesElement}
+use Rattle.held.proofs.Timing.{some_same, timed_frame, timed_swaps}
+use Rattle.held.proofs.Bases.{owned_changed, owned_swaps, kept_inside, base_then}
+use Rattle.held.proofs.Calls.{item_owned, key_itself, over_intact, settings_then}
+
+-- a reference that stands in a list of one is that one
+in_one : (r at : BlockRef) → 0 < times r (at ∷ []) → at ≡ r
+in_one r at h = elim (cases_ref at r) [
+  | inl same ↦ same
+  | inr other ↦ absurd (let none : one r at ≡ 0 = cond-false _ _ _ other in omega (arith, none, h))
+]
+
+module _ {V : Type 0} (refs_of : V → List BlockRef) (value_of : Blocks → V → Value) (own : ReadsOwn refs_of value_of) where
+  -- what a database is where blocks moved
+  pub record Renewed (m after : Blocks) (was now : Base V) : Type 0 where
+    pub keyed : Keyed after now.keys
+    pub timed : IsTimed after now.keys now.deadlines
+    pub values : map_of after (value_of after) now.keys ≡ map_of m (value_of m) was.keys
+    pub times : moments after now.deadlines ≡ moments m was.deadlines
+    pub tables : key_tables after now.keys ≡ key_tables m was.keys
+    pub times_tables : key_tables after now.deadlines.table ≡ key_tables m was.deadlines.table
+    pub cursor : KeepsCursor was.deadlines now.deadlines
+    pub seed : now.keys.seed ≡ was.keys.seed
+    pub times_seed : now.deadlines.table.seed ≡ was.deadlines.table.seed
+
+  -- the deadlines of the database whose element's blocks moved
+  pub record TimesMoved (m after : Blocks) (keys : Table V) (was now : Timed) : Type 0 where
+    pub timed : IsTimed after keys now
+    pub times : moments after now ≡ moments m was
+    pub tables : key_tables after now.table ≡ key_tables m was.table
+    pub cursor : KeepsCursor was now
+    pub seed : now.table.seed ≡ was.table.seed
+
+  -- an element's blocks stay
+  abbrev Stay : Blocks → Blocks → Element V → Type 0
+  Stay m after e = (r : BlockRef) → 0 < times r (e.key ∷ refs_of e.value) → after r ≡ m r
+
+  name_stays : (m after : Blocks) (e : Element V) → Stay m after e → after e.key ≡ m e.key
+  name_stays m after e stay = stay e.key (omega (arith, key_itself refs_of value_of own e.key))
+
+  value_stays : (m after : Blocks) (e : Element V) → Stay m after e → value_of after e.value ≡ value_of m e.value
+  value_stays m after e stay = own m after e.value (λ r isin. stay r (omega (arith, isin)))
+
+  -- a database none of whose blocks changed
+  renewed_same : (m after : Blocks) (base : Base V) → Keyed m base.keys → IsTimed m base.keys base.deadlines → ((at : ℕ) (e : Element V) → item base.keys at ≡ Some e → Stay m after e) → Renewed m after base base
+  renewed_same m after base k t stay =
+      let keyed = Keyed-frame m after base.keys k (λ at e found. name_stays m after e (stay at e found)) in
+      let timed = timed_frame m after base.keys base.deadlines t (λ at e found. name_stays m after e (stay at e found)) in
+      record {
+        keyed = keyed.0;
+        timed = timed.0;
+        values = map_of-frame m after (value_of m) (value_of after) base.keys k keyed.0 (λ at e found. (name_stays m after e (stay at e found), value_stays m after e (stay at e found)));
+        times = timed.1;
+        tables = keyed.1;
+        times_tables = (Keyed-frame m after base.deadlines.table t.keyed (λ at f found. (let n = t.names at f found in subst (λ r. after r ≡ m r) n.same (name_stays m after n.element (stay n.at n.element n.found))))).1;
+        cursor = refl;
+        seed = refl;
+        times_seed = refl;
+      }
+
+  module _ (old new : Bases V) (db : ℕ) (m after : Blocks) (a : IsArranged old m) (c : ChangesBase old new db) (here : Renewed m after (base_at old db) (base_at new db)) (apart : (number at : ℕ) (e : Element V) → number ≢ db → item (table_at old number) at ≡ Some e → Stay m after e) where
+    each : (number : ℕ) → Renewed m after (base_at old number) (base_at new number)
+    each number = elim (cases_eq number db) [
+      | inl same ↦ subst (λ n. Renewed m after (base_at old n) (base_at new n)) (sym same) here
+      | inr other ↦ subst (Renewed m after (base_at old number)) (sym (c.others number other)) (renewed_same m after (base_at old number) (a.keyed number) (a.timed number) (λ at e found. apart number at e other found))
+    ]
+
+    -- all databases, where the blocks of one moved
+    pub relocates_one : Changes m after (owned refs_of old) (owned refs_of new) → Relocates refs_of value_of old new m after
+    relocates_one p = record {
+      means = λ number i. record { bases = λ n. both n i; selected = number };
+      arranged = record {
+        keyed = λ number. (each number).keyed;
+        timed = λ number. (each number).timed;
+        sixteen = c.count ∙ a.sixteen;
+        limits = subst AreInRange (sym c.settings.limits) a.limits;
+        turn = subst (λ n. n < 16) (sym c.settings.turn) a.turn;
+        seeds = λ number within. record { keys = (each number).seed ∙ (a.seeds number within).keys ∙ sym c.settings.seed; deadlines = (each number).times_seed ∙ (a.seeds number within).deadlines ∙ sym c.settings.seed };
+      };
+      changes = p;
+      settings = c.settings;
+      keys = λ number. (each number).tables;
+      deadlines = λ number. (each number).times_tables;
+      cursors = λ number. (each number).cursor;
+    }
+      where
+        both : (n : ℕ) → base_means value_of after (base_at new n) ≡ base_means value_of m (base_at old n)
+        both n = λ i. with_deadlines ((each n).values i) ((each n).times i)
+
+  -- one move after another
+  pub relocates_then : (a b c : Bases V) (m mid after : Blocks) → Relocates refs_of value_of a b m mid → Relocates refs_of value_of b c mid after → Relocates refs_of value_of a c m after
+  relocates_then a b c m mid after p q = record {
+    means = λ number. q.means number ∙ p.means number;
+    arranged = q.arranged;
+    changes = Changes-then m mid after (owned refs_of a) (owned refs_of b) (owned refs_of c) p.changes q.changes;
+    settings = settings_then refs_of value_of own a b c p.settings q.settings;
+    keys = λ number. q.keys number ∙ p.keys number;
+    deadlines = λ number. q.deadlines number ∙ p.deadlines number;
+    cursors = λ number. q.cursors number ∙ p.cursors number;
+  }
+
+  pub relocates_intact : (old new : Bases V) (m after : Blocks) → Relocates refs_of value_of old new m after → IsIntact refs_of new after []
+  relocates_intact old new m after p = record { owned = λ r. omega (arith, Changes-owned m after (owned refs_of old) (owned refs_of new) p.changes r); arranged = p.arranged }
+
+  -- ---- the block of a key moves
+
+  module _ (old new : Bases V) (db at : ℕ) (m after : Blocks) (intact : IsIntact refs_of old m []) (c : ChangesBase old new db) (name ref : BlockRef) (keys : Renames (table_at old db) (table_at new db) at ref) (named : keys.element.key ≡ name) (bytes : after ref ≡ m name) (p : Changes m after (name ∷ []) (ref ∷ [])) where
+    abbrev moved : Element V
+    moved = record keys.element { key = ref }
+
+    balance : (r : BlockRef) → times r (owned refs_of new) + times r (name ∷ []) ≡ times r (owned refs_of old) + times r (ref ∷ [])
+    balance r =
+        let there : times r (own_of refs_of (item (table_at old db) at)) ≡ times r (name ∷ refs_of keys.element.value) = ap (λ o. times r (own_of refs_of o)) keys.found ∙ ap (λ k. times r (k ∷ refs_of keys.element.value)) named in
+        omega (arith, there, refs_changed refs_of (table_at old db) (table_at new db) at (Some moved) keys.updates r, owned_changed refs_of value_of own old new db c r)
+
+    -- what was owned and is owned has the bytes that it had
+    stay : (r : BlockRef) → 0 < times r (owned refs_of old) → 0 < times r (owned refs_of new) → after r ≡ m r
+    stay r was is = elim (cases_in r (name ∷ [])) [
+      | inl out ↦ Owned-others m after (name ∷ []) (ref ∷ []) (owned refs_of old) (λ q. omega (arith, intact.owned q)) p r was out
+      | inr isin ↦
+          (let to : ref ≡ r = in_one r ref (omega (arith, balance r, is, isin, intact.owned r, live-once m r)) in
+          ap after (sym to) ∙ bytes ∙ ap m (in_one r name isin))
+    ]
+
+    stay_other : (number other : ℕ) (e : Element V) → item (table_at old number) other ≡ Some e → item (table_at new number) other ≡ Some e → Stay m after e
+    stay_other number other e was is r isin = stay r (omega (arith, isin, item_owned refs_of value_of own old number other e r was)) (omega (arith, isin, item_owned refs_of value_of own new number other e r is))
+
+    stay_here : (other : ℕ) (e : Element V) → other ≢ at → item (table_at old db) other ≡ Some e → Stay m after e
+    stay_here other e apart found = stay_other db other e found (keys.updates.others other apart ∙ found)
+
+    stay_apart : (number other : ℕ) (e : Element V) → number ≢ db → item (table_at old number) other ≡ Some e → Stay m after e
+    stay_apart number other e apart found = stay_other number other e found (ap (λ (b : Base V). item b.keys other) (c.others number apart) ∙ found)
+
+    value_here : value_of after keys.element.value ≡ value_of m keys.element.value
+    value_here = own m after keys.element.value (λ r isin. stay r (omega (arith, isin, item_owned refs_of value_of own old db at keys.element r keys.found)) (omega (arith, isin, item_owned refs_of value_of own new db at moved r keys.updates.changed)))
+
+    keyed_here : Keyed after (table_at new db) × (key_tables after (table_at new db) ≡ key_tables m (table_at old db))
+    keyed_here = keys.keyed m after (intact.arranged.keyed db) (bytes ∙ ap m (sym named)) (λ other e apart found. name_stays m after e (stay_here other e apart found))
+
+    values_here : map_of after (value_of after) (table_at new db) ≡ map_of m (value_of m) (table_at old db)
+    values_here =
+        map_of-same m after (value_of m) (value_of after) (table_at old db) (table_at new db) (intact.arranged.keyed db) keyed_here.0
+        (λ i e there. elim (cases_eq i at) [
+          | inl here ↦
+              (let same : e ≡ keys.element = some_same (item (table_at old db) at) _ _ (ap (item (table_at old db)) (sym here) ∙ there) keys.found in
+              (at, moved, keys.updates.changed, bytes ∙ ap m (sym named) ∙ ap (λ (x : Element V). m x.key) (sym same), value_here ∙ ap (λ (x : Element V). value_of m x.value) (sym same)))
+          | inr other ↦ (i, e, keys.updates.others i other ∙ there, name_stays m after e (stay_here i e other there), value_stays m after e (stay_here i e other there))
+        ])
+        (λ i f there. elim (cases_eq i at) [
+          | inl here ↦
+              (let same : f ≡ moved = some_same (item (table_at new db) at) _ _ (ap (item (table_at new db)) (sym here) ∙ there) keys.updates.changed in
+              (at, keys.element, keys.found, ap (λ (x : Element V). after x.key) same ∙ bytes ∙ ap m (sym named)))
+          | inr other ↦ (let was = sym (keys.updates.others i other) ∙ there in (i, f, was, name_stays m after f (stay_here i f other was)))
+        ])
+
+    -- an element that is named by the block that moves is the one that it moves for
+    named_here : (i : ℕ) (f : Element ℕ) → item (deadlines_at old db).table i ≡ Some f → (n : Names (table_at old db) f.key) → n.at ≡ at → f.key ≡ name
+    named_here i f found n here = sym n.same ∙ ap (λ (x : Element V). x.key) (some_same (item (table_at old db) at) _ _ (ap (item (table_at old db)) (sym here) ∙ n.found) keys.found) ∙ named
+
+    -- a deadline of another key
+    other_timed : (i : ℕ) (f : Element ℕ) → item (deadlines_at old db).table i ≡ Some f → m f.key ≢ m name → (after f.key ≡ m f.key) × Names (table_at new db) f.key
+    other_timed i f found apart =
+        let n = (intact.arranged.timed db).names i f found in
+        let off : n.at ≢ at = λ here. apart (ap m (named_here i f found n here)) in (
+          subst (λ r. after r ≡ m r) n.same (name_stays m after n.element (stay_here n.at n.element off n.found)),
+          record { at = n.at; element = n.element; found = keys.updates.others n.at off ∙ n.found; same = n.same },
+        )
+
+    -- the key has no deadline
+    pub times_alone : (key : List ℕ) → m name ≡ Some key → deadlines_at new db ≡ deadlines_at old db → Lacks m (deadlines_at old db).table key → TimesMoved m after (table_at new db) (deadlines_at old db) (deadlines_at new db)
+    times_alone key is same lacks = subst (TimesMoved m after (table_at new db) (deadlines_at old db)) (sym same) (record {
+      timed = record { keyed = frame.0; names = λ i f found. (kept i f found).1; latest = t.latest };
+      times = map_of-frame m after (λ v. v) (λ v. v) (deadlines_at old db).table t.keyed frame.0 (λ i f found. ((kept i f found).0, refl));
+      tables = frame.1;
+      cursor = refl;
+      seed = refl;
+    })
+      where
+        t : IsTimed m (table_at old db) (deadlines_at old db)
+        t = intact.arranged.timed db
+
+        kept : (i : ℕ) (f : Element ℕ) → item (deadlines_at old db).table i ≡ Some f → (after f.key ≡ m f.key) × Names (table_at new db) f.key
+        kept i f found = other_timed i f found (λ e. lacks.each i f found (e ∙ is))
+
+        frame : Keyed after (deadlines_at old db).table × (key_tables after (deadlines_at old db).table ≡ key_tables m (deadlines_at old db).table)
+        frame = Keyed-frame m after (deadlines_at old db).table t.keyed (λ i f found. (kept i f found).0)
+
+    -- its deadline is named by the same block
+    pub times_with : (key : List ℕ) (number : ℕ) → m name ≡ Some key → Stands m (deadlines_at old db).table number key → Renames (deadlines_at old db).table (deadlines_at new db).table number ref → KeepsCursor (deadlines_at old db) (deadlines_at new db) → TimesMoved m after (table_at new db) (deadlines_at old db) (deadlines_at new db)
+    times_with key number is stands r cursor = record {
+      timed = record {
+        keyed = keyed.0;
+        names = λ i f found. elim (cases_eq i number) [
+          | inl here ↦
+              (let one' : f ≡ record r.element { key = ref } = some_same (item (deadlines_at new db).table number) _ _ (ap (item (deadlines_at new db).table) (sym here) ∙ found) r.updates.changed in
+              record { at = at; element = moved; found = keys.updates.changed; same = ap (λ (x : Element ℕ). x.key) (sym one') })
+          | inr other ↦ (let was = sym (r.updates.others i other) ∙ found in (kept i f other was).1)
+        ];
+        latest = λ i f found. elim (cases_eq i number) [
+          | inl here ↦
+              (let one' : f ≡ record r.element { key = ref } = some_same (item (deadlines_at new db).table number) _ _ (ap (item (deadlines_at new db).table) (sym here) ∙ found) r.updates.changed in
+              subst (λ d. d < 9223372036854775808) (ap (λ (x : Element ℕ). x.value) (sym one')) (t.latest number r.element r.found))
+          | inr other ↦ t.latest i f (sym (r.updates.others i other) ∙ found)
+        ];
+      };
+      times = map_of-renames m after (λ v. v) (deadlines_at old db).table (deadlines_at new db).table number ref t.keyed keyed.0 r (bytes ∙ sym same_bytes) (λ i f other found. (kept i f other found).0);
+      tables = keyed.1;
+      cursor = cursor;
+      seed = r.seed;
+    }
+      where
+        t : IsTimed m (table_at old db) (deadlines_at old db)
+        t = intact.arranged.timed db
+
+        same_bytes : m r.element.key ≡ m name
+        same_bytes = ap (λ (x : Element ℕ). m x.key) (some_same (item (deadlines_at old db).table number) _ _ r.found stands.found) ∙ stands.bytes ∙ sym is
+
+        kept : (i : ℕ) (f : Element ℕ) → i ≢ number → item (deadlines_at old db).table i ≡ Some f → (after f.key ≡ m f.key) × Names (table_at new db) f.key
+        kept i f other found = other_timed i f found (λ e. other (t.keyed.apart i number f r.element found r.found (e ∙ sym same_bytes)))
+
+        keyed : Keyed after (deadlines_at new db).table × (key_tables after (deadlines_at new db).table ≡ key_tables m (deadlines_at old db).table)
+        keyed = r.keyed m after t.keyed (bytes ∙ sym same_bytes) (λ i f other found. (kept i f other found).0)
+
+    pub name_relocates : TimesMoved m after (table_at new db) (deadlines_at old db) (deadlines_at new db) → Relocates refs_of value_of old new m after
+    name_relocates t =
+        relocates_one old new db m after intact.arranged c
+        (record { keyed = keyed_here.0; timed = t.timed; values = values_here; times = t.times; tables = keyed_here.1; times_tables = t.tables; cursor = t.cursor; seed = keys.seed; times_seed = t.seed })
+        stay_apart
+        (Changes-beside m after (name ∷ []) (ref ∷ []) (owned refs_of old) (owned refs_of new) p (λ r. omega (arith, intact.owned r)) (λ r. times r (owned refs_of old) - times r (name ∷ [])) (λ r. omega (arith, among r)) (λ r. omega (arith, among r, balance r)))
+      where
+        among : (r : BlockRef) → times r (name ∷ []) ≤ times r (owned refs_of old)
+        among r =
+            let there : times r (keys.element.key ∷ refs_of keys.element.value) ≡ times r (name ∷ refs_of keys.element.value) = ap (λ k. times r (k ∷ refs_of keys.element.value)) named in
+            omega (arith, there, item_owned refs_of value_of own old db at keys.element r keys.found)
+
+    pub name_replaces : Replaces old new db at keys.element moved
+    name_replaces = record {
+      found = keys.found;
+      stands = keys.updates.changed;
+      others = λ number other apart. elim apart [
+        | inl off ↦ ap (λ (b : Base V). item b.keys other) (c.others number off)
+        | inr off ↦ elim (cases_eq number db) [
+          | inl here ↦ subst (λ n. item (table_at new n) other ≡ item (table_at old n) other) (sym here) (keys.updates.others other off)
+          | inr away ↦ ap (λ (b : Base V). item b.keys other) (c.others number away)
+        ]
+      ];
+    }
+
+    pub name_passes : (later : Heap) → wants later ref ≡ false → PassesName later old new db at
+    name_passes later calm = record { was = keys.element; now = moved; replaces = name_replaces; same_value = refl; calm = calm }
+
+  -- the element's key block, as it was read
+  name_is : (t u : Table V) (at : ℕ) (name ref : BlockRef) (keys : Renames t u at ref) → key_at (item t at) ≡ Some name → keys.element.key ≡ name
+  name_is t u at name ref keys is = some_same (key_at (item t at)) _ _ (ap key_at keys.found) is
+
+  -- the key has no deadline
+  module _ (old new : Bases V) (db at : ℕ) (m after : Blocks) (intact : IsIntact refs_of old m []) (name ref : BlockRef) (is : key_at (item (table_at old db) at) ≡ Some name) (bytes : after ref ≡ m name) (p : Changes m after (name ∷ []) (ref ∷ [])) (c : ChangesTable old new db) (keys : Renames (table_at old db) (table_at new db) at ref) where
+    pub alone_relocates : (key : List ℕ) → m name ≡ Some key → Lacks m (deadlines_at old db).table key → Relocates refs_of value_of old new m after
+    alone_relocates key was lacks =
+        let named = name_is (table_at old db) (table_at new db) at name ref keys is in
+        name_relocates old new db at m after intact c.base name ref keys named bytes p (times_alone old new db at m after intact c.base name ref keys named bytes p key was c.deadlines lacks)
+
+    pub alone_passes : (later : Heap) → wants later ref ≡ false → PassesName later old new db at
+    alone_passes later calm = name_passes old new db at m after intact c.base name ref keys (name_is (table_at old db) (table_at new db) at name ref keys is) bytes p later calm
+
+  -- it has one, which is named by the same block
+  module _ (old mid new : Bases V) (db at : ℕ) (m after : Blocks) (intact : IsIntact refs_of old m []) (name ref : BlockRef) (is : key_at (item (table_at old db) at) ≡ Some name) (bytes : after ref ≡ m name) (p : Changes m after (name ∷ []) (ref ∷ [])) (c : ChangesTable old mid db) (keys : Renames (table_at old db) (table_at mid db) at ref) (d : ChangesDeadlines mid new db) where
+    both_keys : Renames (table_at old db) (table_at new db) at ref
+    both_keys = subst (λ (t : Table V). Renames (table_at old db) t at ref) (sym d.keys) keys
+
+    both_base : ChangesBase old new db
+    both_base = base_then old mid new db c.base d.base
+
+    pub with_relocates : (key : List ℕ) (number : ℕ) → m name ≡ Some key → Stands m (deadlines_at old db).table number key → Renames (deadlines_at mid db).table (deadlines_at new db).table number ref → KeepsCursor (deadlines_at mid db) (deadlines_at new db) → Relocates refs_of value_of old new m after
+    with_relocates key number was stands r cursor =
+        let named = name_is (table_at old db) (table_at new db) at name ref both_keys is in
+        name_relocates old new db at m after intact both_base name ref both_keys named bytes p
+        (times_with old new db at m after intact both_base name ref both_keys named bytes p key number was stands
+        (subst (λ (t : Timed). Renames t.table (deadlines_at new db).table number ref) c.deadlines r) (subst (λ (t : Timed). KeepsCursor t (deadlines_at new db)) c.deadlines cursor))
+
+    pub with_passes : (later : Heap) → wants later ref ≡ false → PassesName later old new db at
+    with_passes later calm = name_passes old new db at m after intact both_base name ref both_keys (name_is (table_at old db) (table_at new db) at name ref both_keys is) bytes p later calm
+
+  -- a key's block that wants no move
+  pub stays_passes : (later : Heap) (bases : Bases V) (db at : ℕ) (name : BlockRef) → IsSome (item (table_at bases db) at) → key_at (item (table_at bases db) at) ≡ Some name → wants later name ≡ false → PassesName later bases bases db at
+  stays_passes later bases db at name some is calm = by_item (item (table_at bases db) at) refl some
+    where
+      by_item : (o : Option (Element V)) → item (table_at bases db) at ≡ o → IsSome o → PassesName later bases bases db at
+      by_item None found none = cc
+      by_item (Some e) found one' = record {
+        was = e;
+        now = e;
+        replaces = record { found = found; stands = found; others = λ number other apart. refl };
+        same_value = refl;
+        calm = ap (wants later) (some_same (key_at (item (table_at bases db) at)) _ _ (ap key_at found) is) ∙ calm;
+      }
+
+  -- ---- the blocks of a value move
+
+  module _ (old mid : Bases V) (db at : ℕ) (m : Blocks) (intact : IsIntact refs_of old m []) (c : ChangesTable old mid db) (was vacant : V) (none : refs_of vacant ≡ []) (s : Swaps (table_at old db) (table_at mid db) at was vacant) (keyed : Keyed m (table_at mid db)) where
+    nothing : (r : BlockRef) → times r (refs_of vacant) ≡ 0
+    nothing r = ap (times r) none
+
+    out : IsIntact refs_of mid m (refs_of was)
+    out = over_intact refs_of value_of own old mid db m c at was vacant s keyed intact.arranged [] (refs_of was) intact (λ r. omega (arith, nothing r))
+
+    pub out_owned : Owned (refs_of was) m
+    out_owned r = omega (arith, out.owned r)
+
+    module _ (new : Bases V) (after : Blocks) (value back : V) (d : ChangesTable mid new db) (u : Swaps (table_at mid db) (table_at new db) at back value) (keyed_on : Keyed after (table_at mid db) → Keyed after (table_at new db)) (tables_in : key_tables m (table_at mid db) ≡ key_tables m (table_at old db)) (tables_on : key_tables after (table_at new db) ≡ key_tables after (table_at mid db)) (p : Changes m after (refs_of was) (refs_of value)) (same : value_of after value ≡ value_of m was) where
+      abbrev first : Element V
+      first = record { key = s.key; hash = s.hash; value = was }
+
+      abbrev last : Element V
+      last = record { key = s.key; hash = s.hash; value = value }
+
+      -- the element between
+      between : ◌≡◌ {A = Element V} (record { key = u.key; hash = u.hash; value = back }) (record { key = s.key; hash = s.hash; value = vacant })
+      between = some_same (item (table_at mid db) at) _ _ u.found s.updates.changed
+
+      stands : item (table_at new db) at ≡ Some last
+      stands = u.updates.changed ∙ (λ i. Some (record { key = (between i).key; hash = (between i).hash; value = value }))
+
+      kept_mid : (r : BlockRef) → 0 < times r (owned refs_of mid) → after r ≡ m r
+      kept_mid = kept_inside refs_of value_of own mid m after (refs_of was) (refs_of was) (refs_of value) out p (λ r. omega arith)
+
+      mid_stays : (number other : ℕ) (e : Element V) → item (table_at mid number) other ≡ Some e → Stay m after e
+      mid_stays number other e found r isin = kept_mid r (omega (arith, isin, item_owned refs_of value_of own mid number other e r found))
+
+      base : ChangesBase old new db
+      base = base_then old mid new db c.base d.base
+
+      apart_stays : (number other : ℕ) (e : Element V) → number ≢ db → item (table_at old number) other ≡ Some e → Stay m after e
+      apart_stays number other e off found = mid_stays number other e (ap (λ (b : Base V). item b.keys other) (c.base.others number off) ∙ found)
+
+      here_stays : (other : ℕ) (e : Element V) → other ≢ at → item (table_at old db) other ≡ Some e → Stay m after e
+      here_stays other e off found = mid_stays db other e (s.updates.others other off ∙ found)
+
+      name_here : after s.key ≡ m s.key
+      name_here = name_stays m after (record { key = s.key; hash = s.hash; value = vacant }) (mid_stays db at _ s.updates.changed)
+
+      frame : Keyed after (table_at mid db) × (key_tables after (table_at mid db) ≡ key_tables m (table_at mid db))
+      frame = Keyed-frame m after (table_at mid db) keyed (λ other e found. name_stays m after e (mid_stays db other e found))
+
+      timed_mid : IsTimed after (table_at mid db) (deadlines_at old db) × (moments after (deadlines_at old db) ≡ moments m (deadlines_at old db))
+      timed_mid = timed_frame m after (table_at mid db) (deadlines_at old db) (timed_swaps m (table_at old db) (table_at mid db) (deadlines_at old db) at was vacant s (intact.arranged.timed db)) (λ other e found. name_stays m after e (mid_stays db other e found))
+
+      same_times : deadlines_at new db ≡ deadlines_at old db
+      same_times = d.deadlines ∙ c.deadlines
+
+      values_moved : map_of after (value_of after) (table_at new db) ≡ map_of m (value_of m) (table_at old db)
+      values_moved =
+          map_of-same m after (value_of m) (value_of after) (table_at old db) (table_at new db) (intact.arranged.keyed db) (keyed_on frame.0)
+          (λ i e there. elim (cases_eq i at) [
+            | inl here ↦
+                (let one' : e ≡ first = some_same (item (table_at old db) at) _ _ (ap (item (table_at old db)) (sym here) ∙ there) s.found in
+                (at, last, stands, name_here ∙ ap (λ (x : Element V). m x.key) (sym one'), same ∙ ap (λ (x : Element V). value_of m x.value) (sym one')))
+            | inr other ↦ (i, e, u.updates.others i other ∙ (s.updates.others i other ∙ there), name_stays m after e (here_stays i e other there), value_stays m after e (here_stays i e other there))
+          ])
+          (λ i f there. elim (cases_eq i at) [
+            | inl here ↦
+                (let one' : f ≡ last = some_same (item (table_at new db) at) _ _ (ap (item (table_at new db)) (sym here) ∙ there) stands in
+                (at, first, s.found, ap (λ (x : Element V). after x.key) one' ∙ name_here))
+            | inr other ↦ (let then' = sym (s.updates.others i other) ∙ (sym (u.updates.others i other) ∙ there) in (i, f, then', name_stays m after f (here_stays i f other then')))
+          ])
+
+      renewed : Renewed m after (base_at old db) (base_at new db)
+      renewed = record {
+        keyed = keyed_on frame.0;
+        timed = subst (IsTimed after (table_at new db)) (sym same_times) (timed_swaps after (table_at mid db) (table_at new db) (deadlines_at old db) at back value u timed_mid.0);
+        values = values_moved;
+        times = ap (moments after) same_times ∙ timed_mid.1;
+        tables = tables_on ∙ frame.1 ∙ tables_in;
+        times_tables = ap (λ (t : Timed). key_tables after t.table) same_times ∙ (renewed_same m after (record { keys = table_at mid db; deadlines = deadlines_at old db }) keyed (timed_swaps m (table_at old db) (table_at mid db) (deadlines_at old db) at was vacant s (intact.arranged.timed db)) (λ other e found. mid_stays db other e found)).times_tables;
+        cursor = ap (λ (t : Timed). t.cursor) same_times;
+        seed = u.seed ∙ s.seed;
+        times_seed = ap (λ (t : Timed). t.table.seed) same_times;
+      }
+
+      -- what was taken out and what stands there between own no block
+      back_none : (r : BlockRef) → times r (refs_of back) ≡ 0
+      back_none r = ap (λ (x : Element V). times r (refs_of x.value)) between ∙ nothing r
+
+      pub value_relocates : Relocates refs_of value_of old new m after
+      value_relocates =
+          relocates_one old new db m after intact.arranged base renewed apart_stays
+          (Changes-beside m after (refs_of was) (refs_of value) (owned refs_of old) (owned refs_of new) p (λ r. omega (arith, intact.owned r)) (λ r. times r (owned refs_of mid))
+          (λ r. omega (arith, owned_swaps refs_of value_of own old mid db c.base r at was vacant s, nothing r))
+          (λ r. omega (arith, owned_swaps refs_of value_of own mid new db d.base r at back value u, back_none r)))
+
+      value_replaces : Replaces old new db at first last
+      value_replaces = record {
+        found = s.found;
+        stands = stands;
+        others = λ number other apart. elim apart [
+          | inl off ↦ ap (λ (b : Base V). item b.keys other) (base.others number off)
+          | inr off ↦ elim (cases_eq number db) [
+            | inl here ↦ subst (λ n. item (table_at new n) other ≡ item (table_at old n) other) (sym here) (u.updates.others other off ∙ s.updates.others other off)
+            | inr away ↦ ap (λ (b : Base V). item b.keys other) (base.others number away)
+          ]
+        ];
+      }
+
+      pub value_passes : (marks : V → List ℕ) (heap later : Heap) (from room : ℕ) (answer : Moved) → PassesPart refs_of value_of marks m after heap later was value from room answer → PassesElement refs_of marks later old new db at (Some from) room answer
+      value_passes marks heap later from room answer part = record {
+        was = first;
+        now = last;
+        replaces = value_replaces;
+        name_passed = λ none. cc;
+        name_stays = λ some. refl;
+        same_marks = part.same_marks;
+        passed = part.passed;
+        bounded = record { few = omega (arith, part.bounded.few); within = part.bounded.within; on = part.bounded.on };
+      }
+
+-- a key's block was passed, and then a part of its value
+module _ {V : Type 0} (refs_of : V → List BlockRef) (marks : V → List ℕ) (heap later : Heap) (old mid new : Bases V) (db at : ℕ) where
+  replaces_then : (a b c d : Element V) → Replaces old mid db at a b → Replaces mid new db at c d → Replaces old new db at a d
+  replaces_then a b c d p q = record {
+    found = p.found;
+    stands = q.stands;
+    others = λ number other apart. q.others number other apart ∙ p.others number other apart;
+  }
+
+  bounded_more : (passed from room : ℕ) (answer : Moved) → 0 < room → IsBounded passed from (room - 1) answer → IsBounded (1 + passed) from room (record { next = answer.next; used = answer.used + 1 })
+  bounded_more passed from room answer some b = record { few = omega (arith, b.few); within = omega (arith, b.within, some); on = further answer.next b.on }
+    where
+      further : (o : Option ℕ) → IfSome o (λ next. (from < next) × (room - 1 ≤ answer.used + 17)) → IfSome o (λ next. (from < next) × (room ≤ (answer.used + 1) + 17))
+      further None h = tt
+      further (Some next) h = (h.0, omega (arith, h.1))
+
+  pub element_passes : (mark : Option ℕ) (room : ℕ) (answer : Moved) → mark ≡ None → 0 < room → PassesName heap old mid db at → PassesElement refs_of marks later mid new db at (Some 0) (room - 1) answer → Calmer heap later → PassesElement refs_of marks later old new db at mark room (record { next = answer.next; used = answer.used + 1 })
+  element_passes mark room answer none some p q calmer =
+      subst (λ (o : Option ℕ). PassesElement refs_of marks later old new db at o room (record { next = answer.next; used = answer.used + 1 })) (sym none) (record {
+        was = p.was;
+        now = q.now;
+        replaces = replaces_then p.was p.now q.was q.now p.replaces q.replaces;
+        name_passed = λ _. ap (wants later) (q.name_stays refl ∙ ap (λ (x : Element V). x.key) same) ∙ calmer.calm p.now.key p.calm;
+        name_stays = λ some'. cc;
+        same_marks = q.same_marks ∙ ap marks value;
+        passed = record {
+          calm = q.passed.calm;
+          stays = λ index mark there below. absurd (omega (arith, below));
+        };
+        bounded = bounded_more (count_by (is_passed 0 answer.next) (marks q.now.value)) 0 room answer some (record { few = omega (arith, q.bounded.few); within = q.bounded.within; on = q.bounded.on });
+      })
+    where
+      same : q.was ≡ p.now
+      same = some_same (item (table_at mid db) at) _ _ q.replaces.found p.replaces.stands
+
+      value : q.was.value ≡ p.was.value
+      value = ap (λ (x : Element V). x.value) same ∙ p.same_value
