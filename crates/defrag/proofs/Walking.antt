@@ -1,0 +1,279 @@
+-- What a walk has passed where it goes on.
+use Rattle.std.proofs.Common.{◌≡◌, ◌⊎◌, inl, inr, ℕ, suc, ◌+◌, ◌-◌, ◌/◌, ◌<◌, ◌≤◌, true, false, List, [], ◌∷◌, length, get_or, flat_map, Option, Some, None, is_some, IsSome, refl, sym, ap, ◌∙◌, subst, arith}
+use Rattle.std.specs.Prelude.{IfSome, count_by, unwrap_or}
+use Rattle.std.specs.List.{slice_get}
+use Rattle.std.proofs.lemmas.Bool.{cases_lt, cond-false, and_from, le-leb, lt-ltb}
+use Rattle.std.proofs.lemmas.Option.{slice_get_within, slice_get-get_or}
+use Rattle.blocks.specs.declared.BlockRef.{BlockRef}
+use Rattle.blocks.specs.declared.Moved.{Moved}
+use Rattle.blocks.specs.Blocks.{Blocks, times, IsIn}
+use Rattle.blocks.specs.Slabs.{Heap, wants, per_slab, used_of, needed, Calmer}
+use Rattle.blocks.proofs.Refs.{cases_ref}
+use Rattle.blocks.proofs.Change.{one, cases_in, live-Some, Changes-same}
+use Rattle.blocks.proofs.Times.{times-append}
+use Rattle.rehash_dict.specs.Table.{at_item}
+use Rattle.held.specs.declared.databases.Base.{Base}
+use Rattle.held.specs.Table.{Table, Element, item, own_of, refs}
+use Rattle.held.specs.Databases.{ReadsOwn, Bases, no_base, table_at, owned}
+use Rattle.held.specs.Sound.{IsIntact, Sound}
+use Rattle.held.specs.Relocation.{is_before, is_passed, PassesElement, Relocates}
+use Rattle.held.proofs.Rehashing.{preserves_none}
+use Rattle.plain_world.specs.Worlds.{Value}
+use Rattle.defrag.specs.declared.walk.Walk.{Walk}
+use Rattle.defrag.specs.Swept.{IsBefore, HasPassed, IsSwept, of_database, of_item, of_mark}
+use Rattle.defrag.specs.Ways.{Shapes, shape_of, shape, SameShapes, behind, next_database, Leg, Way, IsOn, IsForward, vacant, ended, inside, here, further}
+
+some_same : {A : Type 0} (o : Option A) (x y : A) → o ≡ Some x → o ≡ Some y → x ≡ y
+some_same o x y h k = cc
+
+some_none : {A : Type 0} {X : Type 0} (o : Option A) (x : A) → o ≡ Some x → o ≡ None → X
+some_none o x h k = cc
+
+-- a reference that stands in a list stands there at an index
+in_list : (r : BlockRef) (xs : List BlockRef) → 0 < times r xs → (i : ℕ) × (slice_get xs i ≡ Some r)
+in_list r [] h = absurd (omega (arith, h))
+in_list r (x ∷ xs) h = elim (cases_ref x r) [
+  | inl same ↦ (0, ap Some same)
+  | inr other ↦
+      (let none : one r x ≡ 0 = cond-false _ _ _ other in
+      let rest = in_list r xs (omega (arith, h, none)) in
+      (suc rest.0, rest.1))
+]
+
+in_one : (r at : BlockRef) → 0 < times r (at ∷ []) → r ≡ at
+in_one r at h = elim (cases_ref at r) [
+  | inl same ↦ sym same
+  | inr other ↦ absurd (let none : one r at ≡ 0 = cond-false _ _ _ other in omega (arith, none, h))
+]
+
+-- as many slabs are needed where as many blocks stand in them
+needed_same : (a b : Heap) (class : ℕ) → used_of b class ≡ used_of a class → needed b class ≡ needed a class
+needed_same a b class same = ap (λ u. (u + (per_slab class - 1)) / per_slab class) same
+
+module _ {V : Type 0} (refs_of : V → List BlockRef) (marks : V → List ℕ) where
+  -- the walk goes past an item number that is vacant
+  pub swept_vacant : (bases : Bases V) (heap : Heap) (walk : Walk) → item (table_at bases walk.database) walk.item ≡ None → IsSwept refs_of marks bases heap walk → IsSwept refs_of marks bases heap (behind walk None)
+  swept_vacant bases heap walk none s = record { passing = s.passing; kept = s.kept; calm = λ r p. s.calm r (back r p) }
+    where
+      back : (r : BlockRef) → HasPassed refs_of marks bases (behind walk None) r → HasPassed refs_of marks bases walk r
+      back r (of_database number at e lt found isin) = of_database number at e lt found isin
+      back r (of_item at e lt found isin) = elim (cases_lt at walk.item) [
+        | inl less ↦ of_item at e less found isin
+        | inr over ↦ (let same : at ≡ walk.item = omega (arith, lt, over) in some_none (item (table_at bases walk.database) walk.item) e (ap (item (table_at bases walk.database)) (sym same) ∙ found) none)
+      ]
+      back r (of_mark e found before) = absurd before
+
+  -- the walk goes past the end of a database
+  pub swept_ended : (bases : Bases V) (heap : Heap) (walk : Walk) → ((at : ℕ) → walk.item ≤ at → item (table_at bases walk.database) at ≡ None) → IsSwept refs_of marks bases heap walk → IsSwept refs_of marks bases heap (next_database walk)
+  swept_ended bases heap walk none s = record { passing = s.passing; kept = s.kept; calm = λ r p. s.calm r (back r p) }
+    where
+      back : (r : BlockRef) → HasPassed refs_of marks bases (next_database walk) r → HasPassed refs_of marks bases walk r
+      back r (of_database number at e lt found isin) = elim (cases_lt number walk.database) [
+        | inl less ↦ of_database number at e less found isin
+        | inr over ↦
+            (let same : number ≡ walk.database = omega (arith, lt, over) in
+            let there : item (table_at bases walk.database) at ≡ Some e = subst (λ n. item (table_at bases n) at ≡ Some e) same found in
+            elim (cases_lt at walk.item) [
+              | inl less ↦ of_item at e less there isin
+              | inr over' ↦ some_none (item (table_at bases walk.database) at) e there (none at over')
+            ])
+      ]
+      back r (of_item at e lt found isin) = absurd (omega (arith, lt))
+      back r (of_mark e found before) = absurd before
+
+  -- the walk passes a part of a key's blocks
+  module _ (marked : (value : V) → length (marks value) ≡ length (refs_of value)) (old new : Bases V) (heap later : Heap) (walk : Walk) (room : ℕ) (answer : Moved) (p : PassesElement refs_of marks later old new walk.database walk.item walk.mark room answer) where
+    pub leg_inside : Leg (shape marks old) walk answer.used (behind walk answer.next)
+    leg_inside = inside (marks p.was.value) answer.next (ap (shape_of marks) p.replaces.found) (first answer.next p.bounded.on)
+        (let same = ap (λ ms. count_by (is_passed (unwrap_or walk.mark 0) answer.next) ms) p.same_marks in omega (arith, p.bounded.few, same)) refl
+      where
+        first : (o : Option ℕ) → IfSome o (λ next. (unwrap_or walk.mark 0 < next) × (room ≤ answer.used + 17)) → IfSome o (λ next. unwrap_or walk.mark 0 < next)
+        first None h = tt
+        first (Some next) h = h.0
+
+    module _ (calmer : Calmer heap later) (s : IsSwept refs_of marks old heap walk) where
+      was_calm : (r : BlockRef) → HasPassed refs_of marks old walk r → wants later r ≡ false
+      was_calm r h = calmer.calm r (s.calm r h)
+
+      before_calm : (r : BlockRef) (b : ℕ) → walk.mark ≡ Some b → IsBefore refs_of marks p.was (Some b) r → wants later r ≡ false
+      before_calm r b is h = was_calm r (of_mark p.was p.replaces.found (subst (λ o. IsBefore refs_of marks p.was o r) (sym is) h))
+
+      name_calm : (r : BlockRef) → r ≡ p.now.key → wants later r ≡ false
+      name_calm r is = by_mark walk.mark refl
+        where
+          by_mark : (o : Option ℕ) → walk.mark ≡ o → wants later r ≡ false
+          by_mark None e = ap (wants later) is ∙ p.name_passed e
+          by_mark (Some b) e = before_calm r b e (inl (is ∙ p.name_stays (ap is_some e)))
+
+      value_calm : (index mark : ℕ) (r : BlockRef) → slice_get (marks p.now.value) index ≡ Some mark → slice_get (refs_of p.now.value) index ≡ Some r → is_before answer.next mark ≡ true → wants later r ≡ false
+      value_calm index mark r has named before = elim (cases_lt mark (unwrap_or walk.mark 0)) [
+        | inl less ↦ by_mark walk.mark refl less
+        | inr over ↦ p.passed.calm index mark r has named (and_from _ _ (le-leb (unwrap_or walk.mark 0) mark over) before)
+      ]
+        where
+          by_mark : (o : Option ℕ) → walk.mark ≡ o → mark < unwrap_or walk.mark 0 → wants later r ≡ false
+          by_mark None e less = absurd (let none : unwrap_or walk.mark 0 ≡ 0 = ap (λ o. unwrap_or o 0) e in omega (arith, less, none))
+          by_mark (Some b) e less =
+              let bound : unwrap_or walk.mark 0 ≡ b = ap (λ o. unwrap_or o 0) e in
+              before_calm r b e (inr (record {
+                index = index;
+                mark = mark;
+                named = sym (p.passed.stays index mark has less) ∙ named;
+                marked = ap (λ ms. slice_get ms index) (sym p.same_marks) ∙ has;
+                below = omega (arith, less, bound);
+              }))
+
+      -- a key of a lower item number, or of a lower database
+      low_calm : (r : BlockRef) (number at : ℕ) (e : Element V) → (number < walk.database) ⊎ ((number ≡ walk.database) × (at < walk.item)) → item (table_at new number) at ≡ Some e → IsIn r (e.key ∷ refs_of e.value) → wants later r ≡ false
+      low_calm r number at e (inl lt) found isin = was_calm r (of_database number at e lt (sym (p.replaces.others number at (inl (λ same. omega (arith, lt, same)))) ∙ found) isin)
+      low_calm r number at e (inr low) found isin =
+          was_calm r (of_item at e low.1 (subst (λ n. item (table_at old n) at ≡ Some e) low.0 (sym (p.replaces.others number at (inr (λ same. omega (arith, low.1, same)))) ∙ found)) isin)
+
+      swept_by : (walk' : Walk) → ((r : BlockRef) → HasPassed refs_of marks new walk' r → wants later r ≡ false) → IsSwept refs_of marks new later walk'
+      swept_by walk' calm = record {
+        passing = calmer.passing ∙ s.passing;
+        kept = λ class lt. calmer.kept class ∙ s.kept class lt ∙ sym (needed_same heap later class (calmer.used class));
+        calm = calm;
+      }
+
+      -- a part of the value is left
+      pub swept_on : (next : ℕ) → answer.next ≡ Some next → IsSwept refs_of marks new later (behind walk (Some next))
+      swept_on next is = swept_by (behind walk (Some next)) calm
+        where
+          calm : (r : BlockRef) → HasPassed refs_of marks new (behind walk (Some next)) r → wants later r ≡ false
+          calm r (of_database number at e lt found isin) = low_calm r number at e (inl lt) found isin
+          calm r (of_item at e lt found isin) = low_calm r walk.database at e (inr (refl, lt)) found isin
+          calm r (of_mark e found (inl name)) = name_calm r (name ∙ ap (λ (x : Element V). x.key) (some_same (item (table_at new walk.database) walk.item) _ _ found p.replaces.stands))
+          calm r (of_mark e found (inr b)) =
+              let same : e ≡ p.now = some_same (item (table_at new walk.database) walk.item) _ _ found p.replaces.stands in
+              value_calm b.index b.mark r (subst (λ (x : Element V). slice_get (marks x.value) b.index ≡ Some b.mark) same b.marked) (subst (λ (x : Element V). slice_get (refs_of x.value) b.index ≡ Some r) same b.named)
+              (subst (λ o. is_before o b.mark ≡ true) (sym is) (lt-ltb b.mark next b.below))
+
+      all_calm : answer.next ≡ None → (r : BlockRef) → IsIn r (p.now.key ∷ refs_of p.now.value) → wants later r ≡ false
+      all_calm none r isin = elim (cases_in r (p.now.key ∷ [])) [
+        | inr name ↦ name_calm r (in_one r p.now.key name)
+        | inl out ↦
+            (let at = in_list r (refs_of p.now.value) (omega (arith, isin, out)) in
+            let within : at.0 < length (marks p.now.value) = omega (arith, slice_get_within (refs_of p.now.value) at.0 r at.1, marked p.now.value) in
+            value_calm at.0 (get_or (marks p.now.value) at.0 0) r (slice_get-get_or (marks p.now.value) at.0 0 within) at.1 (subst (λ o. is_before o (get_or (marks p.now.value) at.0 0) ≡ true) (sym none) refl))
+      ]
+
+      -- the whole key is passed
+      pub swept_over : answer.next ≡ None → IsSwept refs_of marks new later (behind walk None)
+      swept_over none = swept_by (behind walk None) calm
+        where
+          calm : (r : BlockRef) → HasPassed refs_of marks new (behind walk None) r → wants later r ≡ false
+          calm r (of_database number at e lt found isin) = low_calm r number at e (inl lt) found isin
+          calm r (of_item at e lt found isin) = elim (cases_lt at walk.item) [
+            | inl less ↦ low_calm r walk.database at e (inr (refl, less)) found isin
+            | inr over ↦
+                (let here' : at ≡ walk.item = omega (arith, lt, over) in
+                let same : e ≡ p.now = some_same (item (table_at new walk.database) walk.item) _ _ (ap (item (table_at new walk.database)) (sym here') ∙ found) p.replaces.stands in
+                all_calm none r (subst (λ (x : Element V). IsIn r (x.key ∷ refs_of x.value)) same isin))
+          ]
+          calm r (of_mark e found before) = absurd before
+
+  -- ---- where all databases are passed, all blocks are
+
+  table_in : (r : BlockRef) (items : List (Option (Element V))) → 0 < times r (flat_map (own_of refs_of) items) → (at : ℕ) × (e : Element V) × (at_item items at ≡ Some e) × IsIn r (e.key ∷ refs_of e.value)
+  table_in r [] h = absurd (omega (arith, h))
+  table_in r (None ∷ items) h = let rest = table_in r items h in (suc rest.0, rest.1, rest.2, rest.3)
+  table_in r (Some e ∷ items) h = elim (cases_in r (e.key ∷ refs_of e.value)) [
+    | inr isin ↦ (0, e, refl, isin)
+    | inl out ↦ (let rest = table_in r items (omega (arith, h, out, times-append r (e.key ∷ refs_of e.value) (flat_map (own_of refs_of) items))) in (suc rest.0, rest.1, rest.2, rest.3))
+  ]
+
+  abbrev base_refs : Base V → List BlockRef
+  base_refs base = refs refs_of base.keys
+
+  bases_in : (r : BlockRef) (list : List (Base V)) → 0 < times r (flat_map base_refs list) → (number : ℕ) × (number < length list) × (0 < times r (base_refs (get_or list number (no_base 0))))
+  bases_in r [] h = absurd (omega (arith, h))
+  bases_in r (b ∷ list) h = elim (cases_in r (base_refs b)) [
+    | inr isin ↦ (0, omega arith, isin)
+    | inl out ↦
+        (let rest = bases_in r list (omega (arith, h, out, times-append r (base_refs b) (flat_map base_refs list))) in
+        (suc rest.0, omega (arith, rest.1), rest.2))
+  ]
+
+  pub all_passed : (bases : Bases V) (blocks : Blocks) (walk : Walk) → Sound refs_of bases blocks → walk.database ≡ 16 → (r : BlockRef) → IsSome (blocks r) → HasPassed refs_of marks bases walk r
+  all_passed bases blocks walk sound ends r is =
+      let own : 0 < times r (owned refs_of bases) = omega (arith, sound.owns r, live-Some blocks r is) in
+      let base = bases_in r bases.bases own in
+      let there = table_in r (table_at bases base.0).items base.2 in
+      of_database base.0 there.0 there.1 (omega (arith, base.1, sound.arranged.sixteen, ends)) there.2 there.3
+
+  -- ---- ways
+
+  -- the same leg where the item numbers are as they were
+  pub leg_same : (old mid : Bases V) (from to : Walk) (units : ℕ) → SameShapes marks old mid → Leg (shape marks mid) from units to → Leg (shape marks old) from units to
+  leg_same old mid from to units same (vacant none one' is) = vacant (sym (same from.database from.item) ∙ none) one' is
+  leg_same old mid from to units same (ended none one' is) = ended (λ at over. sym (same from.database at) ∙ none at over) one' is
+  leg_same old mid from to units same (inside all next has lt few is) = inside all next (sym (same from.database from.item) ∙ has) lt few is
+
+  pub shapes_then : (a b c : Bases V) → SameShapes marks a b → SameShapes marks b c → SameShapes marks a c
+  shapes_then a b c p q number at = q number at ∙ p number at
+
+-- no element stands from its table's top on
+pub none_above : {V : Type 0} (t u : Table V) (top from : ℕ) → t ≡ u → ((at : ℕ) → IsSome (item t at) → at < top) → top ≤ from → (at : ℕ) → from ≤ at → item u at ≡ None
+none_above {V} t u top from is above over at more = subst (λ (x : Table V). item x at ≡ None) is (none (item t at) (λ some. omega (arith, above at some, over, more)))
+  where
+    none : (o : Option (Element V)) → (IsSome o → ⊥) → o ≡ None
+    none None h = refl
+    none (Some e) h = absurd (h refl)
+
+module _ {V : Type 0} (refs_of : V → List BlockRef) (value_of : Blocks → V → Value) (own : ReadsOwn refs_of value_of) where
+  -- nothing moved yet
+  pub relocates_none : (bases : Bases V) (m : Blocks) → IsIntact refs_of bases m [] → Relocates refs_of value_of bases bases m m
+  relocates_none bases m intact = record {
+    means = λ number. refl;
+    arranged = intact.arranged;
+    changes = Changes-same m (owned refs_of bases) (λ r. omega (arith, intact.owned r));
+    settings = (preserves_none refs_of value_of own m bases bases intact.arranged refl).settings;
+    keys = λ number. refl;
+    deadlines = λ number. refl;
+    cursors = λ number. refl;
+  }
+
+-- ---- a walk never comes back
+
+on_then : (a b c : Option ℕ) → IsOn a b → IsOn b c → IsOn a c
+on_then None b c p q = tt
+on_then (Some x) None c p q = absurd p
+on_then (Some x) (Some y) None p q = absurd q
+on_then (Some x) (Some y) (Some z) p q = omega (arith, p, q)
+
+on_same : (a : Option ℕ) → IsOn a a
+on_same None = tt
+on_same (Some x) = omega arith
+
+forward_same : (walk : Walk) → IsForward walk walk
+forward_same walk = inr (refl, inr (refl, on_same walk.mark))
+
+forward_then : (a b c : Walk) → IsForward a b → IsForward b c → IsForward a c
+forward_then a b c (inl p) (inl q) = inl (omega (arith, p, q))
+forward_then a b c (inl p) (inr q) = inl (omega (arith, p, q.0))
+forward_then a b c (inr p) (inl q) = inl (omega (arith, p.0, q))
+forward_then a b c (inr p) (inr q) = inr (p.0 ∙ q.0, items p.1 q.1)
+  where
+    items : (a.item < b.item) ⊎ ((a.item ≡ b.item) × IsOn a.mark b.mark) → (b.item < c.item) ⊎ ((b.item ≡ c.item) × IsOn b.mark c.mark) → (a.item < c.item) ⊎ ((a.item ≡ c.item) × IsOn a.mark c.mark)
+    items (inl x) (inl y) = inl (omega (arith, x, y))
+    items (inl x) (inr y) = inl (omega (arith, x, y.0))
+    items (inr x) (inl y) = inl (omega (arith, x.0, y))
+    items (inr x) (inr y) = inr (x.0 ∙ y.0, on_then a.mark b.mark c.mark x.1 y.1)
+
+leg_forward : (shapes : Shapes) (from to : Walk) (units : ℕ) → Leg shapes from units to → IsForward from to
+leg_forward shapes from to units (vacant none one' is) = subst (IsForward from) (sym is) (inr (refl, inl (omega arith)))
+leg_forward shapes from to units (ended none one' is) = subst (IsForward from) (sym is) (inl (omega arith))
+leg_forward shapes from to units (inside all next has lt few is) = subst (IsForward from) (sym is) (by_next next lt)
+  where
+    by_mark : (o : Option ℕ) (n : ℕ) → unwrap_or o 0 < n → IsOn o (Some n)
+    by_mark None n less = tt
+    by_mark (Some x) n less = omega (arith, less)
+
+    by_next : (o : Option ℕ) → IfSome o (λ mark. unwrap_or from.mark 0 < mark) → IsForward from (behind from o)
+    by_next None less = inr (refl, inl (omega arith))
+    by_next (Some n) less = inr (refl, inr (refl, by_mark from.mark n less))
+
+pub way_forward : (shapes : Shapes) (first last : Walk) (units : ℕ) → Way shapes first units last → IsForward first last
+way_forward shapes first _ _ here = forward_same first
+way_forward shapes first _ _ (further sum units mid last way leg) = forward_then first mid last (way_forward shapes first mid sum way) (leg_forward shapes mid last units leg)

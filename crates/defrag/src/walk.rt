@@ -1,0 +1,134 @@
+ghost use Rattle.std.specs.Prelude.{◌≡◌, ℕ, ◌+◌, ◌-◌, ◌*◌, ◌<◌, ◌≤◌, ◌↔◌, List, [], None, is_some, if◌then◌else◌, IsTrue, MatchBool};
+ghost use Rattle.blocks.specs.declared.BlockRef.{BlockRef};
+ghost use Rattle.blocks.specs.Slabs.{Calmer, slabs_of, needed};
+ghost use Rattle.held.specs.Databases.{table_at};
+ghost use Rattle.held.specs.Sound.{IsIntact, Sound, SoundBeside};
+ghost use Rattle.held.specs.Table.{item};
+ghost use Rattle.held.specs.Relocation.{Relocates};
+ghost use Rattle.defrag.specs.Swept.{IsSwept};
+ghost use Rattle.defrag.specs.Ways.{shape, SameShapes, Leg, Goes, IsForward, MayGo, MustStop};
+
+use blocks::{BlockStore, start_sweep};
+use held::{Held, Keyspace};
+
+// How many databases there are.
+const DATABASES: usize = 16;
+
+// How many units a step passes at most.
+const UNITS: u32 = 64;
+
+// How many of them a part of a key's blocks may take at least.
+const KEY_ROOM: u32 = 33;
+
+/// Where a pass over a keyspace stands: all keys of lower databases are passed, in its database those with lower item numbers, and
+/// where there is a mark, the key block of its item and the blocks of its value with lower marks.
+#[derive(Clone, Copy, Debug, PartialEq, Eq)]
+pub struct Walk {
+    database: usize,
+    item: usize,
+    mark: Option<u128>,
+}
+
+/// What a step of a walk leaves.
+#[derive(Clone, Copy, Debug, PartialEq, Eq)]
+pub enum Visit {
+    /// Some databases are still to be passed.
+    More,
+    /// The walk went through all databases, and its pass ended.
+    Done,
+}
+
+impl Walk {
+    /// Begins a pass over the store of a keyspace, and first ends one that is open.
+    pub fn start<V: Held, B: BlockStore>(keyspace: &mut Keyspace<V, B>) -> Walk
+        ensures place { result ≡ record { database = 0; item = 0; mark = None } }
+        ensures swept { IsSwept V.refs_of V.marks keyspace.new.bases (B.heap keyspace.new.store) result }
+        ensures bases { keyspace.new.bases ≡ keyspace.old.bases }
+        ensures blocks { B.blocks keyspace.new.store ≡ B.blocks keyspace.old.store }
+    {
+        start_sweep(&mut keyspace.store);
+        Walk {
+            database: 0,
+            item: 0,
+            mark: None,
+        }
+    }
+
+    // Whether so many units are enough for what stands at the walk's place.
+    fn goes_on<V: Held, B: BlockStore>(&self, keyspace: &Keyspace<V, B>, left: u32) -> bool
+        requires intact { IsIntact V.refs_of keyspace.now.bases (B.blocks keyspace.now.store) [] }
+        ensures { MatchBool result (MayGo keyspace.now.bases self.now left) (MustStop self.now left) }
+    {
+        if self.database >= DATABASES || left == 0 {
+            return false;
+        }
+        left >= KEY_ROOM || !keyspace.table(self.database).is_entry(self.item)
+    }
+
+    // Passes what stands at the walk's place: a part of a key's blocks, an item number that is vacant, or the end of a database.
+    // The answer is how many units that took.
+    fn pass<V: Held, B: BlockStore>(&mut self, keyspace: &mut Keyspace<V, B>, left: u32) -> u32
+        requires may { MayGo keyspace.old.bases self.old left }
+        requires intact { IsIntact V.refs_of keyspace.old.bases (B.blocks keyspace.old.store) [] }
+        ensures relocates { Relocates V.refs_of V.value_of keyspace.old.bases keyspace.new.bases (B.blocks keyspace.old.store) (B.blocks keyspace.new.store) }
+        ensures swept { IsSwept V.refs_of V.marks keyspace.old.bases (B.heap keyspace.old.store) self.old → IsSwept V.refs_of V.marks keyspace.new.bases (B.heap keyspace.new.store) self.new }
+        ensures leg { Leg (shape V.marks keyspace.old.bases) self.old result self.new }
+        ensures shapes { SameShapes V.marks keyspace.old.bases keyspace.new.bases }
+        ensures few { result ≤ left }
+        ensures smaller { 2 * (left - result) + (if is_some self.new.mark then 1 else 0) < 2 * left + (if is_some self.old.mark then 1 else 0) }
+        ensures inside { self.new.database ≤ 16 }
+    {
+        let table = keyspace.table(self.database);
+        if self.item >= table.top() {
+            self.database += 1;
+            self.item = 0;
+            self.mark = None;
+            return 1;
+        }
+        if !table.is_entry(self.item) {
+            self.item += 1;
+            self.mark = None;
+            return 1;
+        }
+        let moved = keyspace.relocate_key_part(self.database, self.item, self.mark, left);
+        match moved.next {
+            None => {
+                self.item += 1;
+                self.mark = None;
+                moved.used
+            }
+            Some(next) => {
+                self.mark = Some(next);
+                moved.used
+            }
+        }
+    }
+
+    /// Goes on with the pass until 64 units are used, or fewer than 33 are left where a key is to be begun or continued, or all
+    /// databases are passed. It moves each block passed that wants it, without memory. A unit is a block of a key passed, a vacant
+    /// item number passed, or the end of a database.
+    ///
+    /// It asks for a walk that hasn't answered `Done`.
+    pub fn step<V: Held, B: BlockStore>(&mut self, keyspace: &mut Keyspace<V, B>) -> Visit
+        requires place { self.old.database < 16 }
+        requires intact { IsIntact V.refs_of keyspace.old.bases (B.blocks keyspace.old.store) [] }
+        ensures relocates { Relocates V.refs_of V.value_of keyspace.old.bases keyspace.new.bases (B.blocks keyspace.old.store) (B.blocks keyspace.new.store) }
+        ensures sound { (out : List BlockRef) → SoundBeside V.refs_of keyspace.old.bases (B.blocks keyspace.old.store) out → SoundBeside V.refs_of keyspace.new.bases (B.blocks keyspace.new.store) out }
+        ensures more { result ≡ Visit.More ↔ (self.new.database < 16) }
+        ensures done { result ≡ Visit.Done ↔ (self.new.database ≡ 16) }
+        ensures forward { IsForward self.old self.new }
+        ensures goes { Goes (shape V.marks keyspace.old.bases) self.old self.new result }
+        ensures swept { result ≡ Visit.More → IsSwept V.refs_of V.marks keyspace.old.bases (B.heap keyspace.old.store) self.old → IsSwept V.refs_of V.marks keyspace.new.bases (B.heap keyspace.new.store) self.new }
+        ensures least { result ≡ Visit.Done → Sound V.refs_of keyspace.old.bases (B.blocks keyspace.old.store) → IsSwept V.refs_of V.marks keyspace.old.bases (B.heap keyspace.old.store) self.old → (class : ℕ) → class < 36 → slabs_of (B.heap keyspace.new.store) class ≡ needed (B.heap keyspace.new.store) class }
+    {
+        let mut left = UNITS;
+        'legs: while self.goes_on(keyspace, left) {
+            left -= self.pass(keyspace, left);
+        }
+        if self.database < DATABASES {
+            return Visit::More;
+        }
+        keyspace.store.end_pass();
+        Visit::Done
+    }
+}
