@@ -1,3 +1,4 @@
+pub mod Timing
 pub mod Onward
 pub mod Runs
 pub mod Finishing

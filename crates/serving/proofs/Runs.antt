@@ -11,7 +11,7 @@ use Rattle.resp_frames.specs.Feeding.{Gives}
 use Rattle.resp_frames.specs.Puts.{PutsFront}
 use Rattle.resp_frames.proofs.Giving.{framed_append}
 use Rattle.resp_frames.proofs.Streams.{framed_more}
-use Rattle.serving.specs.Path.{path, GoOn}
+use Rattle.serving.specs.Path.{path, CutPath, whole, at_last, GoOn}
 use Rattle.serving.specs.Output.{Onward}
 use Rattle.serving.specs.Answering.{Replied, RepliedPart, Serves, Breaks, Quits}
 use Rattle.serving.proofs.Onward.{onward_nothing, onward_then, onward_breaks}
@@ -20,7 +20,7 @@ go_on_append : (quits : Words → Bool) (p q : List Words) → GoOn quits p → 
 go_on_append quits [] q f g = g
 go_on_append quits (w ∷ p) q f g = (f.0, go_on_append quits p q f.1 g)
 
-module _ {E : Type 0} (X : E → Words → List Part → E → Type 0) (quits : Words → Bool) (spent : E → Bool) where
+module _ {E : Type 0} (X C : E → Words → List Part → E → Type 0) (quits : Words → Bool) (spent : E → Bool) where
   -- ways, one after the other
   path_append : (a b c : E) (p q : List Words) (r s : List (List Part)) → path X a p r b → path X b q s c → path X a (p ++ q) (r ++ s) c
   path_append a b c [] q [] s x y = subst (λ e. path X e q s c) x y
@@ -31,21 +31,30 @@ module _ {E : Type 0} (X : E → Words → List Part → E → Type 0) (quits : 
   path_items : (e0 e1 e2 : E) (xs ys : List Item) (r s : List (List Part)) → path X e0 (requests xs) r e1 → path X e1 (requests ys) s e2 → path X e0 (requests (xs ++ ys)) (r ++ s) e2
   path_items e0 e1 e2 xs ys r s x y = subst (λ l. path X e0 l (r ++ s) e2) (sym (flat_map-append asked xs ys)) (path_append e0 e1 e2 (requests xs) (requests ys) r s x y)
 
+  -- a way that goes on may be cut off
+  cut_append : (a b c : E) (p q : List Words) (r s : List (List Part)) → path X a p r b → CutPath X C b q s c → CutPath X C a (p ++ q) (r ++ s) c
+  cut_append a b c p q r s x (whole y) = whole (path_append a b c p q r s x y)
+  cut_append a b c p q r s x (at_last others last front reply mid is are y cut) =
+      at_last (p ++ others) last (r ++ front) reply mid (ap (λ l. p ++ l) is ∙ sym (append_assoc p others (last ∷ []))) (ap (λ l. r ++ l) are ∙ sym (append_assoc r front (reply ∷ []))) (path_append a b mid p others r front x y) cut
+
+  cut_items : (e0 e1 e2 : E) (xs ys : List Item) (r s : List (List Part)) → path X e0 (requests xs) r e1 → CutPath X C e1 (requests ys) s e2 → CutPath X C e0 (requests (xs ++ ys)) (r ++ s) e2
+  cut_items e0 e1 e2 xs ys r s x y = subst (λ l. CutPath X C e0 l (r ++ s) e2) (sym (flat_map-append asked xs ys)) (cut_append e0 e1 e2 (requests xs) (requests ys) r s x y)
+
   spelled_both : (r s : List (List Part)) → spelled r ++ spelled s ≡ spelled (r ++ s)
   spelled_both r s = sym (flat_map-append spelling r s)
 
   spelled_one : (reply : List Part) → spelling reply ≡ spelled (reply ∷ [])
   spelled_one reply = sym (append-nil (spelling reply))
 
-  serves_nothing : (bytes : List ℕ) (e : E) (o : SinkSeen) (p : List ℕ) → Serves X quits spent bytes bytes e e o o p p
+  serves_nothing : (bytes : List ℕ) (e : E) (o : SinkSeen) (p : List ℕ) → Serves X C quits spent bytes bytes e e o o p p
   serves_nothing bytes e o p = record { items = []; replies = []; framed = record { whole = refl; each = tt }; went = refl; go_on = tt; wrote = onward_nothing o p }
 
-  pub serves_starts : (bytes : List ℕ) (e : E) (o : SinkSeen) (p : List ℕ) → p ≡ [] → Serves X quits spent bytes bytes e e o o [] p
-  serves_starts bytes e o p none = let S : List ℕ → Type 0 = λ l. Serves X quits spent bytes bytes e e o o [] l in subst S (sym none) (serves_nothing bytes e o [])
+  pub serves_starts : (bytes : List ℕ) (e : E) (o : SinkSeen) (p : List ℕ) → p ≡ [] → Serves X C quits spent bytes bytes e e o o [] p
+  serves_starts bytes e o p none = let S : List ℕ → Type 0 = λ l. Serves X C quits spent bytes bytes e e o o [] l in subst S (sym none) (serves_nothing bytes e o [])
 
-  module _ (a b : List ℕ) (e0 e1 : E) (o0 o1 : SinkSeen) (p0 p1 : List ℕ) (f : Serves X quits spent a b e0 e1 o0 o1 p0 p1) where
+  module _ (a b : List ℕ) (e0 e1 : E) (o0 o1 : SinkSeen) (p0 p1 : List ℕ) (f : Serves X C quits spent a b e0 e1 o0 o1 p0 p1) where
     -- it goes on
-    pub serves_then : (c : List ℕ) (e2 : E) (o2 : SinkSeen) (p2 : List ℕ) → Serves X quits spent b c e1 e2 o1 o2 p1 p2 → Serves X quits spent a c e0 e2 o0 o2 p0 p2
+    pub serves_then : (c : List ℕ) (e2 : E) (o2 : SinkSeen) (p2 : List ℕ) → Serves X C quits spent b c e1 e2 o1 o2 p1 p2 → Serves X C quits spent a c e0 e2 o0 o2 p0 p2
     serves_then c e2 o2 p2 g =
         let W : List ℕ → Type 0 = λ l. Onward o0 o2 p0 p2 l in
         record {
@@ -58,7 +67,7 @@ module _ {E : Type 0} (X : E → Words → List Part → E → Type 0) (quits : 
         }
 
     -- it breaks
-    pub breaks_then : (e2 : E) (o2 : SinkSeen) → Breaks X quits spent b e1 e2 o1 o2 p1 → Breaks X quits spent a e0 e2 o0 o2 p0
+    pub breaks_then : (e2 : E) (o2 : SinkSeen) → Breaks X C quits spent b e1 e2 o1 o2 p1 → Breaks X C quits spent a e0 e2 o0 o2 p0
     breaks_then e2 o2 g =
         let W : List ℕ → Type 0 = λ l. PutsFront o0 o2 (p0 ++ l) in
         record {
@@ -66,12 +75,12 @@ module _ {E : Type 0} (X : E → Words → List Part → E → Type 0) (quits : 
           replies = f.replies ++ g.replies;
           rest = g.rest;
           framed = framed_append a b g.rest f.items g.items f.framed g.framed;
-          went = path_items e0 e1 e2 f.items g.items f.replies g.replies f.went g.went;
+          went = cut_items e0 e1 e2 f.items g.items f.replies g.replies f.went g.went;
           wrote = subst W (spelled_both f.replies g.replies) (onward_breaks o0 o1 o2 p0 p1 _ _ f.wrote g.wrote);
         }
 
     -- it comes to a request that ends the run
-    pub quits_then : (e2 : E) (o2 : SinkSeen) (p2 : List ℕ) → Quits X quits spent b e1 e2 o1 o2 p1 p2 → Quits X quits spent a e0 e2 o0 o2 p0 p2
+    pub quits_then : (e2 : E) (o2 : SinkSeen) (p2 : List ℕ) → Quits X C quits spent b e1 e2 o1 o2 p1 p2 → Quits X C quits spent a e0 e2 o0 o2 p0 p2
     quits_then e2 o2 p2 g =
         let W : List ℕ → Type 0 = λ l. Onward o0 o2 p0 p2 l in
         record {
@@ -89,7 +98,7 @@ module _ {E : Type 0} (X : E → Words → List Part → E → Type 0) (quits : 
         }
 
     -- what is pending is put, or that fails
-    pub serves_put : (o2 : SinkSeen) → Onward o1 o2 p1 [] [] → Serves X quits spent a b e0 e1 o0 o2 p0 []
+    pub serves_put : (o2 : SinkSeen) → Onward o1 o2 p1 [] [] → Serves X C quits spent a b e0 e1 o0 o2 p0 []
     serves_put o2 g = let W : List ℕ → Type 0 = λ l. Onward o0 o2 p0 [] l in record {
       items = f.items;
       replies = f.replies;
@@ -99,7 +108,7 @@ module _ {E : Type 0} (X : E → Words → List Part → E → Type 0) (quits : 
       wrote = subst W (append-nil (spelled f.replies)) (onward_then o0 o1 o2 p0 p1 [] _ [] f.wrote g);
     }
 
-    pub serves_fails : (o2 : SinkSeen) → PutsFront o1 o2 p1 → Breaks X quits spent a e0 e1 o0 o2 p0
+    pub serves_fails : (o2 : SinkSeen) → PutsFront o1 o2 p1 → Breaks X C quits spent a e0 e1 o0 o2 p0
     serves_fails o2 g =
         let W : List ℕ → Type 0 = λ l. PutsFront o0 o2 (p0 ++ l) in
         let G : List ℕ → Type 0 = λ l. PutsFront o1 o2 l in
@@ -108,16 +117,16 @@ module _ {E : Type 0} (X : E → Words → List Part → E → Type 0) (quits : 
           replies = f.replies;
           rest = b;
           framed = f.framed;
-          went = f.went;
+          went = whole f.went;
           wrote = subst W (append-nil (spelled f.replies)) (onward_breaks o0 o1 o2 p0 p1 _ [] f.wrote (subst G (sym (append-nil p1)) g));
         }
 
     -- more bytes come
-    pub serves_more : (more : List ℕ) → Serves X quits spent (a ++ more) (b ++ more) e0 e1 o0 o1 p0 p1
+    pub serves_more : (more : List ℕ) → Serves X C quits spent (a ++ more) (b ++ more) e0 e1 o0 o1 p0 p1
     serves_more more = record { items = f.items; replies = f.replies; framed = framed_more a b more f.items f.framed; went = f.went; go_on = f.go_on; wrote = f.wrote }
 
-  module _ (a : List ℕ) (e0 e1 : E) (o0 o1 o2 : SinkSeen) (p0 p1 : List ℕ) (f : Quits X quits spent a e0 e1 o0 o1 p0 p1) where
-    pub quits_put : Onward o1 o2 p1 [] [] → Quits X quits spent a e0 e1 o0 o2 p0 []
+  module _ (a : List ℕ) (e0 e1 : E) (o0 o1 o2 : SinkSeen) (p0 p1 : List ℕ) (f : Quits X C quits spent a e0 e1 o0 o1 p0 p1) where
+    pub quits_put : Onward o1 o2 p1 [] [] → Quits X C quits spent a e0 e1 o0 o2 p0 []
     quits_put g = let W : List ℕ → Type 0 = λ l. Onward o0 o2 p0 [] l in record {
       items = f.items;
       replies = f.replies;
@@ -132,7 +141,7 @@ module _ {E : Type 0} (X : E → Words → List Part → E → Type 0) (quits : 
       wrote = subst W (append-nil (spelled f.replies)) (onward_then o0 o1 o2 p0 p1 [] _ [] f.wrote g);
     }
 
-    pub quits_fails : PutsFront o1 o2 p1 → Breaks X quits spent a e0 e1 o0 o2 p0
+    pub quits_fails : PutsFront o1 o2 p1 → Breaks X C quits spent a e0 e1 o0 o2 p0
     quits_fails g =
         let W : List ℕ → Type 0 = λ l. PutsFront o0 o2 (p0 ++ l) in
         let G : List ℕ → Type 0 = λ l. PutsFront o1 o2 l in
@@ -141,12 +150,12 @@ module _ {E : Type 0} (X : E → Words → List Part → E → Type 0) (quits : 
           replies = f.replies;
           rest = f.rest;
           framed = f.framed;
-          went = f.went;
+          went = whole f.went;
           wrote = subst W (append-nil (spelled f.replies)) (onward_breaks o0 o1 o2 p0 p1 _ [] f.wrote (subst G (sym (append-nil p1)) g));
         }
 
   -- nothing is given out but what is passed over
-  pub serves_none : (a b : List ℕ) (e : E) (o : SinkSeen) (p : List ℕ) → Gives a b [] → Serves X quits spent a b e e o o p p
+  pub serves_none : (a b : List ℕ) (e : E) (o : SinkSeen) (p : List ℕ) → Gives a b [] → Serves X C quits spent a b e e o o p p
   serves_none a b e o p g =
       let R : List Words → Type 0 = λ l. path X e l [] e in
       record { items = g.items; replies = []; framed = g.framed; went = subst R (sym g.are) refl; go_on = subst (GoOn quits) (sym g.are) tt; wrote = onward_nothing o p }
@@ -156,7 +165,7 @@ module _ {E : Type 0} (X : E → Words → List Part → E → Type 0) (quits : 
     way reply may = let R : List Words → Type 0 = λ l. path X e0 l (reply ∷ []) e1 in subst R (sym g.are) (e1, may, refl)
 
     -- one request is given out and answered
-    pub serves_one : Replied X quits spent e0 e1 words o0 o1 p0 p1 false → Serves X quits spent a b e0 e1 o0 o1 p0 p1
+    pub serves_one : Replied X C quits spent e0 e1 words o0 o1 p0 p1 false → Serves X C quits spent a b e0 e1 o0 o1 p0 p1
     serves_one r = let W : List ℕ → Type 0 = λ l. Onward o0 o1 p0 p1 l in record {
       items = g.items;
       replies = r.reply ∷ [];
@@ -166,7 +175,7 @@ module _ {E : Type 0} (X : E → Words → List Part → E → Type 0) (quits : 
       wrote = subst W (spelled_one r.reply) r.wrote;
     }
 
-    pub quits_one : Replied X quits spent e0 e1 words o0 o1 p0 p1 true → Quits X quits spent a e0 e1 o0 o1 p0 p1
+    pub quits_one : Replied X C quits spent e0 e1 words o0 o1 p0 p1 true → Quits X C quits spent a e0 e1 o0 o1 p0 p1
     quits_one r = let W : List ℕ → Type 0 = λ l. Onward o0 o1 p0 p1 l in record {
       items = g.items;
       replies = r.reply ∷ [];
@@ -181,12 +190,12 @@ module _ {E : Type 0} (X : E → Words → List Part → E → Type 0) (quits : 
       wrote = subst W (spelled_one r.reply) r.wrote;
     }
 
-    pub breaks_one : RepliedPart X quits spent e0 e1 words o0 o1 p0 → Breaks X quits spent a e0 e1 o0 o1 p0
+    pub breaks_one : RepliedPart X C quits spent e0 e1 words o0 o1 p0 → Breaks X C quits spent a e0 e1 o0 o1 p0
     breaks_one r = let W : List ℕ → Type 0 = λ l. PutsFront o0 o1 (p0 ++ l) in record {
       items = g.items;
       replies = r.reply ∷ [];
       rest = b;
       framed = g.framed;
-      went = way r.reply r.may;
+      went = at_last [] words [] r.reply e0 g.are refl refl r.may;
       wrote = subst W (spelled_one r.reply) r.wrote;
     }

@@ -9,7 +9,7 @@ use Rattle.resp_frames.specs.Faults.{RequestFault}
 use Rattle.resp_frames.specs.Ends.{IsCut}
 use Rattle.resp_frames.specs.Feeding.{Feeding, SameFed}
 use Rattle.resp_frames.specs.Puts.{PutsAll, PutsFront}
-use Rattle.serving.specs.Path.{path, GoOn}
+use Rattle.serving.specs.Path.{path, CutPath, GoOn}
 use Rattle.serving.specs.Output.{Onward}
 use Rattle.serving.specs.declared.answering.Answer.{Answer}
 use Rattle.serving.specs.declared.answering.Answer.TheVariants as one
@@ -22,7 +22,7 @@ pub record IsBroken (feeder : Feeding) (rule at : ℕ) : Type 0 where
   pub fault : RequestFault feeder.kept rule from
   pub place : at + length from ≡ feeder.gone + length feeder.kept
 
-module _ {E : Type 0} (executes : E → Words → List Part → E → Type 0) (quits : Words → Bool) (spent : E → Bool) where
+module _ {E : Type 0} (executes cut_off : E → Words → List Part → E → Type 0) (quits : Words → Bool) (spent : E → Bool) where
   -- a request is answered, and ends the run or doesn't
   pub record Replied (before after : E) (words : Words) (old new : SinkSeen) (pending pending' : List ℕ) (ends : Bool) : Type 0 where
     pub reply : List Part
@@ -33,7 +33,7 @@ module _ {E : Type 0} (executes : E → Words → List Part → E → Type 0) (q
   -- a request is answered, and of its reply a front is written behind what was pending
   pub record RepliedPart (before after : E) (words : Words) (old new : SinkSeen) (pending : List ℕ) : Type 0 where
     pub reply : List Part
-    pub may : executes before words reply after
+    pub may : cut_off before words reply after
     pub wrote : PutsFront old new (pending ++ spelling reply)
 
   -- what `answer_one` does
@@ -59,7 +59,7 @@ module _ {E : Type 0} (executes : E → Words → List Part → E → Type 0) (q
     pub replies : List (List Part)
     pub rest : List ℕ
     pub framed : Framed bytes items rest
-    pub went : path executes before (requests items) replies after
+    pub went : CutPath executes cut_off before (requests items) replies after
     pub wrote : PutsFront old new (pending ++ spelled replies)
 
   -- the requests are answered up to one that ends the run

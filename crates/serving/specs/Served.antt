@@ -47,8 +47,9 @@ abbrev pub CountsWrites : SinkSeen → SinkSeen → Ended → Type 0
 CountsWrites old new endings.WriteFault = Rose old.faults new.faults
 CountsWrites old new ended = new.faults ≡ old.faults
 
--- Replies to some requests are allowed on the way from here to what is left, and end the run or don't.
-module _ {E : Type 0} (Allowed : List Words → List (List Part) → E → Type 0) (quits : Words → Bool) (spent : E → Bool) where
+-- Replies to some requests are allowed on the way from here to what is left, also where the last of them met a fault, and end
+-- the run or don't.
+module _ {E : Type 0} (Allowed AllowedCut : List Words → List (List Part) → E → Type 0) (quits : Words → Bool) (spent : E → Bool) where
   -- all of the requests are answered, none of which ends the run, and then the tail follows
   pub record AnswersAllOf (asked : List Words) (tail : List ℕ) (old new : SinkSeen) (last : E) : Type 0 where
     pub replies : List (List Part)
@@ -86,7 +87,7 @@ module _ {E : Type 0} (Allowed : List Words → List (List Part) → E → Type 
     pub split : asked ≡ some ++ others
     pub replies : List (List Part)
     pub then_is : E
-    pub may : Allowed some replies then_is
+    pub may : AllowedCut some replies then_is
     -- it is what is left, unless memory was refused too
     pub known : (then_is ≡ last) ⊎ (spent last ≡ true)
     pub tail : List ℕ

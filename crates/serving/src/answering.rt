@@ -1,18 +1,18 @@
 //! Requests are answered.
 
-ghost use Rattle.std.specs.Prelude.{◌≡◌, [], OnErr};
-ghost use Rattle.serving.specs.Timed.{Timed, TimedStep, timed_spent};
+ghost use Rattle.std.specs.Prelude.{◌≡◌, false, [], OnErr, map, drop};
+ghost use Rattle.serving.specs.Timed.{Timed, ReadsMoment, TimedStep, TimedCut, Works, timed_spent};
 ghost use Rattle.serving.specs.Output.{pending_bytes};
 ghost use Rattle.serving.specs.Answering.{AnswersOne, Finishes, AnswersAll, AllPut};
 
 use crate::pending::{Pending, flush};
 use crate::server::Server;
 use crate::writing::write_reply;
-use outside::{Clock, Sink};
+use outside::{Clock, Conductor, Pacer, Sink};
 use resp_frames::{Feeder, FrameFault, Request};
 
-/// The greatest moment, in milliseconds.
-pub const LATEST: u64 = 9_223_372_036_854_775_807;
+// The greatest moment, in milliseconds.
+const LATEST: u64 = 9_223_372_036_854_775_807;
 
 /// What became of one request.
 #[derive(Clone, Copy)]
@@ -42,18 +42,34 @@ pub enum Answered {
     Memory,
 }
 
-// Answers one request, at the moment that the clock tells.
+/// The moment that the clock tells, in milliseconds: at most the greatest one.
+pub fn moment_of(clock: &mut Box<dyn Clock>) -> u64
+    ensures { ReadsMoment (answers clock.old) (answers clock.new) result }
+{
+    clock.now().min(LATEST)
+}
+
+// Does the work that is planned next, at this moment.
+fn rest<E: Server>(engine: &mut E, conductor: &mut Conductor, moment: u64)
+    requires alive { E.spent engine.old ≡ false }
+    ensures { Works E.works moment engine.old engine.new (map (λ b. (⟦<dyn Pacer as Pacer>⟧ b.vtable).seen b.value) (drop conductor.old.front conductor.old.pacers.items)) (map (λ b. (⟦<dyn Pacer as Pacer>⟧ b.vtable).seen b.value) (drop conductor.new.front conductor.new.pacers.items)) }
+{
+    engine.background(conductor.next(), moment);
+}
+
+// Answers one request, at the moment that the clock tells, and then does what is planned.
 fn answer_one<E: Server, O: Sink>(
     engine: &mut E,
     clock: &mut Box<dyn Clock>,
+    conductor: &mut Conductor,
     request: &Request<'_>,
     pending: &mut Pending,
     output: &mut O,
 ) -> Answer
-    ensures { AnswersOne (TimedStep E.executes) E.quits (timed_spent E.spent) (record { engine = engine.old; clock = answers clock.old }) (record { engine = engine.new; clock = answers clock.new }) request.now
+    ensures { AnswersOne (TimedStep E.executes E.works E.quits) (TimedCut E.executes E.works E.quits) E.quits (timed_spent E.spent) (record { engine = engine.old; clock = answers clock.old; pacers = map (λ b. (⟦<dyn Pacer as Pacer>⟧ b.vtable).seen b.value) (drop conductor.old.front conductor.old.pacers.items) }) (record { engine = engine.new; clock = answers clock.new; pacers = map (λ b. (⟦<dyn Pacer as Pacer>⟧ b.vtable).seen b.value) (drop conductor.new.front conductor.new.pacers.items) }) request.now
         (O.seen output.old) (O.seen output.new) (pending_bytes pending.old) (pending_bytes pending.new) result }
 {
-    let moment = clock.now().min(LATEST);
+    let moment = moment_of(clock);
     let done = match engine.execute(request, moment) {
         Err(_) => return Answer::Memory,
         Ok(done) => done,
@@ -64,6 +80,7 @@ fn answer_one<E: Server, O: Sink>(
             if done.quit {
                 Answer::Quit
             } else {
+                rest(engine, conductor, moment);
                 Answer::Written
             }
         }
@@ -84,12 +101,13 @@ fn finish<O: Sink>(pending: &mut Pending, output: &mut O, answered: Answered) ->
 pub fn answer_all<E: Server, O: Sink>(
     engine: &mut E,
     clock: &mut Box<dyn Clock>,
+    conductor: &mut Conductor,
     feeder: &mut Feeder,
     pending: &mut Pending,
     output: &mut O,
 ) -> Answered
     requires { pending_bytes pending.old ≡ [] }
-    ensures answers { AnswersAll (TimedStep E.executes) E.quits (timed_spent E.spent) feeder.old feeder.new (record { engine = engine.old; clock = answers clock.old }) (record { engine = engine.new; clock = answers clock.new })
+    ensures answers { AnswersAll (TimedStep E.executes E.works E.quits) (TimedCut E.executes E.works E.quits) E.quits (timed_spent E.spent) feeder.old feeder.new (record { engine = engine.old; clock = answers clock.old; pacers = map (λ b. (⟦<dyn Pacer as Pacer>⟧ b.vtable).seen b.value) (drop conductor.old.front conductor.old.pacers.items) }) (record { engine = engine.new; clock = answers clock.new; pacers = map (λ b. (⟦<dyn Pacer as Pacer>⟧ b.vtable).seen b.value) (drop conductor.new.front conductor.new.pacers.items) })
         (O.seen output.old) (O.seen output.new) result }
     ensures none { AllPut (pending_bytes pending.new) result }
 {
@@ -104,7 +122,7 @@ pub fn answer_all<E: Server, O: Sink>(
             Ok(false) => return finish(pending, output, Answered::All),
             Ok(true) => {}
         }
-        match answer_one(engine, clock, &feeder.current(), pending, output) {
+        match answer_one(engine, clock, conductor, &feeder.current(), pending, output) {
             Answer::Written => {}
             Answer::Quit => return finish(pending, output, Answered::Quit),
             Answer::Fault => return Answered::Fault,

@@ -10,7 +10,7 @@ mod server;
 mod tests;
 mod writing;
 
-pub use answering::LATEST;
+pub use answering::moment_of;
 pub use ending::Ended;
 pub use pieces::serve_input;
 pub use server::{Done, Server};

@@ -1,8 +1,8 @@
 //! Requests of an input are served, piece by piece.
 
-ghost use Rattle.std.specs.Prelude.{◌≡◌, ◌^◌, ◌≤◌, ◌<◌, ◌+◌, [], length};
-ghost use Rattle.serving.specs.Timed.{Timed, TimedStep, timed_spent};
-ghost use Rattle.serving.specs.Path.{path};
+ghost use Rattle.std.specs.Prelude.{◌≡◌, ◌^◌, ◌≤◌, ◌<◌, ◌+◌, [], length, map, drop};
+ghost use Rattle.serving.specs.Timed.{Timed, TimedStep, TimedCut, timed_spent};
+ghost use Rattle.serving.specs.Path.{path, CutPath};
 ghost use Rattle.serving.specs.Output.{pending_bytes};
 ghost use Rattle.serving.specs.Served.{Served};
 ghost use Rattle.serving.specs.Taking.{Takes, IsFresh};
@@ -11,7 +11,7 @@ use crate::answering::{Answered, answer_all};
 use crate::ending::Ended;
 use crate::pending::Pending;
 use crate::server::Server;
-use outside::{Clock, Sink, Source};
+use outside::{Clock, Conductor, Pacer, Sink, Source};
 use resp_frames::{Feeder, put_fault};
 use std::alloc::Global;
 
@@ -51,6 +51,7 @@ fn take_piece<I: Source>(input: &mut I, room: &mut [u8], feeder: &mut Feeder) ->
 fn serve<E: Server, I: Source, O: Sink>(
     engine: &mut E,
     clock: &mut Box<dyn Clock>,
+    conductor: &mut Conductor,
     feeder: &mut Feeder,
     pending: &mut Pending,
     input: &mut I,
@@ -62,12 +63,12 @@ fn serve<E: Server, I: Source, O: Sink>(
     requires pending { pending_bytes pending.old ≡ [] }
     requires room { length room.old ≡ 65536 }
     requires limit { limit ≤ 2 ^ 62 }
-    ensures { Served (path (TimedStep E.executes) (record { engine = engine.old; clock = answers clock.old })) E.quits (timed_spent E.spent) limit (I.seen input.old) (I.seen input.new) (O.seen output.old) (O.seen output.new)
-        (record { engine = engine.new; clock = answers clock.new }) result }
+    ensures { Served (path (TimedStep E.executes E.works E.quits) (record { engine = engine.old; clock = answers clock.old; pacers = map (λ b. (⟦<dyn Pacer as Pacer>⟧ b.vtable).seen b.value) (drop conductor.old.front conductor.old.pacers.items) })) (CutPath (TimedStep E.executes E.works E.quits) (TimedCut E.executes E.works E.quits) (record { engine = engine.old; clock = answers clock.old; pacers = map (λ b. (⟦<dyn Pacer as Pacer>⟧ b.vtable).seen b.value) (drop conductor.old.front conductor.old.pacers.items) })) E.quits (timed_spent E.spent) limit (I.seen input.old) (I.seen input.new) (O.seen output.old) (O.seen output.new)
+        (record { engine = engine.new; clock = answers clock.new; pacers = map (λ b. (⟦<dyn Pacer as Pacer>⟧ b.vtable).seen b.value) (drop conductor.new.front conductor.new.pacers.items) }) result }
 {
     let mut taken: u64 = 0;
     'pieces: loop {
-        match answer_all(engine, clock, feeder, pending, output) {
+        match answer_all(engine, clock, conductor, feeder, pending, output) {
             Answered::All => {}
             Answered::Protocol(rule, at) => return match put_fault(output, rule, at) {
                 Ok(()) => Ended::Protocol { rule, at },
@@ -94,19 +95,20 @@ fn serve<E: Server, I: Source, O: Sink>(
     }
 }
 
-/// Serves the requests of the input with this engine, each at the moment that the clock tells. At most so many bytes are
-/// taken.
+/// Serves the requests of the input with this engine, each at the moment that the clock tells. After each but the last one,
+/// where that ends the run, the engine does what the conductor plans, at the same moment. At most so many bytes are taken.
 pub fn serve_input<E: Server, I: Source, O: Sink>(
     alloc: Global,
     engine: &mut E,
     clock: &mut Box<dyn Clock>,
+    conductor: &mut Conductor,
     input: &mut I,
     output: &mut O,
     limit: u64,
 ) -> Ended
     requires { limit ≤ 2 ^ 62 }
-    ensures { Served (path (TimedStep E.executes) (record { engine = engine.old; clock = answers clock.old })) E.quits (timed_spent E.spent) limit (I.seen input.old) (I.seen input.new) (O.seen output.old) (O.seen output.new)
-        (record { engine = engine.new; clock = answers clock.new }) result }
+    ensures { Served (path (TimedStep E.executes E.works E.quits) (record { engine = engine.old; clock = answers clock.old; pacers = map (λ b. (⟦<dyn Pacer as Pacer>⟧ b.vtable).seen b.value) (drop conductor.old.front conductor.old.pacers.items) })) (CutPath (TimedStep E.executes E.works E.quits) (TimedCut E.executes E.works E.quits) (record { engine = engine.old; clock = answers clock.old; pacers = map (λ b. (⟦<dyn Pacer as Pacer>⟧ b.vtable).seen b.value) (drop conductor.old.front conductor.old.pacers.items) })) E.quits (timed_spent E.spent) limit (I.seen input.old) (I.seen input.new) (O.seen output.old) (O.seen output.new)
+        (record { engine = engine.new; clock = answers clock.new; pacers = map (λ b. (⟦<dyn Pacer as Pacer>⟧ b.vtable).seen b.value) (drop conductor.new.front conductor.new.pacers.items) }) result }
 {
     let mut feeder = Feeder::new(alloc);
     let Ok(mut pending) = Pending::new(alloc) else {
@@ -118,6 +120,7 @@ pub fn serve_input<E: Server, I: Source, O: Sink>(
     serve(
         engine,
         clock,
+        conductor,
         &mut feeder,
         &mut pending,
         input,

@@ -3,30 +3,45 @@
 ghost use Rattle.std.specs.Prelude.{◌≤◌, ◌^◌, ⊤, [], None, false, bytes_eq, codes, slice_index_or};
 
 use crate::{Done, Ended, Server, serve_input};
-use outside::{Clock, ListClock, MemSink, MemSource, ReadFault, Sink, Source, WriteFault};
+use outside::{
+    Clock, Conductor, ListClock, ListPacer, MemSink, MemSource, Pacer, Plan, ReadFault, Sink,
+    Source, WriteFault,
+};
 use plain_world::{Memory, Reply};
 use resp_frames::Request;
 use std::alloc::{AllocError, Global};
 use std::cell::Cell;
 use std::test::Fail;
 
-// Answers each request with the number of its words, and ends the run with `QUIT`. At `FULL` memory is refused.
+// Answers each request with the number of its words, and ends the run with `QUIT`. At `FULL` memory is refused. It sums up the
+// steps that were planned, each by the moment at which they were.
 #[derive(Drop)]
 struct Counting {
     alloc: Global,
     executed: u64,
     last: u64,
+    worked: u64,
     is_spent: bool,
 }
 
 impl Server for Counting {
     ghost executes = { λ moment old words reply new. ⊤ };
 
+    ghost works = { λ moment plan old new. ⊤ };
+
     ghost quits = { λ words. bytes_eq (slice_index_or words 0 []) (codes "QUIT") };
 
     ghost spent = { λ engine. engine.is_spent };
 
+    fn background(&mut self, plan: Plan, moment: u64) {
+        let steps = plan.rehash as u64 + 2 * plan.defrag as u64 + 3 * plan.expire as u64;
+        self.worked = self.worked.wrapping_add(steps.wrapping_mul(moment));
+    }
+
     fn execute(&mut self, request: &Request<'_>, moment: u64) -> Result<Done, Memory> {
+        if self.is_spent {
+            return Err(AllocError);
+        }
         self.executed = self.executed.saturating_add(1);
         self.last = moment;
         let count = request.len();
@@ -51,6 +66,7 @@ impl Counting {
             alloc,
             executed: 0,
             last: 0,
+            worked: 0,
             is_spent: false,
         }
     }
@@ -157,10 +173,12 @@ fn served(
     let mut output = MemSink::new(vec![in alloc; 0u8; room]?, Vec::from_slice(alloc, writes)?);
     let mut engine = Counting::new(alloc);
     let mut clock: Box<dyn Clock> = Box::new(alloc, ListClock::new(Vec::new(alloc)))?;
+    let mut conductor = Conductor::new(Vec::new(alloc), 1);
     let ended = serve_input(
         alloc,
         &mut engine,
         &mut clock,
+        &mut conductor,
         &mut input,
         &mut output,
         limit,
@@ -296,10 +314,12 @@ fn replies_are_put_before_the_next_take(rt: HostRuntime) -> Result<(), Fail> {
     let mut engine = Counting::new(rt.alloc());
     let answers = Vec::from_slice(rt.alloc(), &[3u64, 5, u64::MAX])?;
     let mut clock: Box<dyn Clock> = Box::new(rt.alloc(), ListClock::new(answers))?;
+    let mut conductor = Conductor::new(Vec::new(rt.alloc()), 1);
     let ended = serve_input(
         rt.alloc(),
         &mut engine,
         &mut clock,
+        &mut conductor,
         &mut input,
         &mut output,
         MANY_BYTES,
@@ -309,5 +329,54 @@ fn replies_are_put_before_the_next_take(rt: HostRuntime) -> Result<(), Fail> {
     assert_eq!(rt; puts.get(), 3);
     // the greatest moment is that of a signed number
     assert_eq!(rt; engine.last, 9_223_372_036_854_775_807);
+    Ok(())
+}
+
+// A plan is asked for after each request, and done at the moment of the request; not after one that ends the run.
+#[test]
+fn plans_are_done_after_requests(rt: HostRuntime) -> Result<(), Fail> {
+    let alloc = rt.alloc();
+    // rehash, defragmentation and expiry steps of each plan
+    let plan = |rehash: u32, defrag: u32, expire: u32| Plan {
+        rehash,
+        defrag,
+        expire,
+    };
+    let rows: [(&[u8], &[u64], u64, u64); 4] = [
+        // 1 * 10, 2 * 2 * 20, 3 * 3 * 30, and no plan is left
+        (b"a\na\na\na\n", &[], 4, 10 + 80 + 270),
+        // requests without words ask for no plan and read no clock
+        (b"a\n\n*0\r\na\n", &[], 2, 10 + 80),
+        (b"a\nQUIT\na\n", &[], 2, 10),
+        // the reply to the first request waits for the end, whose put fails
+        (b"a\na\n", &[0], 2, 10 + 80),
+    ];
+    for (bytes, failing, executed, worked) in rows {
+        let mut input = MemSource::new(
+            Vec::from_slice(alloc, bytes)?,
+            Vec::new(alloc),
+            Vec::new(alloc),
+        );
+        let mut output = MemSink::new(vec![in alloc; 0u8; 100]?, Vec::from_slice(alloc, failing)?);
+        let answers = Vec::from_slice(alloc, &[10u64, 20, 30, 40])?;
+        let mut clock: Box<dyn Clock> = Box::new(alloc, ListClock::new(answers))?;
+        let plans = Vec::from_slice(alloc, &[plan(1, 0, 0), plan(0, 2, 0), plan(0, 0, 3)])?;
+        let pacer: Box<dyn Pacer> = Box::new(alloc, ListPacer::new(plans))?;
+        let mut pacers = Vec::new(alloc);
+        pacers.push(pacer)?;
+        let mut conductor = Conductor::new(pacers, 1);
+        let mut engine = Counting::new(alloc);
+        serve_input(
+            alloc,
+            &mut engine,
+            &mut clock,
+            &mut conductor,
+            &mut input,
+            &mut output,
+            MANY_BYTES,
+        );
+        assert_eq!(rt; engine.executed, executed);
+        assert_eq!(rt; engine.worked, worked);
+    }
     Ok(())
 }
