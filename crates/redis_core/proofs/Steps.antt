@@ -144,7 +144,8 @@ pub observed_keeps : {S : Type 0} (blocks : S → Blocks) (step_of : S → S →
 observed_keeps blocks step_of engine inside last e sound = record {
   sound = sound;
   served = subst (Served step_of engine.store) (sym (ap (λ x. x.store) e)) no_step;
-  settings = record { limits = ap (λ x. x.bases.limits) e; seed = ap (λ x. x.bases.seed) e };
+  settings = record { limits = ap (λ x. x.bases.limits) e; seed = ap (λ x. x.bases.seed) e; turn = ap (λ x. x.bases.turn) e };
+  walk = ap (λ x. x.walk) e;
 }
 
 -- an engine answers as its keyspace does, at the moment that it used
@@ -166,7 +167,8 @@ executes {S = S} blocks step_of engine inside moment words answered bases store 
       keeps = record {
         sound = a.stands.sound;
         served = subst (λ s. Served step_of s store) (ap (λ x. x.store) e) served;
-        settings = record { limits = a.stands.settings.limits ∙ ap (λ x. x.bases.limits) e; seed = a.stands.settings.seed ∙ ap (λ x. x.bases.seed) e };
+        settings = record { limits = a.stands.settings.limits ∙ ap (λ x. x.bases.limits) e; seed = a.stands.settings.seed ∙ ap (λ x. x.bases.seed) e; turn = a.stands.settings.turn ∙ ap (λ x. x.bases.turn) e };
+        walk = ap (λ x. x.walk) e;
       };
       alive = alive;
     }

@@ -1,6 +1,7 @@
 -- What contracts see of an engine, and what its calls do.
-use Rattle.std.specs.Prelude.{◌≡◌, ℕ, ◌<◌, List, Bool, max, true, false, Result, Ok, Err, IfOk}
+use Rattle.std.specs.Prelude.{◌≡◌, ℕ, ◌<◌, List, Bool, max, true, false, Option, None, IfSome, Result, Ok, Err, IfOk}
 use Rattle.blocks.specs.Blocks.{Blocks, Served}
+use Rattle.defrag.specs.declared.walk.Walk.{Walk}
 use Rattle.plain_world.specs.Words.{Words}
 use Rattle.plain_world.specs.Worlds.{World, live, new_world}
 use Rattle.plain_model.specs.Outcomes.{IsRefusal}
@@ -22,14 +23,19 @@ use Rattle.redis_core.specs.Touched.{scope_asked, RehashesNone, AsksNoSteps, Sho
 use Rattle.rdb_reader.specs.declared.fault.LoadFault.{LoadFault}
 use Rattle.rdb_reader.specs.declared.fault.LoadFault.TheVariants as faults
 
--- the databases and their store, the number of the selected one, the last moment that was used, and whether memory was
--- refused to the engine
+-- the databases and their store, the number of the selected one, the last moment that was used, the walk that is open, and
+-- whether memory was refused to the engine
 pub record State (S : Type 0) : Type 0 where
   pub bases : Bases
   pub store : S
   pub selected : ℕ
   pub last : ℕ
+  pub walk : Option Walk
   pub is_spent : Bool
+
+-- a walk that is open stands in a database
+abbrev pub IsOpen : Option Walk → Type 0
+IsOpen walk = IfSome walk (λ place. place.database < 16)
 
 module _ {S : Type 0} (blocks : S → Blocks) where
   -- the world that an engine holds, at the last moment that it used
@@ -40,17 +46,21 @@ module _ {S : Type 0} (blocks : S → Blocks) where
   abbrev pub HasNoKey : State S → Type 0
   HasNoKey engine = means 0 engine.bases (blocks engine.store) ≡ new_world
 
-  -- database 0 is selected, no database has a key, no moment was used yet and no memory refused
+  -- database 0 is selected, no database has a key, no moment was used yet and no memory refused, and the first expiry step is
+  -- database 0's
   pub record IsNew (engine : State S) : Type 0 where
     pub empty : HasNoKey engine
     pub selected : engine.selected ≡ 0
     pub last : engine.last ≡ 0
+    pub walk : engine.walk ≡ None
     pub alive : engine.is_spent ≡ false
+    pub turn : engine.bases.turn ≡ 0
 
-  -- The databases are sound, and one of them is selected.
-  pub record IsWhole (bases : Bases) (store : S) (selected : ℕ) : Type 0 where
+  -- The databases are sound, one of them is selected, and a walk that is open stands in one.
+  pub record IsWhole (bases : Bases) (store : S) (selected : ℕ) (walk : Option Walk) : Type 0 where
     pub sound : Sound bases (blocks store)
     pub within : selected < 16
+    pub walking : IsOpen walk
 
 -- its databases, over its store
 abbrev pub keyspace_of : {S : Type 0} → State S → Keyspace S
@@ -62,11 +72,13 @@ pub record Stays {S : Type 0} (old new : State S) : Type 0 where
   pub store : new.store ≡ old.store
   pub selected : new.selected ≡ old.selected
 
--- The keyspace is sound, the store was served placings, returns and writes alone, and what values are made with stays.
+-- The keyspace is sound, the store was served placings, returns and writes alone, and what values are made with stays, as does
+-- the walk that is open.
 pub record Keeps {S : Type 0} (blocks : S → Blocks) (step_of : S → S → Type 0) (old new : State S) : Type 0 where
   pub sound : Sound new.bases (blocks new.store)
   pub served : Served step_of old.store new.store
   pub settings : SameSettings old.bases new.bases
+  pub walk : new.walk ≡ old.walk
 
 -- The step of an engine: it answers a request by a step of the model on the world that it holds, and the moment counts as
 -- the last one used where that is later. Where the request is refused, databases, store and the selected one stay.

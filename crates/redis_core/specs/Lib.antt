@@ -1,3 +1,4 @@
 pub mod Touched
 pub mod Engines
 pub mod Laws
+pub mod Background

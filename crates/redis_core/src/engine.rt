@@ -1,19 +1,23 @@
 //! The engine, and what a request led to.
 
-ghost use Rattle.std.specs.Prelude.{◌≡◌, ◌⊎◌, false, true, max, IfOk, is_err};
+ghost use Rattle.std.specs.Prelude.{◌≡◌, ◌<◌, ◌⊎◌, None, false, true, max, IfOk, is_err};
 ghost use Rattle.outside.specs.Files.{IsListed};
 ghost use Rattle.blocks.specs.Blocks.{no_blocks};
 ghost use Rattle.object_codec.specs.Limits.{AreInRange};
 ghost use Rattle.keyspace.specs.Sound.{Sound};
 ghost use Rattle.rdb_reader.specs.Fetching.{Counts};
 ghost use Rattle.rdb_reader.specs.Loads.{Loads};
-ghost use Rattle.redis_core.specs.Engines.{world_of, HasNoKey, IsNew, Stays, Keeps, Executes, quits, is_memory};
+ghost use Rattle.redis_core.specs.Engines.{world_of, keyspace_of, HasNoKey, IsNew, Stays, Keeps, Executes, quits, is_memory};
+ghost use Rattle.redis_core.specs.Background.{Rests, IsTidy, HasLeastSlabs, no_steps};
+ghost use Rattle.redis_core.specs.declared.background.StepsDone.{StepsDone};
 
 use crate::answering::answer;
+use crate::background::{StepsDone, work};
 use blocks::BlockStore;
+use defrag::Walk;
 use keyspace::Keyspace;
 use object_codec::Limits;
-use outside::Host;
+use outside::{Host, Plan};
 use plain_model::{Ctx, Memory};
 use rand_core::SeedableRng;
 use rand_pcg::Pcg32;
@@ -33,6 +37,7 @@ pub struct Engine<B: BlockStore> {
     keyspace: Keyspace<B>,
     selected: usize,
     last: u64,
+    walk: Option<Walk>,
     is_spent: bool,
     dice: Pcg32,
 }
@@ -42,9 +47,9 @@ impl<B: BlockStore> Model for Engine<B> {
 
     ghost Value = { State B };
 
-    ghost view = { λ e. record { bases = e.keyspace.bases; store = e.keyspace.store; selected = e.selected; last = e.last; is_spent = e.is_spent } };
+    ghost view = { λ e. record { bases = e.keyspace.bases; store = e.keyspace.store; selected = e.selected; last = e.last; walk = e.walk; is_spent = e.is_spent } };
 
-    ghost invariant = { λ e. IsWhole B.blocks e.keyspace.bases e.keyspace.store e.selected };
+    ghost invariant = { λ e. IsWhole B.blocks e.keyspace.bases e.keyspace.store e.selected e.walk };
 }
 
 impl<B: BlockStore> Engine<B> {
@@ -64,16 +69,35 @@ impl<B: BlockStore> Engine<B> {
             keyspace,
             selected: 0,
             last: 0,
+            walk: None,
             is_spent: false,
             dice: Pcg32::seed_from_u64(seed),
         })
     }
 
-    /// This moment, in milliseconds, counts as the last one that was used where it is later.
-    pub fn observe(&mut self, moment: u64)
+    // This moment, in milliseconds, counts as the last one that was used where it is later.
+    fn observe(&mut self, moment: u64)
         ensures { self.new ≡ record self.old { last = max self.old.last moment } }
     {
         self.last = self.last.max(moment);
+    }
+
+    /// Does the work of a plan, without memory: so many expiry steps, then so many rehash steps, then so many steps of the walk
+    /// that packs the store, of which one begins where none is open. The moment, in milliseconds, counts as the last one that was
+    /// used where it is later. The answer says what was done.
+    ///
+    /// A spent engine does nothing.
+    pub fn background(&mut self, plan: Plan, moment: u64) -> StepsDone
+        ensures rests { self.old.is_spent ≡ false → Rests B.blocks B.heap B.step moment plan self.old self.new result }
+        ensures tidy { self.old.is_spent ≡ false → plan.expire ≡ 0 → IsTidy B.blocks B.heap (keyspace_of self.old) self.old.walk → IsTidy B.blocks B.heap (keyspace_of self.new) self.new.walk }
+        ensures least { self.old.is_spent ≡ false → plan.expire ≡ 0 → IsTidy B.blocks B.heap (keyspace_of self.old) self.old.walk → 0 < plan.defrag → self.new.walk ≡ None → HasLeastSlabs B.blocks B.heap (keyspace_of self.new) }
+        ensures spent { self.old.is_spent ≡ true → (self.new ≡ self.old) × (result ≡ no_steps) }
+    {
+        if self.is_spent {
+            return StepsDone::NONE;
+        }
+        self.observe(moment);
+        work(&mut self.keyspace, &mut self.walk, plan, self.last)
     }
 
     /// Whether a call answered `Memory`.
@@ -153,11 +177,17 @@ impl<B: BlockStore> Engine<B> {
 impl<B: BlockStore> Server for Engine<B> {
     ghost executes = { λ moment old words reply new. Executes B.blocks B.step moment old words reply new };
 
+    ghost works = { λ moment plan old new. (done : StepsDone) × Rests B.blocks B.heap B.step moment plan old new done };
+
     ghost quits = { quits };
 
     ghost spent = { λ engine. engine.is_spent };
 
     fn execute(&mut self, request: &Request<'_>, moment: u64) -> Result<Done, Memory> {
         Engine::execute(self, request, moment)
+    }
+
+    fn background(&mut self, plan: Plan, moment: u64) {
+        let _done = Engine::background(self, plan, moment);
     }
 }

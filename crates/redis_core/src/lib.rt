@@ -2,6 +2,7 @@
 #![tactic(auto)]
 
 mod answering;
+mod background;
 mod engine;
 #[cfg(test)]
 mod key_tests;
@@ -16,6 +17,7 @@ mod test_talk;
 #[cfg(test)]
 mod tests;
 
+pub use background::StepsDone;
 pub use engine::Engine;
 pub use laws::refusals_change_nothing;
 pub use serving::Done;
