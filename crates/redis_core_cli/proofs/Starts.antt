@@ -17,31 +17,35 @@ use Rattle.rdb_reader.specs.Loads.{Loads}
 use Rattle.rdb_reader.specs.declared.fault.LoadFault.{LoadFault}
 use Rattle.rdb_reader.specs.declared.fault.LoadFault.TheVariants as faults
 use Rattle.rdb_reader.specs.declared.loading.Loaded.{Loaded}
-use Rattle.redis_core.specs.Engines.{Keeps, Stays}
+use Rattle.redis_core.specs.Background.{Rests}
+use Rattle.redis_core.proofs.Working.{rests_still}
+use Rattle.redis_core.specs.Engines.{Keeps}
+use Rattle.redis_core.specs.declared.background.StepsDone.{StepsDone}
+use Rattle.outside.specs.declared.pacing.Plan.{Plan}
 use Rattle.redis_core_cli.specs.Engines.{Engine, world_of, IsFirst, Begun}
 use Rattle.redis_core_cli.specs.Given.{options_read}
 use Rattle.redis_core_cli.specs.declared.words.Options as words
 use Rattle.redis_core_cli.specs.Starting.{IsLoaded, NotLoaded, BeginsWith, Starts, CountsHost, is_host, ending_by}
 use Rattle.redis_core_cli.specs.declared.ending.Ending.{Ending}
 
--- an engine without a key holds the world of a server that was just begun, at whatever moment
-pub begun_world : (old new : Engine) (seed : ℕ) (limits : Limits) → Begun seed limits old → Stays old new → world_of new ≡ new_world
-begun_world old new seed limits b same =
-    ap (λ w. live w new.last)
-    (ap (λ db. means db new.bases (heap_blocks new.store)) (same.selected ∙ b.new.selected)
-    ∙ ap (λ bases. means 0 bases (heap_blocks new.store)) same.bases
-    ∙ ap (λ store. means 0 old.bases (heap_blocks store)) same.store
-    ∙ b.new.empty)
+-- an engine without a key that did the work of a plan holds the world of a server that was just begun
+begun_world : (moment : ℕ) (plan : Plan) (old new : Engine) (done : StepsDone) (seed : ℕ) (limits : Limits) → Begun seed limits old → Rests heap_blocks heap_slabs IsClassHeapStep moment plan old new done → world_of new ≡ new_world
+begun_world moment plan old new done seed limits b r =
+    r.works.stays new.selected new.last (omega arith)
+    ∙ ap (λ db. live (means db old.bases (heap_blocks old.store)) new.last) (r.selected ∙ b.new.selected)
+    ∙ ap (λ w. live w new.last) b.new.empty
     ∙ new_live new.last
 
 -- a new engine is a first one, and one that was served more stays it
-pub first_new : (engine : Engine) (store : ClassHeap) (seed : ℕ) (limits : Limits) → heap_blocks store ≡ no_blocks → heap_slabs store ≡ no_slabs → engine.store ≡ store → engine.bases.seed ≡ seed → engine.bases.limits ≡ limits → Sound engine.bases (heap_blocks engine.store) → IsFirst seed limits engine
-first_new engine store seed limits empty bare same is are sound = record { seed_is = is; limits_are = are; sound = sound; store = store; empty = empty; bare = bare; served = subst (Served IsClassHeapStep store) (sym same) no_step }
+pub first_new : (engine : Engine) (store : ClassHeap) (seed : ℕ) (limits : Limits) → heap_blocks store ≡ no_blocks → heap_slabs store ≡ no_slabs → engine.store ≡ store → engine.bases.seed ≡ seed → engine.bases.limits ≡ limits → engine.bases.turn ≡ 0 → engine.walk ≡ None → Sound engine.bases (heap_blocks engine.store) → IsFirst seed limits engine
+first_new engine store seed limits empty bare same is are turn walk sound = record { seed_is = is; limits_are = are; turn_is = turn; walk_is = walk; sound = sound; store = store; empty = empty; bare = bare; served = subst (Served IsClassHeapStep store) (sym same) no_step }
 
 pub first_then : (old new : Engine) (seed : ℕ) (limits : Limits) → IsFirst seed limits old → Keeps heap_blocks IsClassHeapStep old new → IsFirst seed limits new
 first_then old new seed limits f keeps = record {
   seed_is = keeps.settings.seed ∙ f.seed_is;
   limits_are = keeps.settings.limits ∙ f.limits_are;
+  turn_is = keeps.settings.turn ∙ f.turn_is;
+  walk_is = keeps.walk ∙ f.walk_is;
   sound = keeps.sound;
   store = f.store;
   empty = f.empty;
@@ -49,17 +53,20 @@ first_then old new seed limits f keeps = record {
   served = both IsClassHeapStep f.store old.store new.store f.served keeps.served;
 }
 
-pub first_stays : (old new : Engine) (seed : ℕ) (limits : Limits) → IsFirst seed limits old → Stays old new → IsFirst seed limits new
-first_stays old new seed limits f same =
-    let S : ClassHeap → Type 0 = λ store. Served IsClassHeapStep f.store store in
+-- the same of one that did the work of a plan of no step
+first_rests : (moment : ℕ) (plan : Plan) (old new : Engine) (done : StepsDone) (seed : ℕ) (limits : Limits) → plan.expire ≡ 0 → plan.defrag ≡ 0 → IsFirst seed limits old → Rests heap_blocks heap_slabs IsClassHeapStep moment plan old new done → IsFirst seed limits new
+first_rests moment plan old new done seed limits none still f r =
+    let s = rests_still heap_blocks heap_slabs IsClassHeapStep moment plan old new done none still r in
     record {
-      seed_is = ap (λ bases. bases.seed) same.bases ∙ f.seed_is;
-      limits_are = ap (λ bases. bases.limits) same.bases ∙ f.limits_are;
-      sound = subst (λ bases. Sound bases (heap_blocks new.store)) (sym same.bases) (subst (λ store. Sound old.bases (heap_blocks store)) (sym same.store) f.sound);
+      seed_is = r.works.seed ∙ f.seed_is;
+      limits_are = r.works.limits ∙ f.limits_are;
+      turn_is = s.turn ∙ f.turn_is;
+      walk_is = s.walk ∙ f.walk_is;
+      sound = r.works.sound;
       store = f.store;
       empty = f.empty;
       bare = f.bare;
-      served = subst S (sym same.store) f.served;
+      served = both IsClassHeapStep f.store old.store new.store f.served s.served;
     }
 
 -- the moment is the last one used, where none was before
@@ -93,8 +100,7 @@ module _ (before after : HostSeen) (name : List ℕ) where
   host_counts fault ending e c = subst (λ x. CountsHost before after name (is_host x)) (sym e) (host_by fault c)
 
 -- what begins without a file
-pub fresh_starts : (files : Files) (options : words.Options) (moment : ℕ) (old new : Engine) → options.file ≡ None → Begun options.seed options.limits old → new ≡ record old { last = max old.last moment } → Starts files (options_read options) moment (Ok new)
-fresh_starts files options moment old new none b is =
+pub fresh_starts : (files : Files) (options : words.Options) (moment : ℕ) (plan : Plan) (old new : Engine) (done : StepsDone) → plan.expire ≡ 0 → plan.defrag ≡ 0 → options.file ≡ None → Begun options.seed options.limits old → Rests heap_blocks heap_slabs IsClassHeapStep moment plan old new done → Starts files (options_read options) moment (Ok new)
+fresh_starts files options moment plan old new done none still unnamed b r =
     let P : Option (List ℕ) → Type 0 = λ o. BeginsWith files options.max_input o moment (world_of new) in
-    let same : Stays old new = record { bases = ap (λ (e : Engine). e.bases) is; store = ap (λ (e : Engine). e.store) is; selected = ap (λ (e : Engine). e.selected) is } in
-    (subst P (ap (λ file. (options_read (record options { file = file })).file) (sym none)) (begun_world old new options.seed options.limits b same), first_stays old new options.seed options.limits b.first same, last_is old.last new.last moment b.new.last (ap (λ (e : Engine). e.last) is))
+    (subst P (ap (λ file. (options_read (record options { file = file })).file) (sym unnamed)) (begun_world moment plan old new done options.seed options.limits b r), first_rests moment plan old new done options.seed options.limits none still b.first r, last_is old.last new.last moment b.new.last r.last)

@@ -20,7 +20,7 @@ use Rattle.redis_core_cli.specs.Notes.{Notes, refused_line, line_of}
 use Rattle.redis_core_cli.specs.Running.{Fails, Runs, begun, not_begun, RunsOf, RunsWords, read, unread}
 use Rattle.redis_core_cli.specs.Starting.{Standing, IsLoaded, BeginsWith, Begins, NotLoaded, NotBegun, UsesHost, is_host}
 use Rattle.redis_core_cli.specs.Statuses.{status_of, ending_of}
-use Rattle.redis_core_cli.specs.Headline.{MayAnswer, never, standing_clock, Concludes, NoHostFault, NoOutputFault, CountsFaults, NotesStatus, IsTold, IsAbsent, AtFirst, CanBegin, Excused, IsRefused, Exactly, Completes}
+use Rattle.redis_core_cli.specs.Headline.{may_answer, never, standing_clock, Concludes, NoHostFault, NoOutputFault, CountsFaults, NotesStatus, IsTold, IsAbsent, AtFirst, CanBegin, Excused, IsRefused, Exactly, Completes}
 use Rattle.redis_core_cli.specs.declared.ending.Ending.{Ending}
 use Rattle.redis_core_cli.specs.declared.ending.Ending.TheVariants as endings
 use Rattle.redis_core_cli.proofs.Counted.{stayed, reads_at, reads_surely, writes_at, not_served, not_begun_status, six_is_host, host_at, host_same, host_surely, host_alone}
@@ -112,13 +112,13 @@ module _ (files : Files) (limit : ℕ) (name : List ℕ) (moment : ℕ) where
 
 module _ (before after : Outside) (noted noted' : SinkSeen) (ending : Ending) (line : Notes noted noted' (line_of ending)) where
   abbrev Ran : Options → Type 0
-  Ran options = Runs Begins MayAnswer never standing_clock options before after ending
+  Ran options = Runs Begins may_answer may_answer never standing_clock options before after ending
 
   abbrev RanOf : Given → Type 0
-  RanOf given = RunsOf Begins MayAnswer never standing_clock given before after ending
+  RanOf given = RunsOf Begins may_answer may_answer never standing_clock given before after ending
 
   abbrev ReadOf : Given → Type 0
-  ReadOf given = RunsWords Begins MayAnswer never standing_clock given before after ending
+  ReadOf given = RunsWords Begins may_answer may_answer never standing_clock given before after ending
 
   -- the options are these
   ran_as : (given : Given) (options : Options) → RanOf given → given ≡ Run options → Ran options
@@ -239,7 +239,7 @@ module _ (before after : Outside) (noted noted' : SinkSeen) (ending : Ending) (l
       loadable_excused before.host.files options.max_input name f.moment can.bytes file.0 can.is can.few file.1 ending n
 
   served : (options : Options) → Ran options → CanBegin before options options.file → Excused (status_of ending) ⊎ ((ended : Ended) × (status_of ending ≡ status_of (ending_of ended)) × exactly.ServesExactly quits options.max_input before.input after.input ended)
-  served options (begun first last ended b host s reads is) can = inr (ended, ap status_of is, ends_exactly (MayAnswer options first) quits never options.max_input before.input after.input before.output after.output last ended s)
+  served options (begun first last ended b host s reads is) can = inr (ended, ap status_of is, ends_exactly (may_answer options first) (may_answer options first) quits never options.max_input before.input after.input before.output after.output last ended s)
   served options (not_begun f) can = inl (could_begin options f options.file can f.why)
 
   exactly_of : (given : Given) → RanOf given → Exactly given before after noted noted' (status_of ending)
@@ -288,7 +288,7 @@ module _ (before after : Outside) (noted noted' : SinkSeen) (ending : Ending) (l
   excused_whole (inl six) not = absurd (not six)
   excused_whole (inr eight) not = inr eight
 
-  no_put_fault : (options : Options) (first : Standing) → Begins options before first → (asked : List Words) → NoOutputFault options before after asked → NoWriteFault (MayAnswer options first) asked before.output after.output
+  no_put_fault : (options : Options) (first : Standing) → Begins options before first → (asked : List Words) → NoOutputFault options before after asked → NoWriteFault (may_answer options first) asked before.output after.output
   no_put_fault options first b asked (inl fit) = inl (fit first b)
   no_put_fault options first b asked (inr none) = inr none
 
@@ -296,7 +296,7 @@ module _ (before after : Outside) (noted noted' : SinkSeen) (ending : Ending) (l
       → NoHostFault before after → NoReadFault before.input after.input → NoOutputFault options before after asked → (status_of ending ≡ 0) ⊎ (status_of ending ≡ 8)
   run_completes options (begun first last ended b host s reads is) bytes asked end can told frames well few no_host no_read no_write =
       let P : Ending → Type 0 = λ e. (status_of e ≡ 0) ⊎ (status_of e ≡ 8) in
-      let whole = completes (MayAnswer options first) quits never options.max_input before.input after.input before.output after.output last ended s bytes asked end told frames well few no_read (no_put_fault options first b asked no_write) in
+      let whole = completes (may_answer options first) (may_answer options first) quits never options.max_input before.input after.input before.output after.output last ended s bytes asked end told frames well few no_read (no_put_fault options first b asked no_write) in
       subst P (sym is) (whole_status ended whole)
   run_completes options (not_begun f) bytes asked end can told frames well few no_host no_read no_write =
       excused_whole (could_begin options f options.file can f.why) (no_host_fault options f options.file refl can f.why no_host)

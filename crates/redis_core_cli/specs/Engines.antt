@@ -1,5 +1,5 @@
 -- The program's engine, over a class heap.
-use Rattle.std.specs.Prelude.{◌≡◌, ℕ}
+use Rattle.std.specs.Prelude.{◌≡◌, ℕ, None}
 use Rattle.blocks.specs.Blocks.{no_blocks, Served}
 use Rattle.blocks.specs.Slabs.{no_slabs}
 use Rattle.class_heap.specs.declared.heap.ClassHeap.{ClassHeap}
@@ -17,11 +17,14 @@ Engine = State ClassHeap
 abbrev pub world_of : Engine → World
 world_of engine = engines.world_of heap_blocks engine
 
--- Its hashes have this seed and its values these limits, and its keyspace is sound: each live block of the store is owned exactly once. The store was
--- served placings by the heap's rule, returns and writes alone, from one without a block or a slab.
+-- Its hashes have this seed and its values these limits, the first expiry step is the turn of database 0, no walk is open, and
+-- its keyspace is sound: each live block of the store is owned exactly once. The store was served placings by the heap's rule, returns and
+-- writes alone, from one without a block or a slab.
 pub record IsFirst (seed : ℕ) (limits : Limits) (engine : Engine) : Type 0 where
   pub seed_is : engine.bases.seed ≡ seed
   pub limits_are : engine.bases.limits ≡ limits
+  pub turn_is : engine.bases.turn ≡ 0
+  pub walk_is : engine.walk ≡ None
   pub sound : Sound engine.bases (heap_blocks engine.store)
   pub store : ClassHeap
   pub empty : heap_blocks store ≡ no_blocks

@@ -16,8 +16,7 @@ use Rattle.redis_core_cli.specs.declared.words as words
 use Rattle.redis_core_cli.specs.declared.words.Given.TheVariants as read
 
 -- the name of the file that is loaded, where there is one; the seed of hashes and random picks; the effort of background
--- work, which has no effect yet; the limits of packed forms; and how many bytes are taken at most from the input, and from a
--- file
+-- work; the limits of packed forms; and how many bytes are taken at most from the input, and from a file
 pub record Options : Type 0 where
   pub file : Option (List ℕ)
   pub seed : ℕ

@@ -15,11 +15,12 @@ use Rattle.rdb_reader.specs.Loads.{RefusesFile}
 use Rattle.redis_core.specs.Engines.{quits}
 use Rattle.resp_frames.specs.Ends.{End, Frames}
 use Rattle.serving.specs.declared.ending.Ended.{Ended}
+use Rattle.serving.specs.Timed.{ReadsMoment}
 use Rattle.serving.specs.Exactly.{ServesExactly, EndsWell, NoReadFault, AllFit}
 use Rattle.redis_core_cli.specs.Given.{Options, Given, Wrong, Run, Outside}
 use Rattle.redis_core_cli.specs.Notes.{Notes, refused_line, line_of}
 use Rattle.redis_core_cli.specs.Running.{RunsWords}
-use Rattle.redis_core_cli.specs.Starting.{Standing, ReadsMoment, Begins}
+use Rattle.redis_core_cli.specs.Starting.{Standing, Begins}
 use Rattle.redis_core_cli.specs.Statuses.{status_of, ending_of}
 use Rattle.redis_core_cli.specs.declared.ending.Ending.{Ending}
 
@@ -34,12 +35,16 @@ Clocked last clock (words ∷ asked) [] last' clock' = ⊥
 
 -- From here on, a plain map may answer the requests by these replies, and each complete scan among them covers all that stayed
 -- throughout it.
-pub record MayAnswer (options : Options) (first : Standing) (asked : List Words) (replies : List (List Part)) (last : Standing) : Type 0 where
+pub record MayAnswer (seed : ℕ) (first : Standing) (asked : List Words) (replies : List (List Part)) (last : Standing) : Type 0 where
   pub turns : List Turn
   pub clocked : Clocked first.last first.clock asked (calls_of turns) last.last last.clock
   pub are : replies_of turns ≡ replies
-  pub ran : run options.seed first.world turns last.world
+  pub ran : run seed first.world turns last.world
   pub covered : IsCovered turns
+
+-- the same of a run with these options
+abbrev pub may_answer : Options → Standing → List Words → List (List Part) → Standing → Type 0
+may_answer options = MayAnswer options.seed
 
 -- what is known of a world is known whether memory is refused or not
 abbrev pub never : Standing → Bool
@@ -53,7 +58,7 @@ standing_clock standing = standing.clock
 pub record Concludes (given : Given) (before after : Outside) (noted noted' : SinkSeen) (status : ℕ) : Type 0 where
   pub ending : Ending
   pub is : status ≡ status_of ending
-  pub run : RunsWords Begins MayAnswer never standing_clock given before after ending
+  pub run : RunsWords Begins may_answer may_answer never standing_clock given before after ending
   pub line : Notes noted noted' (line_of ending)
 
 -- a count rose where a status came, and stayed where another did
@@ -149,7 +154,7 @@ NoHostFault before after = (before.host.reading.sure ≡ true) ⊎ (Rose before.
 -- no fault of the output: whatever a plain map may answer fits, or none was counted
 abbrev pub NoOutputFault : Options → Outside → Outside → List Words → Type 0
 NoOutputFault options before after asked =
-    ((first : Standing) → Begins options before first → AllFit (MayAnswer options first) asked before.output.room) ⊎ (Rose before.output.faults after.output.faults → ⊥)
+    ((first : Standing) → Begins options before first → AllFit (may_answer options first) asked before.output.room) ⊎ (Rose before.output.faults after.output.faults → ⊥)
 
 -- with words that are taken, no file or one that can be loaded, an input of fewer bytes than the limit that ends after a
 -- whole request or holds a QUIT before any fault, and no fault counted, the run ends with status 0, unless memory wanted

@@ -6,3 +6,4 @@ pub mod Starting
 pub mod Running
 pub mod Stepped
 pub mod Headline
+pub mod Lent

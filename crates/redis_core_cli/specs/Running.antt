@@ -5,10 +5,11 @@ use Rattle.plain_world.specs.Words.{Words}
 use Rattle.plain_world.specs.declared.reply.Part.{Part}
 use Rattle.redis_core.specs.Engines.{quits}
 use Rattle.serving.specs.Served.{Served}
+use Rattle.serving.specs.Timed.{ReadsMoment}
 use Rattle.serving.specs.declared.ending.Ended.{Ended}
 use Rattle.serving.specs.declared.ending.Ended.TheVariants as served
 use Rattle.redis_core_cli.specs.Given.{Options, Given, Wrong, Run, Outside}
-use Rattle.redis_core_cli.specs.Starting.{ReadsMoment, NotBegun, UsesHost, is_host}
+use Rattle.redis_core_cli.specs.Starting.{NotBegun, UsesHost, is_host}
 use Rattle.redis_core_cli.specs.Statuses.{ending_of}
 use Rattle.redis_core_cli.specs.declared.ending.Ending.{Ending}
 use Rattle.redis_core_cli.specs.declared.ending.Ending.TheVariants as endings
@@ -28,12 +29,12 @@ ReadsNoMore served.Memory last after = Unit {0}
 ReadsNoMore served.WriteFault last after = Unit {0}
 ReadsNoMore ended last after = after ≡ last
 
--- From a first state some replies are allowed to requests, on the way to a last one.
-module _ {E : Type 0} (Begins : Options → Outside → E → Type 0) (Allowed : Options → E → List Words → List (List Part) → E → Type 0) (spent : E → Bool) (clock_of : E → Option Answers) where
+-- From a first state some replies are allowed to requests, on the way to a last one, also where the last of them met a fault.
+module _ {E : Type 0} (Begins : Options → Outside → E → Type 0) (Allowed AllowedCut : Options → E → List Words → List (List Part) → E → Type 0) (spent : E → Bool) (clock_of : E → Option Answers) where
   -- it begins with a state, and replies that are allowed from there are written; or it doesn't begin
   pub data Runs (options : Options) (before after : Outside) (ending : Ending) : Type 0 where
     begun : (first last : E) (ended : Ended) → Begins options before first → UsesHost options.file before.host after.host false
-        → Served (Allowed options first) quits spent options.max_input before.input after.input before.output after.output last ended → ReadsNoMore ended (clock_of last) after.clock → ending ≡ ending_of ended → Runs options before after ending
+        → Served (Allowed options first) (AllowedCut options first) quits spent options.max_input before.input after.input before.output after.output last ended → ReadsNoMore ended (clock_of last) after.clock → ending ≡ ending_of ended → Runs options before after ending
     not_begun : Fails options before after ending → Runs options before after ending
 
   -- wrong words touch nothing

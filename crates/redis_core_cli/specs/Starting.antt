@@ -1,15 +1,15 @@
 -- How a run begins.
-use Rattle.std.specs.Prelude.{◌≡◌, ℕ, ◌≤◌, List, length, min, Option, Some, None, Result, Ok, Err, Bool, true, false}
-use Rattle.outside.specs.Clocks.{Answers, Tells}
+use Rattle.std.specs.Prelude.{◌≡◌, ℕ, ◌≤◌, List, length, Option, Some, None, Result, Ok, Err, Bool, true, false}
+use Rattle.outside.specs.Clocks.{Answers}
 use Rattle.outside.specs.Counts.{Rose}
 use Rattle.outside.specs.Files.{Files, HostSeen, IsListed}
 use Rattle.plain_world.specs.Worlds.{World, new_world}
-use Rattle.plain_model.specs.Runs.{latest}
 use Rattle.rdb_grammar.specs.Files.{IsFile}
 use Rattle.rdb_reader.specs.Fetching.{IsFileOf, IsLongFile}
 use Rattle.rdb_reader.specs.Loads.{RefusesFile}
 use Rattle.rdb_reader.specs.declared.fault.LoadFault.{LoadFault}
 use Rattle.rdb_reader.specs.declared.fault.LoadFault.TheVariants as faults
+use Rattle.serving.specs.Timed.{ReadsMoment}
 use Rattle.redis_core_cli.specs.Engines.{Engine, world_of, IsFirst}
 use Rattle.redis_core_cli.specs.Given.{Options, Outside}
 use Rattle.redis_core_cli.specs.declared.ending.Ending.{Ending}
@@ -20,12 +20,6 @@ pub record Standing : Type 0 where
   pub world : World
   pub last : ℕ
   pub clock : Option Answers
-
--- the clock is read once, and its answer is the moment, cut at the greatest one
-pub record ReadsMoment (before after : Option Answers) (moment : ℕ) : Type 0 where
-  pub now : ℕ
-  pub read : Tells before now after
-  pub is : moment ≡ min now latest
 
 -- the host's file of this name has at most so many bytes, and is one of the format that means this world at the moment
 pub record IsLoaded (files : Files) (limit : ℕ) (name : List ℕ) (moment : ℕ) (world : World) : Type 0 where

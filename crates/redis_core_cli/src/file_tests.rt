@@ -77,6 +77,7 @@ fn ran(alloc: Global, file: &[u8], moment: u64, requests: &[u8]) -> Result<Came,
         &mut output,
         &mut notes,
         &mut clock,
+        Vec::new(alloc),
     );
     Ok(Came {
         status,

@@ -401,6 +401,7 @@ fn the_top_call(rt: HostRuntime) -> Result<(), Fail> {
         &mut output,
         &mut notes,
         &mut clock,
+        Vec::new(rt.alloc()),
     );
     assert_eq!(rt; status, 0);
     assert_eq!(rt; output.written(), b"$1\r\n5\r\n".as_slice());

@@ -5,9 +5,12 @@
 mod ending;
 #[cfg(test)]
 mod file_tests;
+mod lent;
 #[cfg(test)]
 mod loading_tests;
 mod notes;
+#[cfg(test)]
+mod plan_tests;
 mod starting;
 #[cfg(test)]
 mod string_tests;
@@ -24,7 +27,7 @@ use crate::ending::Ending;
 use crate::notes::note;
 use crate::top_call::redis_core;
 use crate::words::behind;
-use outside::{Clock, FileHost, Sink, StdSink, StdSource, SystemClock};
+use outside::{Clock, FileHost, Pacer, Sink, StdSink, StdSource, SteadyPacer, SystemClock};
 use std::alloc::AllocError;
 use std::env;
 use std::io::ErrorKind;
@@ -54,6 +57,9 @@ fn run_here<N: Sink>(rt: &HostRuntime, words: &[String], notes: &mut N) -> Resul
     let mut output = StdSink::new(rt.stdout());
     let mut clock: Box<dyn Clock> = Box::new(rt.alloc(), SystemClock::new(rt.clone()?))?;
     let alloc = rt.alloc();
+    let pacer: Box<dyn Pacer> = Box::new(alloc, SteadyPacer::new())?;
+    let mut pacers = Vec::new(alloc);
+    pacers.push(pacer)?;
     Ok(redis_core(
         alloc,
         words,
@@ -62,6 +68,7 @@ fn run_here<N: Sink>(rt: &HostRuntime, words: &[String], notes: &mut N) -> Resul
         &mut output,
         notes,
         &mut clock,
+        pacers,
     ))
 }
 

@@ -10,10 +10,17 @@ use crate::ending::Ending;
 use crate::words::Options;
 use class_heap::ClassHeap;
 use object_codec::Limits;
-use outside::Host;
+use outside::{Host, Plan};
 use rdb_reader::LoadFault;
 use redis_core::Engine;
 use std::alloc::Global;
+
+// A plan of no step.
+const NOTHING: Plan = Plan {
+    rehash: 0,
+    defrag: 0,
+    expire: 0,
+};
 
 // The ending of a run whose file is not loaded.
 fn not_loaded(fault: LoadFault) -> Ending
@@ -74,7 +81,7 @@ pub fn start<H: Host>(
     let mut engine = begin(alloc, options.limits, options.seed)?;
     match options.file {
         None => {
-            engine.observe(moment);
+            let _done = engine.background(NOTHING, moment);
             Ok(engine)
         }
         Some(name) => match load_file(&mut engine, host, name, options.max_input, moment) {

@@ -295,6 +295,7 @@ fn ran(alloc: Global, requests: &[u8], room: usize) -> Result<Came, AllocError> 
         &mut output,
         &mut notes,
         &mut clock,
+        Vec::new(alloc),
     );
     Ok(Came {
         status,

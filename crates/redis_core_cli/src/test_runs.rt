@@ -28,5 +28,14 @@ pub fn run_up_to<H: Host, I: Source, O: Sink, N: Sink>(
         }),
     };
     let mut clock: Box<dyn Clock> = Box::new(alloc, ListClock::new(Vec::new(alloc)))?;
-    Ok(run_given(alloc, given, host, input, output, notes, &mut clock))
+    Ok(run_given(
+        alloc,
+        given,
+        host,
+        input,
+        output,
+        notes,
+        &mut clock,
+        Vec::new(alloc),
+    ))
 }

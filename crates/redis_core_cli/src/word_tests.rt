@@ -119,6 +119,7 @@ fn ran(alloc: Global, line: &str, bytes: &[u8]) -> Result<Came, AllocError> {
         &mut output,
         &mut notes,
         &mut clock,
+        Vec::new(alloc),
     );
     Ok(Came {
         status,

@@ -22,8 +22,8 @@ pub struct Options<'a> {
     pub file: Option<&'a str>,
     /// The seed of hashes and random picks.
     pub seed: u64,
-    /// The effort of background work, from 0 to 100. It has no effect yet.
-    pub effort: u64,
+    /// The effort of background work, from 0 to 100: how many steps of each kind are planned after each request.
+    pub effort: u32,
     /// What values are made with.
     pub limits: Limits,
     /// So many bytes are taken at most from the input, and from a file.
@@ -189,7 +189,7 @@ fn read_number(matches: &ArgMatches<'_>, option: Number) -> Option<u64>
     }
 }
 
-// The same of a limit of packed forms.
+// The same of a small number.
 fn read_limit(matches: &ArgMatches<'_>, option: Number) -> Option<u32>
     requires usual { option.usual ≤ option.most }
     requires small { option.most < 2 ^ 32 }
@@ -197,7 +197,7 @@ fn read_limit(matches: &ArgMatches<'_>, option: Number) -> Option<u32>
     ensures none { IfNone result (is_right (rows_of (found_of matches.now)) (number_read option) ≡ false) }
 {
     match read_number(matches, option) {
-        Some(limit) => Some(limit as u32),
+        Some(number) => Some(number as u32),
         None => None,
     }
 }
@@ -224,7 +224,7 @@ fn read_options<'a>(matches: &ArgMatches<'a>) -> Option<Options<'a>>
     ensures none { IfNone result (list_all (is_right (rows_of (found_of matches.now))) numbers ≡ false) }
 {
     let seed = read_number(matches, SEED)?;
-    let effort = read_number(matches, EFFORT)?;
+    let effort = read_limit(matches, EFFORT)?;
     let max_input = read_number(matches, MAX_INPUT)?;
     let limits = read_limits(matches)?;
     Some(Options {

@@ -1,7 +1,5 @@
+use Rattle.redis_core_cli.proofs.Worlds.{run_read}
 use Rattle.redis_core_cli.proofs.top_call.run_given.Goals as goal
 
-pub run_words-ending-requires : goal.run_words-ending-requires
-run_words-ending-requires g c = c.requires
-
-pub returns : goal.returns
-returns g c = record { run = c.run_words-ending.ensures; line = c.note.ensures }
+pub returns-in-Run : goal.returns-in-Run
+returns-in-Run g c = run_read _ c.args.given c.in-Run.options _ _ _ _ c.run.result c.in-Run.is c.run.ensures
