@@ -86,6 +86,7 @@ unfitting (family.Connection connection.Select) words e = no_fit _ _ _ e
 unfitting (family.Connection connection.DbSize) words e = no_fit _ _ _ e
 unfitting (family.Connection connection.FlushDb) words e = no_fit _ _ _ e
 unfitting (family.Connection connection.FlushAll) words e = no_fit _ _ _ e
+unfitting (family.Connection connection.Memory) words e = no_fit _ _ _ e
 unfitting (family.Connection connection.Debug) words e = no_fit _ _ _ e
 unfitting (family.Connection connection.Ping) [] e = cc
 unfitting (family.Connection connection.Ping) (text ∷ []) e = cc

@@ -78,6 +78,7 @@ connection_row connection.Select = (codes "select", shape.Fixed 1)
 connection_row connection.DbSize = (codes "dbsize", shape.Fixed 0)
 connection_row connection.FlushDb = (codes "flushdb", shape.Choices 0)
 connection_row connection.FlushAll = (codes "flushall", shape.Choices 0)
+connection_row connection.Memory = (codes "memory", shape.Fixed 1)
 connection_row connection.Debug = (codes "debug", shape.Fixed 2)
 
 abbrev pub row_of : Name → List ℕ × Shape

@@ -3,7 +3,7 @@
 ghost use Rattle.std.specs.Prelude.{◌≡◌, ◌<◌, ◌∷◌, [], length, drop, true, Ok};
 ghost use Rattle.plain_model.specs.Meant.{meant};
 ghost use Rattle.plain_model.specs.Shapes.{and_then, chosen};
-ghost use Rattle.plain_model.specs.ConnectionWords.{ping_words, flush_words, debug_of};
+ghost use Rattle.plain_model.specs.ConnectionWords.{ping_words, flush_words, memory_of, debug_of};
 ghost use Rattle.plain_model.specs.declared.command.Command.TheVariants as commands;
 ghost use Rattle.command_table.specs.Readings.{Tells, TellsAs, at};
 ghost use Rattle.command_table.specs.Rows.{fits, connection_row};
@@ -42,16 +42,29 @@ fn flush(
     Ok(command)
 }
 
+// MEMORY: its second word.
+fn memory(request: &Request<'_>) -> Result<ConnectionCommand, ReadingFault>
+    requires { 1 < length request.now }
+    ensures { Tells (memory_of (at request.now 1)) result }
+{
+    if !is_word(request.word(1), b"slabs") {
+        return Err(ReadingFault::Refused(Refusal::Syntax));
+    }
+    Ok(ConnectionCommand::MemorySlabs)
+}
+
 // DEBUG: its second word, and a number of steps.
 fn debug(request: &Request<'_>) -> Result<ConnectionCommand, ReadingFault>
     requires { 2 < length request.now }
     ensures { Tells (debug_of (at request.now 1) (at request.now 2)) result }
 {
-    if !is_word(request.word(1), b"rehash") {
-        return Err(ReadingFault::Refused(Refusal::Syntax));
+    if is_word(request.word(1), b"rehash") {
+        return steps(request, 2).map(ConnectionCommand::DebugRehash);
     }
-    let n = steps(request, 2)?;
-    Ok(ConnectionCommand::DebugRehash(n))
+    if is_word(request.word(1), b"defrag") {
+        return steps(request, 2).map(ConnectionCommand::DebugDefrag);
+    }
+    Err(ReadingFault::Refused(Refusal::Syntax))
 }
 
 /// Turns the words of a command on the connection or the server into it. They are as many as its row takes.
@@ -72,6 +85,7 @@ pub fn read_connection(
         ConnectionName::DbSize => Ok(ConnectionCommand::DbSize),
         ConnectionName::FlushDb => flush(alloc, request, ConnectionCommand::FlushDb),
         ConnectionName::FlushAll => flush(alloc, request, ConnectionCommand::FlushAll),
+        ConnectionName::Memory => memory(request),
         ConnectionName::Debug => debug(request),
     }
 }

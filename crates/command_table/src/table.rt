@@ -90,6 +90,7 @@ pub enum ConnectionName {
     DbSize,
     FlushDb,
     FlushAll,
+    Memory,
     Debug,
 }
 
@@ -135,7 +136,7 @@ const OF_5: [Row; 5] = [
     Row(b"debug", Connection(ConnectionName::Debug), Fixed(2)),
 ];
 
-const OF_6: [Row; 15] = [
+const OF_6: [Row; 16] = [
     Row(b"getset", Strings(GetSet), Fixed(2)),
     Row(b"getdel", Strings(GetDel), Fixed(1)),
     Row(b"psetex", Strings(PSetEx), Fixed(3)),
@@ -151,6 +152,7 @@ const OF_6: [Row; 15] = [
     Row(b"object", Keys(KeyName::Object), Fixed(2)),
     Row(b"select", Connection(ConnectionName::Select), Fixed(1)),
     Row(b"dbsize", Connection(ConnectionName::DbSize), Fixed(0)),
+    Row(b"memory", Connection(ConnectionName::Memory), Fixed(1)),
 ];
 
 const OF_7: [Row; 3] = [

@@ -228,9 +228,14 @@ pub fn connection_line(alloc: Global, command: &ConnectionCommand) -> Result<Vec
         ConnectionCommand::DbSize => line(alloc, "DbSize", &[]),
         ConnectionCommand::FlushDb => line(alloc, "FlushDb", &[]),
         ConnectionCommand::FlushAll => line(alloc, "FlushAll", &[]),
+        ConnectionCommand::MemorySlabs => line(alloc, "MemorySlabs", &[]),
         ConnectionCommand::DebugRehash(n) => {
             let n = format!(in alloc; "{n}")?;
             line(alloc, "DebugRehash", &[n.as_bytes()])
+        }
+        ConnectionCommand::DebugDefrag(n) => {
+            let n = format!(in alloc; "{n}")?;
+            line(alloc, "DebugDefrag", &[n.as_bytes()])
         }
     }
 }

@@ -9,7 +9,7 @@ use Rattle.plain_world.specs.Words.{Words, longest, in_lower_case}
 use Rattle.plain_model.specs.Shapes.{Kind, Plain, Whole, Offset, Span, Database, Count, Steps, Cursor, Told, told, AllTold, and_then, whole, span, database, count, steps, are_digits, cursor, all_told, Row, fixed, repeated, Choice, choice_of, choose, chosen, with_choices}
 use Rattle.plain_model.specs.StringWords.{set_choices, no_set_choices, getex_choices, no_getex_choices, pairs_of, string_rows, set_of, getex_of, set_range_of, decrease_of}
 use Rattle.plain_model.specs.KeyWords.{expire_choices, no_expire_options, expire_of, clash, copy_choices, no_copy_options, scan_choices, no_scan_options, object_of, key_rows}
-use Rattle.plain_model.specs.ConnectionWords.{ping_words, flush_choices, debug_of, connection_rows}
+use Rattle.plain_model.specs.ConnectionWords.{ping_words, flush_choices, memory_of, debug_of, connection_rows}
 use Rattle.std.specs.Prelude.{neg_ℤ}
 use Rattle.int_text.specs.Decimal.{is_i64, number_of}
 use Rattle.plain_model.specs.Meant.{of_family, rows, read_by, meant}
@@ -202,6 +202,7 @@ FitsKeys other = Unit {0}
 abbrev pub FitsConnection : ConnectionCommand → Type 0
 FitsConnection (connection.Select number) = number < 16
 FitsConnection (connection.DebugRehash n) = n ≤ 1000000
+FitsConnection (connection.DebugDefrag n) = n ≤ 1000000
 FitsConnection other = Unit {0}
 
 abbrev pub FitsCommand : Command → Type 0
@@ -252,9 +253,13 @@ ping_fits (text ∷ more ∷ words) c e = cc
 
 debug_fits : (second n : List ℕ) (c : ConnectionCommand) → debug_of second n ≡ Ok c → FitsConnection c
 debug_fits second n c e =
-    let made_of : ℕ → Result ConnectionCommand Refusal = λ k. Ok (connection.DebugRehash k) in
-    if_has FitsConnection (bytes_eq (in_lower_case second) (codes "rehash")) (and_then (told Steps n) made_of) (Err Syntax)
-    (then_told FitsConnection (told Steps n) made_of (λ k is b. made FitsConnection (connection.DebugRehash k) b (told_keeps Steps n k is))) (never FitsConnection Syntax) c e
+    let rehash : ℕ → Result ConnectionCommand Refusal = λ k. Ok (connection.DebugRehash k) in
+    let defrag : ℕ → Result ConnectionCommand Refusal = λ k. Ok (connection.DebugDefrag k) in
+    let others : Result ConnectionCommand Refusal = if bytes_eq (in_lower_case second) (codes "defrag") then and_then (told Steps n) defrag else Err Syntax in
+    if_has FitsConnection (bytes_eq (in_lower_case second) (codes "rehash")) (and_then (told Steps n) rehash) others
+    (then_told FitsConnection (told Steps n) rehash (λ k is b. made FitsConnection (connection.DebugRehash k) b (told_keeps Steps n k is)))
+    (if_has FitsConnection (bytes_eq (in_lower_case second) (codes "defrag")) (and_then (told Steps n) defrag) (Err Syntax)
+    (then_told FitsConnection (told Steps n) defrag (λ k is b. made FitsConnection (connection.DebugDefrag k) b (told_keeps Steps n k is))) (never FitsConnection Syntax)) c e
 
 abbrev pub RowFits : {A : Type 0} → (A → Type 0) → Row A → Type 0
 RowFits {A} P row = (words : Words) (c : A) → row.read words ≡ Ok c → P c
@@ -266,7 +271,7 @@ key_rows_fit : AllByRecursion (RowFits FitsKeys) key_rows
 key_rows_fit = (repeated_fits FitsKeys [] 1 (λ a words. Ok (keys.Del words)) (λ a words c. made FitsKeys (keys.Del words) c tt), (repeated_fits FitsKeys [] 1 (λ a words. Ok (keys.Unlink words)) (λ a words c. made FitsKeys (keys.Unlink words) c tt), (repeated_fits FitsKeys [] 1 (λ a words. Ok (keys.Exists words)) (λ a words c. made FitsKeys (keys.Exists words) c tt), (repeated_fits FitsKeys [] 1 (λ a words. Ok (keys.Touch words)) (λ a words c. made FitsKeys (keys.Touch words) c tt), (fixed_fits FitsKeys (Plain ∷ []) (λ a. Ok (keys.TypeOf a.0)) (λ a keeps c. made FitsKeys (keys.TypeOf a.0) c tt), (chosen_fits FitsKeys (Plain ∷ Whole ∷ []) expire_choices no_expire_options (λ a o. expire_of keys.Expire a.0 a.1.0 o) (λ o. Unit {0}) (expire_choices_keep, tt) (λ a keeps o long c. if_has FitsKeys (clash o) (Err Syntax) (Ok (keys.Expire a.0 a.1.0 o)) (never FitsKeys Syntax) (λ b. made FitsKeys (keys.Expire a.0 a.1.0 o) b tt) c), (chosen_fits FitsKeys (Plain ∷ Whole ∷ []) expire_choices no_expire_options (λ a o. expire_of keys.PExpire a.0 a.1.0 o) (λ o. Unit {0}) (expire_choices_keep, tt) (λ a keeps o long c. if_has FitsKeys (clash o) (Err Syntax) (Ok (keys.PExpire a.0 a.1.0 o)) (never FitsKeys Syntax) (λ b. made FitsKeys (keys.PExpire a.0 a.1.0 o) b tt) c), (chosen_fits FitsKeys (Plain ∷ Whole ∷ []) expire_choices no_expire_options (λ a o. expire_of keys.ExpireAt a.0 a.1.0 o) (λ o. Unit {0}) (expire_choices_keep, tt) (λ a keeps o long c. if_has FitsKeys (clash o) (Err Syntax) (Ok (keys.ExpireAt a.0 a.1.0 o)) (never FitsKeys Syntax) (λ b. made FitsKeys (keys.ExpireAt a.0 a.1.0 o) b tt) c), (chosen_fits FitsKeys (Plain ∷ Whole ∷ []) expire_choices no_expire_options (λ a o. expire_of keys.PExpireAt a.0 a.1.0 o) (λ o. Unit {0}) (expire_choices_keep, tt) (λ a keeps o long c. if_has FitsKeys (clash o) (Err Syntax) (Ok (keys.PExpireAt a.0 a.1.0 o)) (never FitsKeys Syntax) (λ b. made FitsKeys (keys.PExpireAt a.0 a.1.0 o) b tt) c), (fixed_fits FitsKeys (Plain ∷ []) (λ a. Ok (keys.Ttl a.0)) (λ a keeps c. made FitsKeys (keys.Ttl a.0) c tt), (fixed_fits FitsKeys (Plain ∷ []) (λ a. Ok (keys.PTtl a.0)) (λ a keeps c. made FitsKeys (keys.PTtl a.0) c tt), (fixed_fits FitsKeys (Plain ∷ []) (λ a. Ok (keys.ExpireTime a.0)) (λ a keeps c. made FitsKeys (keys.ExpireTime a.0) c tt), (fixed_fits FitsKeys (Plain ∷ []) (λ a. Ok (keys.PExpireTime a.0)) (λ a keeps c. made FitsKeys (keys.PExpireTime a.0) c tt), (fixed_fits FitsKeys (Plain ∷ []) (λ a. Ok (keys.Persist a.0)) (λ a keeps c. made FitsKeys (keys.Persist a.0) c tt), (fixed_fits FitsKeys (Plain ∷ Plain ∷ []) (λ a. Ok (keys.Rename a.0 a.1.0)) (λ a keeps c. made FitsKeys (keys.Rename a.0 a.1.0) c tt), (fixed_fits FitsKeys (Plain ∷ Plain ∷ []) (λ a. Ok (keys.RenameNx a.0 a.1.0)) (λ a keeps c. made FitsKeys (keys.RenameNx a.0 a.1.0) c tt), (chosen_fits FitsKeys (Plain ∷ Plain ∷ []) copy_choices no_copy_options (λ a o. Ok (keys.Copy a.0 a.1.0 o)) (λ o. IsOneOf16 o.db) (copy_choices_keep, tt) (λ a keeps o within c. made FitsKeys (keys.Copy a.0 a.1.0 o) c within), (fixed_fits FitsKeys (Plain ∷ Database ∷ []) (λ a. Ok (keys.MoveKey a.0 a.1.0)) (λ a keeps c. made FitsKeys (keys.MoveKey a.0 a.1.0) c keeps.1.0), (fixed_fits FitsKeys [] (λ a. Ok keys.RandomKey) (λ a keeps c. made FitsKeys keys.RandomKey c tt), (fixed_fits FitsKeys (Plain ∷ Plain ∷ []) (λ a. object_of a.0 a.1.0) (λ a keeps c. if_has FitsKeys (bytes_eq (in_lower_case a.0) (codes "encoding")) (Ok (keys.ObjectEncoding a.1.0)) (Err Syntax) (λ b. made FitsKeys (keys.ObjectEncoding a.1.0) b tt) (never FitsKeys Syntax) c), (fixed_fits FitsKeys (Plain ∷ []) (λ a. Ok (keys.KeysLike a.0)) (λ a keeps c. made FitsKeys (keys.KeysLike a.0) c tt), (chosen_fits FitsKeys (Cursor ∷ []) scan_choices no_scan_options (λ a o. Ok (keys.Scan a.0 o)) (λ o. 0 < o.count) (scan_choices_keep, omega arith) (λ a keeps o above c. made FitsKeys (keys.Scan a.0 o) c (above, keeps.0)), tt))))))))))))))))))))))
 
 connection_rows_fit : AllByRecursion (RowFits FitsConnection) connection_rows
-connection_rows_fit = (ping_fits, (fixed_fits FitsConnection (Plain ∷ []) (λ a. Ok (connection.Echo a.0)) (λ a keeps c. made FitsConnection (connection.Echo a.0) c tt), ((λ words c. made FitsConnection connection.Quit c tt), (fixed_fits FitsConnection (Database ∷ []) (λ a. Ok (connection.Select a.0)) (λ a keeps c. made FitsConnection (connection.Select a.0) c keeps.0), (fixed_fits FitsConnection [] (λ a. Ok connection.DbSize) (λ a keeps c. made FitsConnection connection.DbSize c tt), (chosen_fits FitsConnection [] flush_choices tt (λ a o. Ok connection.FlushDb) (λ o. Unit {0}) (flush_choices_keep, tt) (λ a keeps o long c. made FitsConnection connection.FlushDb c tt), (chosen_fits FitsConnection [] flush_choices tt (λ a o. Ok connection.FlushAll) (λ o. Unit {0}) (flush_choices_keep, tt) (λ a keeps o long c. made FitsConnection connection.FlushAll c tt), (fixed_fits FitsConnection (Plain ∷ Plain ∷ []) (λ a. debug_of a.0 a.1.0) (λ a keeps c. debug_fits a.0 a.1.0 c), tt))))))))
+connection_rows_fit = (ping_fits, (fixed_fits FitsConnection (Plain ∷ []) (λ a. Ok (connection.Echo a.0)) (λ a keeps c. made FitsConnection (connection.Echo a.0) c tt), ((λ words c. made FitsConnection connection.Quit c tt), (fixed_fits FitsConnection (Database ∷ []) (λ a. Ok (connection.Select a.0)) (λ a keeps c. made FitsConnection (connection.Select a.0) c keeps.0), (fixed_fits FitsConnection [] (λ a. Ok connection.DbSize) (λ a keeps c. made FitsConnection connection.DbSize c tt), (chosen_fits FitsConnection [] flush_choices tt (λ a o. Ok connection.FlushDb) (λ o. Unit {0}) (flush_choices_keep, tt) (λ a keeps o long c. made FitsConnection connection.FlushDb c tt), (chosen_fits FitsConnection [] flush_choices tt (λ a o. Ok connection.FlushAll) (λ o. Unit {0}) (flush_choices_keep, tt) (λ a keeps o long c. made FitsConnection connection.FlushAll c tt), (fixed_fits FitsConnection (Plain ∷ []) (λ a. memory_of a.0) (λ a keeps c. if_has FitsConnection (bytes_eq (in_lower_case a.0) (codes "slabs")) (Ok connection.MemorySlabs) (Err Syntax) (λ b. made FitsConnection connection.MemorySlabs b tt) (never FitsConnection Syntax) c), (fixed_fits FitsConnection (Plain ∷ Plain ∷ []) (λ a. debug_of a.0 a.1.0) (λ a keeps c. debug_fits a.0 a.1.0 c), tt)))))))))
 
 family_fits : {A : Type 0} (family : A → Command) (P : A → Type 0) → ((a : A) → P a → FitsCommand (family a)) → (own : List (Row A)) → AllByRecursion (RowFits P) own → (others : List (Row Command)) → AllByRecursion (RowFits FitsCommand) others → AllByRecursion (RowFits FitsCommand) (map (of_family family) own ++ others)
 family_fits family P fits [] h others k = k

@@ -1,6 +1,6 @@
 -- Complete scans of a run cover what stayed.
-use Rattle.std.proofs.Common.{◌≡◌, ℕ, ◌<◌, ◌≤◌, ◌^◌, ◌-◌, List, [], ◌∷◌, ◌++◌, map, Result, Ok, Err, Some, refl, sym, ap, subst, ◌∙◌, zero, suc, arith, ◌⊎◌, inl, inr}
-use Rattle.std.specs.Prelude.{MatchResult, true, false, length, slice_index_or, nat_lt}
+use Rattle.std.proofs.Common.{◌≡◌, ℕ, ◌<◌, ◌≤◌, ◌^◌, ◌-◌, List, [], ◌∷◌, ◌++◌, map, Result, Ok, Err, Some, refl, sym, ap, subst, ◌∙◌, arith, ◌⊎◌, inl, inr}
+use Rattle.std.specs.Prelude.{MatchResult, true, false, nat_lt}
 use Rattle.std.proofs.Common.{ltb-true, ltb-false}
 use Rattle.digests.specs.Siphash.{sip}
 use Rattle.std.specs.List.{AllByRecursion, Contains}

@@ -32,7 +32,9 @@ keys_fixed seed old moment (keys.Scan cursor options) r new other a b = a.1 ∙ 
 keys_fixed seed old moment c r new other a b = a.1 ∙ sym b.1
 
 connection_fixed : (old : World) (moment : ℕ) (c : ConnectionCommand) (r : List Part) (new other : World) → may_connection old moment c r new → may_connection old moment c r other → new ≡ other
+connection_fixed old moment connection.MemorySlabs r new other a b = a.1 ∙ sym b.1
 connection_fixed old moment (connection.DebugRehash n) r new other a b = a.1 ∙ sym b.1
+connection_fixed old moment (connection.DebugDefrag n) r new other a b = a.1 ∙ sym b.1
 connection_fixed old moment c r new other a b = a.1 ∙ sym b.1
 
 may_fixed : (seed : ℕ) (old : World) (moment : ℕ) (c : Command) (r : List Part) (new other : World) → may seed old moment c r new → may seed old moment c r other → new ≡ other

@@ -24,9 +24,15 @@ flush_choices = record { name = codes "async"; kinds = []; sets = λ own c. c } 
 abbrev pub flush_words : ConnectionCommand → Words → Read
 flush_words command = with_choices [] flush_choices tt (λ a c. Ok command)
 
--- the second word of DEBUG is REHASH, and the next one a number of steps
+-- the second word of MEMORY is SLABS
+abbrev pub memory_of : List ℕ → Read
+memory_of second = if bytes_eq (in_lower_case second) (codes "slabs") then Ok connection.MemorySlabs else Err Syntax
+
+-- the second word of DEBUG is REHASH or DEFRAG, and the next one a number of steps
 abbrev pub debug_of : List ℕ → List ℕ → Read
-debug_of second n = if bytes_eq (in_lower_case second) (codes "rehash") then and_then (told Steps n) (λ n. Ok (connection.DebugRehash n)) else Err Syntax
+debug_of second n =
+    if bytes_eq (in_lower_case second) (codes "rehash") then and_then (told Steps n) (λ n. Ok (connection.DebugRehash n))
+    else (if bytes_eq (in_lower_case second) (codes "defrag") then and_then (told Steps n) (λ n. Ok (connection.DebugDefrag n)) else Err Syntax)
 
 abbrev pub connection_rows : List (Row ConnectionCommand)
 connection_rows =
@@ -37,5 +43,6 @@ connection_rows =
     ∷ record { name = codes "dbsize"; read = fixed [] (λ a. Ok connection.DbSize) }
     ∷ record { name = codes "flushdb"; read = flush_words connection.FlushDb }
     ∷ record { name = codes "flushall"; read = flush_words connection.FlushAll }
+    ∷ record { name = codes "memory"; read = fixed (Plain ∷ []) (λ a. memory_of a.0) }
     ∷ record { name = codes "debug"; read = fixed (Plain ∷ Plain ∷ []) (λ a. debug_of a.0 a.1.0) }
     ∷ []

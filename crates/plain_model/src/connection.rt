@@ -19,6 +19,10 @@ pub enum ConnectionCommand {
     FlushDb,
     /// `FLUSHALL [ASYNC or SYNC]`
     FlushAll,
+    /// `MEMORY SLABS`
+    MemorySlabs,
     /// `DEBUG REHASH n`, with a number of steps of at most 1,000,000.
     DebugRehash(u32),
+    /// `DEBUG DEFRAG n`, with a number of steps of at most 1,000,000.
+    DebugDefrag(u32),
 }
