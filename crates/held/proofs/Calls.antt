@@ -3,7 +3,7 @@ use Rattle.std.proofs.Common.{◌≡◌, ◌⊎◌, inl, inr, ℕ, zero, suc, �
 use Rattle.std.specs.FinMap.{get, insert, remove}
 use Rattle.std.proofs.lemmas.Bool.{cases_eq, eq-eqb, ne_eqb, cond-true, cond-false}
 use Rattle.blocks.specs.declared.BlockRef.{BlockRef}
-use Rattle.blocks.specs.Blocks.{Blocks, ref_eq, times, live, bytes_at, with_block, no_blocks, Changes, Owned}
+use Rattle.blocks.specs.Blocks.{Blocks, ref_eq, times, live, bytes_at, with_block, no_blocks, no_step, Changes, Owned}
 use Rattle.blocks.proofs.Times.{times-append}
 use Rattle.blocks.proofs.Refs.{ref_eq-refl, with_block-same}
 use Rattle.blocks.proofs.Change.{one_if, with_block-undone, Counts-ended, Changes-counted, Changes-same, Changes-then, Changes-beside}
@@ -20,9 +20,9 @@ use Rattle.held.specs.Table.{Table, Element, item, value_at, key_at, no_keys, St
 use Rattle.held.specs.Databases.{ReadsOwn, Bases, no_base, base_at, table_at, deadlines_at, owned, base_means, with_deadlines, with_deadline, means, SameSettings, ChangesBase, ChangesTable, ChangesDeadlines}
 use Rattle.held.specs.Sound.{IsTimed, HasSeed, IsArranged, IsIntact, SoundBeside}
 use Rattle.held.specs.Worlds.{without}
-use Rattle.held.specs.Calls.{Found, StandsAt, IsPlace, IsVacant, Lifts, AreParts, IsDeadline, Joins, KeepsTimes}
+use Rattle.held.specs.Calls.{HasOnly, Found, StandsAt, IsPlace, IsVacant, Lifts, AreParts, IsDeadline, Joins, KeepsTimes}
 use Rattle.rehash_dict.proofs.MapOf.{cases_key, map_of-stands, map_of-lacks, map_of-empty, map_of-removes, map_of-had, map_of-kept}
-use Rattle.held.specs.Scopes.{Scope, one_key, no_key, all_keys, Within}
+use Rattle.held.specs.Scopes.{Scope, one_key, no_key, all_keys, BaseGrows, AreGrown, Within}
 use Rattle.held.proofs.Within.{within_then, within_keys, within_times, within_swaps, within_removes, within_joins, within_anew, within_store}
 use Rattle.held.proofs.Maps.{entry_with, get_with, with_none, got_deadline}
 use Rattle.held.proofs.Tables.{get_inserted, insert_over, some_bytes, named_in, Keyed-none}
@@ -303,6 +303,14 @@ module _ {V : Type 0} (refs_of : V → List BlockRef) (value_of : Blocks → V �
     set_times d deadline some (Ok u) times = times ∙ ap (λ k. insert (moments m (deadlines_at old db)) k d) (some_bytes m name key bytes) ∙ sym (ap (with_deadline (moments m (deadlines_at old db)) key) some)
     set_times d deadline some (Err e) times = tt
 
+  -- no other element has the key of this one
+  pub only_here : (bases : Bases V) (m : Blocks) (db : ℕ) (key : List ℕ) (at : ℕ) (e : Element V) → Keyed m (table_at bases db) → item (table_at bases db) at ≡ Some e → m e.key ≡ Some key → HasOnly bases m db key e.value
+  only_here bases m db key at e keyed here named other f found bytes =
+      let same : other ≡ at = keyed.apart other at f e found here (bytes ∙ sym named) in
+      let both : Some f ≡ Some e = sym found ∙ ap (item (table_at bases db)) same ∙ here in
+      let one : f ≡ e = cc in
+      ap (λ (x : Element V). x.value) one
+
   -- a key's deadline is set, and a value takes the place of its own
   module _ (old mid new : Bases V) (db : ℕ) (m after : Blocks) (at : ℕ) (key : List ℕ) (was value : V) (deadline : Option ℕ) (intact : IsIntact refs_of old m (refs_of value)) (c : ChangesDeadlines old mid db) (arranged : IsArranged mid m) (times_are : moments m (deadlines_at mid db) ≡ with_deadline (moments m (deadlines_at old db)) key deadline)
       (stands : Stands m (table_at old db) at key) (d : ChangesTable mid new db) (s : Swaps (table_at mid db) (table_at new db) at was value) (keyed : Keyed m (table_at new db)) where
@@ -326,6 +334,13 @@ module _ {V : Type 0} (refs_of : V → List BlockRef) (value_of : Blocks → V �
           within_then refs_of scope old mid new m m after (within_keys refs_of db (λ other. other ≡ key) old mid m m retimed)
           (within_then refs_of scope mid new new m m after (within_swaps refs_of scope mid new m db refl d at was value s tables (refl, some_bytes m s.key key there))
           (within_store refs_of value_of own scope new m after (refs_of was) (refs_of was) [] (over_out mid new db m d at was value s keyed arranged mid_intact after p) p (λ r. omega arith)))
+
+      pub put_only : HasOnly new after db key value
+      put_only =
+          let there : m s.key ≡ Some key = swapped_key mid new db m d at was value s keyed arranged key (retimed_stands old mid db m c arranged intact.arranged at key stands deadline times_are) in
+          let kept = kept_inside refs_of value_of own new m after (refs_of was) (refs_of was) [] (over_out mid new db m d at was value s keyed arranged mid_intact after p) p (λ r. omega arith) s.key
+          (omega (arith, key_itself s.key, item_owned new db at (record { key = s.key; hash = s.hash; value = value }) s.key s.updates.changed)) in
+          only_here new after db key at (record { key = s.key; hash = s.hash; value = value }) (put_arranged.keyed db) s.updates.changed (kept ∙ there)
 
       pub put_over : means value_of db new after ≡ put (means value_of db old m) key (record { value = value_of m value; deadline = deadline })
       put_over =
@@ -366,6 +381,9 @@ module _ {V : Type 0} (refs_of : V → List BlockRef) (value_of : Blocks → V �
 
       pub new_arranged : IsArranged new mid
       new_arranged = (joined_intact refs_of value_of own old new db mid j.base (r ∷ refs_of value) placed_intact joined_order j.at (record { key = r; hash = j.hash; value = value }) j.adds [] (λ q. omega arith)).arranged
+
+      pub new_only : HasOnly new mid db key value
+      new_only = only_here new mid db key j.at (record { key = r; hash = j.hash; value = value }) j.keyed j.adds.updates.changed placed_bytes
 
       pub new_within : db < 16 → Within refs_of (one_key db key) old new m mid
       new_within below =
@@ -469,6 +487,7 @@ module _ {V : Type 0} (refs_of : V → List BlockRef) (value_of : Blocks → V �
         deadline = get (moments m (deadlines_at old db)) key;
         stands = look_now old db moment m key _ (look_stands old db m intact.arranged key at (record { key = s.key; hash = s.hash; value = was }) s.found lifted_key _ refl) there.in_time;
         owned = over_owned old new db m c at was zero s keyed intact.arranged [] intact;
+        had = record { at = at; element = record { key = s.key; hash = s.hash; value = was }; found = s.found; bytes = lifted_key; is = refl };
         vacant = ap value_at s.updates.changed ∙ ap Some is_empty;
         place = record { element = record { key = s.key; hash = s.hash; value = zero }; found = s.updates.changed; bytes = lifted_key; lasts = ap (λ (d : Timed). get (moments m d) key) c.deadlines };
         back = λ entry. ap (λ w. put w key entry) (swapped_means refs_of value_of own old new db m intact.arranged at c keyed was zero s key lifted_key _ refl) ∙ put_twice (means value_of db old m) key _ entry;
@@ -512,6 +531,7 @@ module _ {V : Type 0} (refs_of : V → List BlockRef) (value_of : Blocks → V �
         deadline = get (moments m (deadlines_at bases db)) key;
         stands = look_now bases db moment m key _ (look_stands bases db m intact.arranged key at stands.element stands.found stands.bytes _ refl ∙ ap (λ v. Some (record { value = value_of m v; deadline = get (moments m (deadlines_at bases db)) key })) same) there.in_time;
         owned = λ r. omega (arith, intact.owned r, item_owned bases db at stands.element r stands.found, ap (λ v. times r (refs_of v)) same);
+        has = record { at = at; element = stands.element; found = stands.found; bytes = stands.bytes; is = same };
       }
 
   pub settings_then : (a b c : Bases V) → SameSettings a b → SameSettings b c → SameSettings a c
@@ -531,6 +551,10 @@ module _ {V : Type 0} (refs_of : V → List BlockRef) (value_of : Blocks → V �
 
     pub new_means_world : (m : Blocks) → means value_of 0 bases m ≡ model.new_world
     new_means_world m = λ i. record { bases = λ number. each_new (λ b. base_means value_of m b ≡ model.no_keys) (no_base_means value_of m) number i; selected = 0 }
+
+    -- their tables come from none
+    pub new_grown : (m : Blocks) → bases.seed ≡ seed → AreGrown bases m
+    new_grown m same db = subst (λ s. BaseGrows s (no_base s) (base_at bases db) m m) (sym same) (each_new (λ b. BaseGrows seed (no_base seed) b m m) (λ number. record { keys = no_step; deadlines = no_step; cursor = refl }) db)
 
     new_seeds : (number : ℕ) → number < 16 → HasSeed (base_at bases number) seed
     new_seeds number within = subst (λ list. HasSeed (get_or list number (no_base 0)) seed) (sym none) (in_list 16 number within)

@@ -5,6 +5,7 @@ pub mod Releases
 pub mod Bases
 pub mod Joining
 pub mod Within
+pub mod Written
 pub mod Calls
 pub mod Dropping
 pub mod Finds

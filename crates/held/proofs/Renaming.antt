@@ -6,7 +6,8 @@ use Rattle.std.specs.FinMap as map
 use Rattle.blocks.specs.declared.BlockRef.{BlockRef}
 use Rattle.blocks.specs.Blocks.{Blocks, times, live, Changes}
 use Rattle.blocks.proofs.Times.{times-append}
-use Rattle.blocks.proofs.Change.{Changes-same, Changes-then, Changes-beside, Changes-owned}
+use Rattle.blocks.proofs.Refs.{ref_eq-refl}
+use Rattle.blocks.proofs.Change.{one, Changes-same, Changes-then, Changes-beside, Changes-owned}
 use Rattle.rehash_dict.proofs.MapOf.{map_of-has}
 use Rattle.plain_world.specs.Worlds.{Value, Entry, World, Database, look, put, put_in, remove, selecting, deadline_of}
 use Rattle.expiry.specs.Timed.{Timed, moments}
@@ -14,13 +15,15 @@ use Rattle.held.specs.Table.{Table, Element, item, Stands, Keyed, Swaps}
 use Rattle.held.specs.Databases.{ReadsOwn, Bases, table_at, deadlines_at, means, owned, ChangesTable}
 use Rattle.held.specs.Sound.{IsArranged, IsIntact, SoundBeside}
 use Rattle.held.specs.Worlds.{without}
-use Rattle.held.specs.Calls.{IsDeadline}
+use Rattle.held.specs.Calls.{HasValue, HasOnly, IsDeadline}
 use Rattle.held.proofs.Maps.{same_entry, put_removed, moved_base}
-use Rattle.held.proofs.Timing.{some_same}
+use Rattle.held.proofs.Timing.{some_same, some_none}
 use Rattle.held.proofs.Bases.{owned_swaps, swapped_means, sound_joined}
 use Rattle.rehash_dict.specs.Keyed.{key_tables}
 use Rattle.held.specs.Scopes.{one_key, two_keys, no_key, Within}
-use Rattle.held.proofs.Tables.{some_bytes}
+use Rattle.held.proofs.Tables.{some_bytes, get_removed}
+use Rattle.held.specs.Written.{Written}
+use Rattle.held.proofs.Written.{written_named, two_settled}
 use Rattle.held.proofs.Within.{within_then, within_wider, within_swaps}
 use Rattle.held.proofs.Calls.{look_stands, deadline_seen, swapped_key, over_intact, put_twice}
 
@@ -120,6 +123,25 @@ module _ {V : Type 0} (refs_of : V → List BlockRef) (value_of : Blocks → V �
     pub left_within : (to_db : ℕ) (to : List ℕ) (new last : Bases V) (after later : Blocks) → Within refs_of (no_key db) new last after later → Within refs_of (two_keys db key to_db to) new last after later
     left_within to_db to new last after later left =
         within_wider refs_of (no_key db) (two_keys db key to_db to) (λ number here. inl here) (λ number other none. absurd none.1) (λ number no. absurd no) new last after later left
+
+    -- Nothing stands at the first key, and whatever stands at the other one is the value that stood there.
+    pub moved_writes : (to_db : ℕ) (to : List ℕ) (new last : Bases V) (after later : Blocks) → HasOnly new after to_db to was → Within refs_of (no_key db) new last after later → means value_of db last later ≡ without (means value_of db new after) key
+        → Within refs_of (two_keys db key to_db to) old last m later → IsArranged last later → Written refs_of (HasValue old m db key) old last m later
+    moved_writes to_db to new last after later only left gone within arranged =
+        written_named refs_of (HasValue old m db key) (two_keys db key to_db to) (two_settled db key to_db to) old last m later within arranged
+        (λ number i e other found bytes named. elim named [
+          | inl here ↦ some_none _ _
+              (look_stands refs_of value_of own last db later arranged key i e (subst (λ n. item (table_at last n) i ≡ Some e) here.0 found) (bytes ∙ ap Some here.1) _ refl)
+              (ap (λ w. look w key) gone ∙ ap (λ (b : Database). get b key) (cond-true _ _ _ (eq-eqb db db refl)) ∙ get_removed ((means value_of db new after).bases db) key)
+          | inr there ↦ had i e (subst (λ n. item (table_at last n) i ≡ Some e) there.0 found) (bytes ∙ ap Some there.1)
+        ])
+      where
+        had : (i : ℕ) (e : Element V) → item (table_at last to_db) i ≡ Some e → later e.key ≡ Some to → HasValue old m db key e.value
+        had i e found bytes =
+            let stayed = left.stayed to_db i e found (λ none. none.1) in
+            let itself : one e.key e.key ≡ 1 = cond-true _ _ _ (ref_eq-refl e.key) in
+            let same = stayed.bytes e.key (omega (arith, itself)) in
+            record { at = at; element = record { key = s.key; hash = s.hash; value = was }; found = s.found; bytes = out_key; is = sym (only i e stayed.stood (sym same ∙ bytes)) }
 
     -- ---- it stands at the other key, and the first one leaves
 

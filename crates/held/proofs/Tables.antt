@@ -1,11 +1,11 @@
 -- What the elements of a key table keep, name and mean.
-use Rattle.std.proofs.Common.{◌≡◌, ℕ, zero, suc, ◌≤◌, Bool, true, false, cond, List, [], ◌∷◌, flat_map, get_or, set, length, ◌<◌, Option, Some, unwrap_or, refl, sym, ap, ◌∙◌, subst, arith}
+use Rattle.std.proofs.Common.{◌≡◌, ℕ, zero, suc, ◌≤◌, Bool, true, false, cond, List, [], ◌∷◌, flat_map, get_or, set, length, ◌<◌, Option, Some, None, unwrap_or, refl, sym, ap, ◌∙◌, subst, arith}
 use Rattle.std.proofs.lemmas.Bool.{cond-true}
 use Rattle.std.proofs.lemmas.List.{get_or-set_same, get_or-set_other, get_or_default, length-set}
 use Rattle.std.specs.Ordering.{nat_cmp, eq_by_cmp}
 use Rattle.std.specs.Cmp.{eq_by_cmp_equiv}
 use Rattle.std.specs.Cmp.Lexicographic.{slice_cmp, nat_list_cmp_total}
-use Rattle.std.specs.FinMap.{FinMap, get, insert, get-insert, same_map, slice_cmp-IsAntisymmetric, nat_cmp-IsAntisymmetric}
+use Rattle.std.specs.FinMap.{FinMap, get, insert, get-insert, same_map, slice_cmp-IsAntisymmetric, nat_cmp-IsAntisymmetric, remove, get-remove}
 use Rattle.blocks.specs.declared.BlockRef.{BlockRef}
 use Rattle.blocks.specs.Blocks.{Blocks, bytes_at, times}
 use Rattle.blocks.proofs.Times.{times-append}
@@ -24,6 +24,9 @@ module _ {X : Type 0} where
 
   pub get_inserted : (m : FinMap (slice_cmp nat_cmp) X) (k : List ℕ) (x : X) → get (insert m k x) k ≡ Some x
   get_inserted m k x = get-insert nat_list_cmp_total m k x k ∙ cond-true _ _ _ ((eq_by_cmp_equiv nat_list_cmp_total).refl k)
+
+  pub get_removed : (m : FinMap (slice_cmp nat_cmp) X) (k : List ℕ) → get (remove m k) k ≡ None
+  get_removed m k = get-remove nat_list_cmp_total m k k ∙ cond-true _ _ _ ((eq_by_cmp_equiv nat_list_cmp_total).refl k)
 
   -- what is written over twice
   pub insert_over : (m : FinMap (slice_cmp nat_cmp) X) (q : List ℕ) (a b : X) → insert (insert m q a) q b ≡ insert m q b

@@ -12,7 +12,7 @@ use Rattle.plain_world.specs.Worlds as model
 use Rattle.held.specs.declared.keyspace.Lifted.{Lifted}
 use Rattle.held.specs.Databases.{ReadsOwn, Bases, means}
 use Rattle.held.specs.Sound.{IsIntact, Sound, SoundBeside}
-use Rattle.held.specs.Calls.{IsPlace, IsVacant, Lifts, AreParts}
+use Rattle.held.specs.Calls.{HasOnly, IsPlace, IsVacant, Lifts, AreParts}
 use Rattle.held.specs.Scopes.{Scope, one_key, Within}
 use Rattle.held.proofs.Within.{within_then, within_store}
 use Rattle.std.specs.FinMap.{get}
@@ -112,6 +112,10 @@ module _ {V : Type 0} (refs_of : V → List BlockRef) (value_of : Blocks → V �
       -- from the clause `sound` of `lower`
       pub Lower-sound : ((all rest : List BlockRef) → SoundBeside refs_of mid after all → AreParts all (refs_of changed.value) rest → SoundBeside refs_of new after rest) → SoundBeside refs_of new after out
       Lower-sound clause = clause (refs_of changed.value ++ out) out changed_sound (λ r. times-append r (refs_of changed.value) out)
+
+      -- from the clause `has` of `lower`
+      pub Lower-has : ((k : List ℕ) (deadline : Option ℕ) → IsPlace mid after changed.db changed.item k deadline → HasOnly new after changed.db k changed.value) → HasOnly new after db key changed.value
+      Lower-has clause = subst (λ d. HasOnly new after d key changed.value) (same_db ∙ lifts.same_db) (clause key lifts.deadline place)
 
       -- from the clauses `within` of `lift` and `lower`
       pub Lower-within : Within refs_of (one_key db key) old mid m m → ((k : List ℕ) (deadline : Option ℕ) → IsPlace mid after changed.db changed.item k deadline → Within refs_of (one_key changed.db k) mid new after after) → Within refs_of (one_key db key) old new m after

@@ -17,7 +17,7 @@ use Rattle.held.specs.Table.{Table, Element, item, Swaps, Removes, TableGrows}
 use Rattle.held.specs.Databases.{ReadsOwn, Bases, no_base, base_at, table_at, deadlines_at, ChangesBase, ChangesTable, ChangesDeadlines}
 use Rattle.held.specs.Sound.{IsArranged, IsIntact}
 use Rattle.held.specs.Calls.{Joins}
-use Rattle.held.specs.Scopes.{Scope, untouched, keys_of, no_key, BaseGrows, Grew, Stayed, Within}
+use Rattle.held.specs.Scopes.{Scope, untouched, keys_of, no_key, BaseGrows, AreGrown, Grew, Stayed, Within}
 use Rattle.held.proofs.Tables.{named_in}
 use Rattle.held.proofs.Bases.{table_owned, kept_inside}
 
@@ -44,6 +44,13 @@ module _ {V : Type 0} where
       | inr first ↦ inr (first.0, grows_then seed (no_base seed) b c m mid after first.1 on)
     ]
   ]
+
+  -- tables that come from none go on
+  pub grown_on : (bases new : Bases V) (m after : Blocks) (db : ℕ) → AreGrown bases m → new.seed ≡ bases.seed → {emptied : Type 0} → Grew emptied bases.seed (base_at bases db) (base_at new db) m after → BaseGrows new.seed (no_base new.seed) (base_at new db) after after
+  grown_on bases new m after db grown seed grew = subst (λ s. BaseGrows s (no_base s) (base_at new db) after after) (sym seed) (elim grew [
+    | inl on ↦ grows_anew bases.seed (base_at new db) after m after (grows_then bases.seed (no_base bases.seed) (base_at bases db) (base_at new db) m m after (grown db) on)
+    | inr anew ↦ grows_anew bases.seed (base_at new db) after m after anew.1
+  ])
 
 module _ {V : Type 0} (refs_of : V → List BlockRef) where
   -- nothing changes
@@ -81,6 +88,10 @@ module _ {V : Type 0} (refs_of : V → List BlockRef) where
     stayed = λ db at e found apart. p.stayed db at e found (λ named. apart (writes db (bytes_at after e.key) named));
     seed = p.seed;
   }
+
+  -- tables that come from none still do
+  pub within_grown : (scope : Scope) (old new : Bases V) (m after : Blocks) → Within refs_of scope old new m after → AreGrown old m → AreGrown new after
+  within_grown scope old new m after p grown = λ db. grown_on old new m after db grown p.seed (p.grew db)
 
   -- what writes nothing is within any scope
   pub within_any : (scope : Scope) (old new : Bases V) (m after : Blocks) → Within refs_of untouched old new m after → Within refs_of scope old new m after

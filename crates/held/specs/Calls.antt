@@ -12,11 +12,24 @@ use Rattle.held.specs.Databases.{Bases, table_at, deadlines_at, with_deadline, m
 use Rattle.held.specs.Sound.{Names, IsTimed}
 
 module _ {V : Type 0} where
+  -- an element of the database has this key and this value
+  pub record HasValue (bases : Bases V) (blocks : Blocks) (db : ℕ) (key : List ℕ) (value : V) : Type 0 where
+    pub at : ℕ
+    pub element : Element V
+    pub found : item (table_at bases db) at ≡ Some element
+    pub bytes : blocks element.key ≡ Some key
+    pub is : element.value ≡ value
+
+  -- whatever stands at the key of the database is this value
+  abbrev pub HasOnly : Bases V → Blocks → ℕ → List ℕ → V → Type 0
+  HasOnly bases blocks db key value = (at : ℕ) (element : Element V) → item (table_at bases db) at ≡ Some element → blocks element.key ≡ Some key → element.value ≡ value
+
   -- The value is what stands at the key of the database at the moment, and its blocks are live.
   pub record Found (refs_of : V → List BlockRef) (value_of : Blocks → V → Value) (bases : Bases V) (blocks : Blocks) (db : ℕ) (key : List ℕ) (moment : ℕ) (value : V) : Type 0 where
     pub deadline : Option ℕ
     pub stands : look (live (means value_of db bases blocks) moment) key ≡ Some (record { value = value_of blocks value; deadline = deadline })
     pub owned : Owned (refs_of value) blocks
+    pub has : HasValue bases blocks db key value
 
   -- the item number is the place of a key with these bytes and this deadline, or none
   pub record IsPlace (bases : Bases V) (blocks : Blocks) (db at : ℕ) (key : List ℕ) (deadline : Option ℕ) : Type 0 where
@@ -35,6 +48,7 @@ module _ {V : Type 0} where
     pub deadline : Option ℕ
     pub stands : look (live (means value_of db old blocks) moment) key ≡ Some (record { value = value_of blocks lifted.value; deadline = deadline })
     pub owned : Owned (refs_of lifted.value) blocks
+    pub had : HasValue old blocks db key lifted.value
     pub vacant : IsVacant empty new db lifted.item
     pub place : IsPlace new blocks db lifted.item key deadline
     -- whatever is put at the key next, the world becomes what it would have become before

@@ -4,6 +4,7 @@ pub mod Sound
 pub mod Worlds
 pub mod Gone
 pub mod Scopes
+pub mod Written
 pub mod Rehash
 pub mod Expiry
 pub mod Relocation

@@ -53,6 +53,10 @@ all_keys db = record { touches = λ number. number ≡ db; writes = λ number ke
 abbrev pub everything : Scope
 everything = record { touches = λ number. Unit {0}; writes = λ number key. ⊥; empties = λ number. Unit {0} }
 
+-- whatever there is
+abbrev pub anything : Scope
+anything = record { touches = λ number. Unit {0}; writes = λ number key. Unit {0}; empties = λ number. Unit {0} }
+
 module _ {V : Type 0} where
   -- both tables of a database come from those before by inserts, removals and calls of `shrink`, and the search for keys
   -- that are gone goes on where it stood
@@ -64,6 +68,10 @@ module _ {V : Type 0} where
   -- the same, or from no table and the first cursor where all keys may have left at once
   abbrev pub Grew : Type 0 → ℕ → Base V → Base V → Blocks → Blocks → Type 0
   Grew emptied seed old new m after = BaseGrows seed old new m after ⊎ (emptied × BaseGrows seed (no_base seed) new m after)
+
+  -- both tables of each database come from none, and each search for keys that are gone stands at its first cursor
+  abbrev pub AreGrown : Bases V → Blocks → Type 0
+  AreGrown bases blocks = (db : ℕ) → BaseGrows bases.seed (no_base bases.seed) (base_at bases db) blocks blocks
 
   -- an element stood there before, and its key and its value have the blocks and bytes that they had
   pub record Stayed (refs_of : V → List BlockRef) (old : Bases V) (m after : Blocks) (db at : ℕ) (element : Element V) : Type 0 where

@@ -63,6 +63,7 @@ impl<V: Held, B: BlockStore> Keyspace<V, B> {
     pub fn expire(&mut self, steps: u32, moment: u64) -> u64
         requires intact { IsIntact V.refs_of self.old.bases (B.blocks self.old.store) [] }
         ensures steps { Expired V.refs_of moment self.old.bases (B.blocks self.old.store) steps result self.new.bases (B.blocks self.new.store) }
+        ensures none { steps ≡ 0 → self.new ≡ self.old }
         ensures lives { (number later : ℕ) → moment ≤ later → live (means V.value_of number self.new.bases (B.blocks self.new.store)) later ≡ live (means V.value_of number self.old.bases (B.blocks self.old.store)) later }
         ensures stayed { (db at : ℕ) (e : Element V) → item (table_at self.new.bases db) at ≡ Some e → Stayed V.refs_of self.old.bases (B.blocks self.old.store) (B.blocks self.new.store) db at e }
         ensures sound { (out : List BlockRef) → SoundBeside V.refs_of self.old.bases (B.blocks self.old.store) out → SoundBeside V.refs_of self.new.bases (B.blocks self.new.store) out }

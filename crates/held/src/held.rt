@@ -1,4 +1,4 @@
-ghost use Rattle.std.specs.Prelude.{◌≡◌, ℕ, ◌≤◌, List, [], length};
+ghost use Rattle.std.specs.Prelude.{◌≡◌, ℕ, ◌≤◌, List, [], length, IfSome};
 ghost use Rattle.blocks.specs.declared.BlockRef.{BlockRef};
 ghost use Rattle.blocks.specs.Blocks.{Blocks, Changes, Owned, Served};
 ghost use Rattle.plain_world.specs.Worlds.{Value};
@@ -37,6 +37,13 @@ pub trait Held: Drop {
         requires owned { Owned (refs_of self.old) (B.blocks store.old) }
         requires room { 32 ≤ room }
         ensures { PassesPart refs_of value_of marks (B.blocks store.old) (B.blocks store.new) (B.heap store.old) (B.heap store.new) self.old self.new from room result };
+
+    /// What `relocate_part` answers where no block that it would pass wants to move, so that nothing moves; it only looks.
+    /// `None` where one may want to.
+    fn passed<B: BlockStore>(&self, store: &B, from: u128, room: u32) -> Option<Moved>
+        requires owned { Owned (refs_of self.now) (B.blocks store.now) }
+        requires room { 32 ≤ room }
+        ensures { IfSome result (λ moved. PassesPart refs_of value_of marks (B.blocks store.now) (B.blocks store.now) (B.heap store.now) (B.heap store.now) self.now self.now from room moved) };
 
     /// Each of its references has a mark.
     ghost marked: { (value : Self) → length (marks value) ≡ length (refs_of value) };

@@ -8,9 +8,9 @@ ghost use Rattle.expiry.specs.Timed.{moments};
 ghost use Rattle.held.specs.Databases.{means, owned, SameSettings, table_at, deadlines_at, with_deadline, ChangesDeadlines};
 ghost use Rattle.held.specs.Sound.{IsArranged, IsIntact, Sound, SoundBeside};
 ghost use Rattle.held.specs.Table.{Stands, refs};
-ghost use Rattle.held.specs.Scopes.{one_key, no_key, all_keys, Within, AreSettled};
+ghost use Rattle.held.specs.Scopes.{one_key, no_key, all_keys, AreGrown, Within, AreSettled};
 ghost use Rattle.held.specs.Worlds.{without, emptied};
-ghost use Rattle.held.specs.Calls.{Found, StandsAt, IsPlace, IsVacant, IsDeadline, Lifts, AreParts};
+ghost use Rattle.held.specs.Calls.{HasOnly, Found, StandsAt, IsPlace, IsVacant, IsDeadline, Lifts, AreParts};
 
 use crate::{Databases, Held};
 use blocks::{BlockRef, BlockStore, Memory};
@@ -85,6 +85,7 @@ impl<V: Held, B: BlockStore> Keyspace<V, B> {
         ensures limits { IfOk result (λ keyspace. keyspace.bases.limits ≡ limits) }
         ensures seed { IfOk result (λ keyspace. keyspace.bases.seed ≡ seed) }
         ensures turn { IfOk result (λ keyspace. keyspace.bases.turn ≡ 0) }
+        ensures grown { IfOk result (λ keyspace. AreGrown keyspace.bases (B.blocks keyspace.store)) }
     {
         let bases = Databases::new(alloc, limits, seed)?;
         Ok(Keyspace { store, bases })
@@ -244,6 +245,7 @@ impl<V: Held, B: BlockStore> Keyspace<V, B> {
         ensures means { (key : List ℕ) (deadline : Option ℕ) → IsPlace self.old.bases (B.blocks self.old.store) lifted.db lifted.item key deadline →
             means V.value_of lifted.db self.new.bases (B.blocks self.old.store) ≡ put (means V.value_of lifted.db self.old.bases (B.blocks self.old.store)) key (record { value = V.value_of (B.blocks self.old.store) lifted.value; deadline = deadline }) }
         ensures sound { (all out : List BlockRef) → SoundBeside V.refs_of self.old.bases (B.blocks self.old.store) all → AreParts all (V.refs_of lifted.value) out → SoundBeside V.refs_of self.new.bases (B.blocks self.old.store) out }
+        ensures has { (key : List ℕ) (deadline : Option ℕ) → IsPlace self.old.bases (B.blocks self.old.store) lifted.db lifted.item key deadline → HasOnly self.new.bases (B.blocks self.old.store) lifted.db key lifted.value }
         ensures store { self.new.store ≡ self.old.store }
         ensures settings { SameSettings self.old.bases self.new.bases }
         ensures within { (key : List ℕ) (deadline : Option ℕ) → IsPlace self.old.bases (B.blocks self.old.store) lifted.db lifted.item key deadline → Within V.refs_of (one_key lifted.db key) self.old.bases self.new.bases (B.blocks self.old.store) (B.blocks self.old.store) }
@@ -267,6 +269,7 @@ impl<V: Held, B: BlockStore> Keyspace<V, B> {
         requires latest { IsDeadline deadline }
         requires intact { IsIntact V.refs_of self.old.bases (B.blocks self.old.store) (V.refs_of value) }
         ensures means { OnOk result (means V.value_of db self.new.bases (B.blocks self.new.store) ≡ put (means V.value_of db self.old.bases (B.blocks self.old.store)) key.now (record { value = V.value_of (B.blocks self.old.store) value; deadline = deadline })) }
+        ensures has { OnOk result (HasOnly self.new.bases (B.blocks self.new.store) db key.now value) }
         ensures kept { OnErr result (means V.value_of db self.new.bases (B.blocks self.new.store) ≡ means V.value_of db self.old.bases (B.blocks self.old.store)) }
         ensures sound { (all out : List BlockRef) → SoundBeside V.refs_of self.old.bases (B.blocks self.old.store) all → AreParts all (V.refs_of value) out → SoundBeside V.refs_of self.new.bases (B.blocks self.new.store) out }
         ensures changes { Changes (B.blocks self.old.store) (B.blocks self.new.store) (owned V.refs_of self.old.bases ++ V.refs_of value) (owned V.refs_of self.new.bases) }

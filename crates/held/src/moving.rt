@@ -5,8 +5,9 @@ ghost use Rattle.plain_world.specs.Worlds.{Entry, look, put, put_in, remove};
 ghost use Rattle.held.specs.Databases.{means, owned, SameSettings, table_at};
 ghost use Rattle.held.specs.Sound.{IsArranged, IsIntact, SoundBeside};
 ghost use Rattle.held.specs.Table.{Lacks};
-ghost use Rattle.held.specs.Calls.{IsDeadline};
+ghost use Rattle.held.specs.Calls.{HasValue, HasOnly, IsDeadline};
 ghost use Rattle.held.specs.Scopes.{one_key, two_keys, Within};
+ghost use Rattle.held.specs.Written.{Written};
 
 use crate::{Held, Keyspace};
 use blocks::{BlockStore, Memory, put_block};
@@ -26,6 +27,7 @@ impl<V: Held, B: BlockStore> Keyspace<V, B> {
         requires latest { IsDeadline deadline }
         requires intact { IsIntact V.refs_of self.old.bases (B.blocks self.old.store) (V.refs_of value) }
         ensures means { OnOk result (means V.value_of db self.new.bases (B.blocks self.new.store) ≡ put (means V.value_of db self.old.bases (B.blocks self.old.store)) key.now (record { value = V.value_of (B.blocks self.old.store) value; deadline = deadline })) }
+        ensures has { OnOk result (HasOnly self.new.bases (B.blocks self.new.store) db key.now value) }
         ensures kept { OnErr result (means V.value_of db self.new.bases (B.blocks self.new.store) ≡ means V.value_of db self.old.bases (B.blocks self.old.store)) }
         ensures arranged { IsArranged self.new.bases (B.blocks self.new.store) }
         ensures changes { OnOk result (Changes (B.blocks self.old.store) (B.blocks self.new.store) (owned V.refs_of self.old.bases ++ V.refs_of value) (owned V.refs_of self.new.bases)) }
@@ -55,6 +57,7 @@ impl<V: Held, B: BlockStore> Keyspace<V, B> {
         requires intact { IsIntact V.refs_of self.old.bases (B.blocks self.old.store) (V.refs_of value) }
         requires lacks { Lacks (B.blocks self.old.store) (table_at self.old.bases db) key.now }
         ensures means { OnOk result (means V.value_of db self.new.bases (B.blocks self.new.store) ≡ put (means V.value_of db self.old.bases (B.blocks self.old.store)) key.now (record { value = V.value_of (B.blocks self.old.store) value; deadline = deadline })) }
+        ensures has { OnOk result (HasOnly self.new.bases (B.blocks self.new.store) db key.now value) }
         ensures kept { OnErr result (means V.value_of db self.new.bases (B.blocks self.new.store) ≡ means V.value_of db self.old.bases (B.blocks self.old.store)) }
         ensures arranged { IsArranged self.new.bases (B.blocks self.new.store) }
         ensures changes { OnOk result (Changes (B.blocks self.old.store) (B.blocks self.new.store) (owned V.refs_of self.old.bases ++ V.refs_of value) (owned V.refs_of self.new.bases)) }
@@ -99,6 +102,7 @@ impl<V: Held, B: BlockStore> Keyspace<V, B> {
         ensures answer { IfOk result (λ there. there ≡ is_some (look (means V.value_of db self.old.bases (B.blocks self.old.store)) from.now)) }
         ensures means { OnOk result (((db ≡ to_db) × (from.now ≡ to.now) → ⊥) → (entry : Entry) → look (means V.value_of db self.old.bases (B.blocks self.old.store)) from.now ≡ Some entry → means V.value_of db self.new.bases (B.blocks self.new.store) ≡ put_in (remove (means V.value_of db self.old.bases (B.blocks self.old.store)) from.now) to_db to.now entry) }
         ensures same { db ≡ to_db → from.now ≡ to.now → (self.new.bases ≡ self.old.bases) × (self.new.store ≡ self.old.store) }
+        ensures writes { OnOk result ((out : List BlockRef) → SoundBeside V.refs_of self.old.bases (B.blocks self.old.store) out → Written V.refs_of (HasValue self.old.bases (B.blocks self.old.store) db from.now) self.old.bases self.new.bases (B.blocks self.old.store) (B.blocks self.new.store)) }
         ensures absent { look (means V.value_of db self.old.bases (B.blocks self.old.store)) from.now ≡ None → (self.new.bases ≡ self.old.bases) × (self.new.store ≡ self.old.store) }
         ensures err { OnErr result (means V.value_of db self.new.bases (B.blocks self.new.store) ≡ means V.value_of db self.old.bases (B.blocks self.old.store)) }
         ensures sound { (out : List BlockRef) → SoundBeside V.refs_of self.old.bases (B.blocks self.old.store) out → SoundBeside V.refs_of self.new.bases (B.blocks self.new.store) out }

@@ -1,13 +1,28 @@
 // Strings whose blocks move.
 
-ghost use Rattle.std.specs.Prelude.{◌≡◌, ◌==◌, ◌<◌, ◌≤◌, None, length, false, if◌then◌else◌};
+ghost use Rattle.std.specs.Prelude.{◌≡◌, ◌==◌, ◌<◌, ◌≤◌, None, length, false, true, if◌then◌else◌, IsSome, IfSome, IfNone};
 ghost use Rattle.std.specs.List.{All};
 ghost use Rattle.blocks.specs.Blocks.{Changes, Owned};
 ghost use Rattle.blocks.specs.Slabs.{wants, Calmer};
 ghost use Rattle.string_object.specs.Text.{text_bytes, text_refs, is_raw};
 
 use crate::Text;
-use blocks::{BlockStore, Moved, settle};
+use blocks::{BlockRef, BlockStore, Moved, settle};
+
+// One block that is passed where it wants no move.
+fn passed_block<B: BlockStore>(store: &B, at: BlockRef) -> Option<Moved>
+    requires { IsSome (B.blocks store.now at) }
+    ensures some { IfSome result (λ moved. (wants (B.heap store.now) at ≡ false) × (moved.next ≡ None) × (moved.used ≡ 1)) }
+    ensures none { IfNone result (wants (B.heap store.now) at ≡ true) }
+{
+    if store.wants_move(at) {
+        return None;
+    }
+    Some(Moved {
+        next: None,
+        used: 1,
+    })
+}
 
 impl Text {
     /// Goes through the blocks from the mark `from` on, and moves each that wants it. The mark of a string's block is 0, so that
@@ -43,5 +58,30 @@ impl Text {
             }
         };
         Moved { next: None, used }
+    }
+
+    /// What `relocate_part` answers where no block from the mark `from` on wants to move, so that nothing moves. `None` comes
+    /// exactly where one wants to.
+    pub fn passed<B: BlockStore>(&self, store: &B, from: u128) -> Option<Moved>
+        requires owned { Owned (text_refs self.now) (B.blocks store.now) }
+        ensures calm { IfSome result (λ moved. from ≡ 0 → All (λ r. wants (B.heap store.now) r ≡ false) (text_refs self.now)) }
+        ensures next { IfSome result (λ moved. moved.next ≡ None) }
+        ensures used { IfSome result (λ moved. moved.used ≡ (if from == 0 then length (text_refs self.now) else 0)) }
+        ensures none { IfNone result ((from ≡ 0) × All (λ r. wants (B.heap store.now) r ≡ true) (text_refs self.now) × (length (text_refs self.now) ≡ 1)) }
+    {
+        if from > 0 {
+            return Some(Moved {
+                next: None,
+                used: 0,
+            });
+        }
+        match *self {
+            Text::Number(_) => Some(Moved {
+                next: None,
+                used: 0,
+            }),
+            Text::Whole(at) => passed_block(store, at),
+            Text::Raw(at) => passed_block(store, at),
+        }
     }
 }

@@ -1,4 +1,4 @@
-use Rattle.std.proofs.Common.{◌+◌, sym, subst, arith}
+use Rattle.std.proofs.Common.{◌+◌, refl, sym, subst, arith}
 use Rattle.blocks.specs.Blocks.{no_step}
 use Rattle.blocks.proofs.Serve.{Served-then}
 use Rattle.held.specs.Expiry.{Expired, start, more}
@@ -11,6 +11,7 @@ loop-init g c = record {
   outlives = outlives_none g.V.Held.refs_of g.V.Held.value_of g.met.V.Held.reads_own c.args.self.now.bases (g.B.BlockStore.blocks c.args.self.now.store) c.args.moment c.requires.intact;
   served = no_step;
   few = omega arith;
+  none = λ first. refl;
 }
 
 pub loop-preserved : goal.loop-preserved
@@ -20,6 +21,7 @@ loop-preserved g c = record {
   outlives = outlives_next g.V.Held.refs_of g.V.Held.value_of g.met.V.Held.reads_own c.args.self.now.bases c.loop.self.bases c.expire_one-dropped.new.self.bases (g.B.BlockStore.blocks c.args.self.now.store) (g.B.BlockStore.blocks c.loop.self.store) (g.B.BlockStore.blocks c.expire_one-dropped.new.self.store) c.args.moment
       c.loop.invariant.outlives c.expire_one-dropped.ensures.step c.expire_one-dropped.ensures.lives c.expire_one-dropped.ensures.arranged c.expire_one-dropped.ensures.changes;
   served = Served-then _ _ _ c.loop.invariant.served c.expire_one-dropped.ensures.served;
+  none = λ first. absurd (omega (arith, first));
   few = (let before = c.loop.invariant.few in let one = c.expire_one-dropped.ensures.few in omega (arith, before, one));
 }
 

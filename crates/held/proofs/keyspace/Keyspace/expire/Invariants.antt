@@ -1,4 +1,4 @@
-use Rattle.std.proofs.Common.{◌*◌, ◌≤◌}
+use Rattle.std.proofs.Common.{◌≡◌, ◌*◌, ◌≤◌}
 use Rattle.blocks.specs.Blocks.{Served}
 use Rattle.held.specs.Expiry.{Expired}
 use Rattle.held.proofs.Turns.{Outlives}
@@ -10,4 +10,5 @@ invariant-loop g l = record {
   outlives : Outlives g.V.Held.refs_of g.V.Held.value_of l.initial.self.bases l.self.bases (g.B.BlockStore.blocks l.initial.self.store) (g.B.BlockStore.blocks l.self.store) l.moment;
   served : Served g.B.BlockStore.step l.initial.self.store l.self.store;
   few : l.dropped ≤ 16 * l.counter;
+  none : l.counter ≡ 0 → l.self ≡ l.initial.self;
 }

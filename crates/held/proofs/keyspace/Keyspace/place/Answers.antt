@@ -1,6 +1,6 @@
 use Rattle.std.proofs.Common.{[], sym, ap, subst}
 use Rattle.blocks.specs.Blocks.{Blocks, Changes, Owned, Served, no_step}
-use Rattle.held.proofs.Calls.{put_owned, put_over, put_arranged, put_changes}
+use Rattle.held.proofs.Calls.{put_owned, put_over, put_only, put_arranged, put_changes}
 use Rattle.held.proofs.Calls.{put_within}
 use Rattle.held.specs.Scopes.{one_key, Within}
 use Rattle.held.proofs.Within.{within_keys}
@@ -49,3 +49,10 @@ pub returns-in-Err-clause-within : goal.returns-in-Err-clause-within
 returns-in-Err-clause-within g c =
     subst (λ (b : Blocks). Within g.V.Held.refs_of (one_key c.args.db c.args.key.now) c.args.self.now.bases c.retime.new.self.bases (g.B.BlockStore.blocks c.args.self.now.store) b) (sym (ap g.B.BlockStore.blocks c.retime.ensures.store))
     (within_keys g.V.Held.refs_of c.args.db (λ other. other ≡ c.args.key.now) c.args.self.now.bases c.retime.new.self.bases (g.B.BlockStore.blocks c.args.self.now.store) (g.B.BlockStore.blocks c.args.self.now.store) c.retime.ensures.within)
+
+pub returns-clause-has : goal.returns-clause-has
+returns-clause-has g c =
+    let m = g.B.BlockStore.blocks c.args.self.now.store in
+    let after = g.B.BlockStore.blocks c.release.new.store in
+    put_only g.V.Held.refs_of g.V.Held.value_of g.met.V.Held.reads_own c.args.self.now.bases c.retime.new.self.bases c.swap_value-was.new.self c.args.db m after c.in-Some.at c.args.key.now c.swap_value-was.result c.args.value c.args.deadline c.requires.intact c.retime.ensures.changes c.retime.ensures.arranged c.in_default-retime.ensures.times c.in-Some.ensures.found c.swap_value-was.ensures.changes c.swap_value-was.ensures.swaps (c.swap_value-was.ensures.keyed m (c.retime.ensures.arranged.keyed c.args.db))
+    (subst (λ (b : Blocks). Changes b after (g.V.Held.refs_of c.swap_value-was.result) []) (ap g.B.BlockStore.blocks c.retime.ensures.store) c.release.ensures.changes)

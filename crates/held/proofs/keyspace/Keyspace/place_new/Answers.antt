@@ -1,5 +1,5 @@
 use Rattle.blocks.proofs.Serve.{Served-next}
-use Rattle.held.proofs.Calls.{placed_bytes, placed_intact, placed_lacks, new_means, new_arranged, new_changes, back_means, back_arranged, back_blocks, back_keys, back_owned}
+use Rattle.held.proofs.Calls.{placed_bytes, placed_intact, placed_lacks, new_means, new_only, new_arranged, new_changes, back_means, back_arranged, back_blocks, back_keys, back_owned}
 use Rattle.held.proofs.Calls.{new_within, back_within}
 use Rattle.held.specs.Scopes.{one_key}
 use Rattle.held.proofs.Within.{within_same}
@@ -94,3 +94,9 @@ returns-in-Err-clause-within g c = back_within g.V.Held.refs_of g.V.Held.value_o
 
 pub returns-in_default-clause-within : goal.returns-in_default-clause-within
 returns-in_default-clause-within g c = within_same g.V.Held.refs_of (one_key c.args.db c.args.key.now) c.args.self.now.bases c.args.self.now.bases (g.B.BlockStore.blocks c.args.self.now.store) (g.B.BlockStore.blocks c.put_block.new.store) refl c.in_default.ensures.err_blocks
+
+pub returns-in-Ok-insert_timed-clause-has : goal.returns-in-Ok-insert_timed-clause-has
+returns-in-Ok-insert_timed-clause-has g c =
+    let m = g.B.BlockStore.blocks c.args.self.now.store in
+    let mid = g.B.BlockStore.blocks c.put_block.new.store in
+    new_only g.V.Held.refs_of g.V.Held.value_of g.met.V.Held.reads_own c.args.self.now.bases m mid c.in-Ok.at c.args.key.now c.args.value c.requires.intact c.in-Ok.ensures.placed c.in-Ok.ensures.changes c.insert_timed.new.self c.args.db c.args.deadline c.in-Ok-insert_timed.ensures.joins

@@ -4,9 +4,11 @@ use Rattle.blocks.proofs.Serve.{Served-then}
 use Rattle.blocks.proofs.Change.{Changes-then}
 use Rattle.held.proofs.Timing.{some_none}
 use Rattle.held.proofs.Calls.{look_lacks, look_stands}
-use Rattle.held.proofs.Renaming.{deadline_late, out_intact, out_look, moved_means, moved_sound, moved_changes, refused_world, refused_sound, refused_same}
+use Rattle.held.proofs.Renaming.{deadline_late, moved_writes, out_intact, out_look, moved_means, moved_sound, moved_changes, refused_world, refused_sound, refused_same}
 use Rattle.held.specs.Scopes.{two_keys}
+use Rattle.held.specs.Calls.{HasValue}
 use Rattle.held.proofs.Within.{within_none, within_then}
+use Rattle.held.proofs.Written.{written_none}
 use Rattle.held.proofs.Renaming.{placed_within, left_within, back_within}
 use Rattle.held.proofs.keyspace.Keyspace.rename.Goals as goal
 
@@ -93,3 +95,15 @@ returns-in-Err-clause-within g c =
     (placed_within g.V.Held.refs_of g.V.Held.value_of g.met.V.Held.reads_own c.args.self.now.bases c.swap_value-value.new.self c.args.db (g.B.BlockStore.blocks c.args.self.now.store) c.requires.intact c.args.from.now c.in-Some.at c.in-Some.ensures.found c.deadline-deadline.result c.deadline-deadline.ensures.value c.swap_value-value.ensures.changes c.swap_value-value.result c.zero.result (ap g.V.Held.refs_of c.zero.ensures ∙ g.met.V.Held.owns_none) c.swap_value-value.ensures.swaps (c.swap_value-value.ensures.keyed (g.B.BlockStore.blocks c.args.self.now.store) (c.requires.intact.arranged.keyed c.args.db)) (c.swap_value-value.ensures.tables (g.B.BlockStore.blocks c.args.self.now.store)) c.args.to_db c.args.to.now c.place.new.self.bases (g.B.BlockStore.blocks c.place.new.self.store) c.place.ensures.within)
     (back_within g.V.Held.refs_of g.V.Held.value_of g.met.V.Held.reads_own c.args.self.now.bases c.swap_value-value.new.self c.args.db (g.B.BlockStore.blocks c.args.self.now.store) c.requires.intact c.args.from.now c.in-Some.at c.in-Some.ensures.found c.deadline-deadline.result c.deadline-deadline.ensures.value c.swap_value-value.ensures.changes c.swap_value-value.result c.zero.result (ap g.V.Held.refs_of c.zero.ensures ∙ g.met.V.Held.owns_none) c.swap_value-value.ensures.swaps (c.swap_value-value.ensures.keyed (g.B.BlockStore.blocks c.args.self.now.store) (c.requires.intact.arranged.keyed c.args.db)) c.args.to_db c.place.new.self.bases (g.B.BlockStore.blocks c.place.new.self.store) c.in-Err.ensures.err_blocks c.in-Err.ensures.err_keys c.in-Err.ensures.err_owned c.in-Err.ensures.arranged c.in-Err.ensures.kept c.swap_value-zero.new.self c.in-Err.value c.in-Err.ensures.value_returned c.swap_value-zero.ensures.changes c.swap_value-zero.result c.swap_value-zero.ensures.swaps (c.swap_value-zero.ensures.keyed (g.B.BlockStore.blocks c.place.new.self.store) (c.in-Err.ensures.arranged.keyed c.args.db))
     (c.swap_value-zero.ensures.tables (g.B.BlockStore.blocks c.place.new.self.store)) c.args.to.now)
+
+pub returns-in_default-clause-writes : goal.returns-in_default-clause-writes
+returns-in_default-clause-writes g c out sound = written_none g.V.Held.refs_of (HasValue c.args.self.now.bases (g.B.BlockStore.blocks c.args.self.now.store) c.args.db c.args.from.now) c.args.self.now.bases (g.B.BlockStore.blocks c.args.self.now.store)
+
+pub returns-then-eq-clause-writes : goal.returns-then-eq-clause-writes
+returns-then-eq-clause-writes g c out sound = written_none g.V.Held.refs_of (HasValue c.args.self.now.bases (g.B.BlockStore.blocks c.args.self.now.store) c.args.db c.args.from.now) c.args.self.now.bases (g.B.BlockStore.blocks c.args.self.now.store)
+
+pub returns-in-Ok-clause-writes : goal.returns-in-Ok-clause-writes
+returns-in-Ok-clause-writes g c out sound =
+    moved_writes g.V.Held.refs_of g.V.Held.value_of g.met.V.Held.reads_own c.args.self.now.bases c.swap_value-value.new.self c.args.db (g.B.BlockStore.blocks c.args.self.now.store) c.requires.intact c.args.from.now c.in-Some.at c.in-Some.ensures.found c.deadline-deadline.result c.deadline-deadline.ensures.value c.swap_value-value.ensures.changes c.swap_value-value.result c.zero.result (ap g.V.Held.refs_of c.zero.ensures ∙ g.met.V.Held.owns_none) c.swap_value-value.ensures.swaps (c.swap_value-value.ensures.keyed (g.B.BlockStore.blocks c.args.self.now.store) (c.requires.intact.arranged.keyed c.args.db))
+    c.args.to_db c.args.to.now c.place.new.self.bases c.drop_key-there.new.self.bases (g.B.BlockStore.blocks c.place.new.self.store) (g.B.BlockStore.blocks c.drop_key-there.new.self.store) c.in-Ok.ensures.has c.drop_key-there.ensures.within c.drop_key-there.ensures.means
+    (returns-in-Ok-clause-within g c) (returns-in-Ok-clause-sound g c out sound).arranged
