@@ -23,6 +23,7 @@ use Rattle.keyspace.specs.declared.value.Value.{Value}
 use Rattle.keyspace.specs.Values.{value_of, value_refs, value_own}
 use Rattle.keyspace.specs.Databases.{Bases, means}
 use Rattle.keyspace.specs.Sound.{IsIntact, SoundBeside}
+use Rattle.held.specs.Calls.{HasOnly}
 use Rattle.keyspace.specs.Calls.{Lifted, IsPlace, IsVacant, Lifts, AreParts}
 use Rattle.held.proofs.Within.{within_store, within_wider}
 use Rattle.keyspace.specs.Scopes.{one_key, two_keys, Within}
@@ -87,6 +88,10 @@ module _ (old mid : Bases) (m own after : Blocks) (db moment : ℕ) (key : List 
         (further (one_key db key) mid mid new m after after
         (within_store value_refs value_of value_own (one_key db key) mid m after (value_refs lifted.value ++ []) [] extra (Sound-intact mid m (value_refs lifted.value ++ []) sound) p nothing)
         (subst (λ d. Within (one_key d key) mid new after after) lifts.same_db (clause key lifts.deadline place))))
+
+    -- from the clause `has` of `lower`
+    pub copy_has : ((k : List ℕ) (deadline : Option ℕ) → IsPlace mid after lifted.db lifted.item k deadline → HasOnly new after lifted.db k lifted.value) → HasOnly new later db key lifted.value
+    copy_has clause = subst (λ b. HasOnly new b db key lifted.value) (sym same) (subst (λ d. HasOnly new after d key lifted.value) lifts.same_db (clause key lifts.deadline place))
 
     pub copy_means : ((k : List ℕ) (deadline : Option ℕ) → IsPlace mid after lifted.db lifted.item k deadline → means lifted.db new after ≡ put (means lifted.db mid after) k (record { value = value_of after lifted.value; deadline = deadline }))
         → means db new later ≡ means db old m

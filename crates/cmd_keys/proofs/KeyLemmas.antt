@@ -34,8 +34,10 @@ use Rattle.keyspace.specs.Commands.{Ready, Kept, Runs, sight}
 use Rattle.keyspace.specs.Shown.{IsActual, encoded, key_shown, connection_shown}
 use Rattle.plain_model.specs.declared.connection.ConnectionCommand.TheVariants as connection
 use Rattle.keyspace.proofs.Running.{outcome_is, unchanged}
+use Rattle.keyspace.specs.Forms.{Unwritten, Formed, key_form}
+use Rattle.keyspace.proofs.Forming.{formed_ok, formed_scope, unformed}
 use Rattle.cmd_keys.specs.declared.keys.look.Timeless.{Timeless}
-use Rattle.cmd_keys.specs.Found.{RehashesNone, Gives, Serves, Tells, IsDatabase, IsDeadlineAt, told_of}
+use Rattle.cmd_keys.specs.Found.{IsCommon, Gives, Serves, Tells, IsDatabase, IsDeadlineAt, told_of}
 
 -- what stands at a key of the live world, and its deadline
 pub record StandsUntil (world : World) (moment : ℕ) (key : List ℕ) (deadline : Option ℕ) : Type 0 where
@@ -104,12 +106,12 @@ asked_move command key number asked is = subst FitsKeys is (fits_keys command as
 pub asked_scan : (command : KeyCommand) (cursor : ℕ) (options : ScanOptions) → IsAsked (Keys command) → command ≡ keys.Scan cursor options → 0 < options.count
 asked_scan command cursor options asked is = (subst FitsKeys is (fits_keys command asked)).0
 
--- a command on the connection or the server that makes no rehash steps shows nothing of the tables
-connection_shows : {S E : Type 0} (blocks : S → Blocks) (old new : Keyspace S) (command : ConnectionCommand) → RehashesNone command → (result : Result (List Part) E) → IfOk result (λ reply. connection_shown blocks old new command reply)
+-- a common command on the connection or the server shows nothing of the tables
+connection_shows : {S E : Type 0} (blocks : S → Blocks) (old new : Keyspace S) (command : ConnectionCommand) → IsCommon command → (result : Result (List Part) E) → IfOk result (λ reply. connection_shown blocks old new command reply)
 connection_shows blocks old new command none (Err x) = tt
 connection_shows blocks old new command none (Ok reply) = one command none
   where
-    one : (command : ConnectionCommand) → RehashesNone command → connection_shown blocks old new command reply
+    one : (command : ConnectionCommand) → IsCommon command → connection_shown blocks old new command reply
     one (connection.Ping text) none = tt
     one (connection.Echo text) none = tt
     one connection.Quit none = tt
@@ -117,15 +119,17 @@ connection_shows blocks old new command none (Ok reply) = one command none
     one connection.DbSize none = tt
     one connection.FlushDb none = tt
     one connection.FlushAll none = tt
+    one connection.MemorySlabs none = absurd none
     one (connection.DebugRehash n) none = absurd none
+    one (connection.DebugDefrag n) none = absurd none
 
 -- a command whose reply shows nothing of the tables
 key_shows : {E : Type 0} (P : List Part → Type 0) (result : Result (List Part) E) → ((reply : List Part) → P reply) → IfOk result P
 key_shows P (Ok reply) all = all reply
 key_shows P (Err x) all = tt
 
--- what the connection may be answered is its outcome, but for DEBUG REHASH
-outcome_connection : (old : World) (moment : ℕ) (command : ConnectionCommand) → RehashesNone command → (reply : List Part) (new : World) → IsOutcome (connection_outcome moment old command) reply new → may_connection old moment command reply new
+-- what a common command may be answered is its outcome
+outcome_connection : (old : World) (moment : ℕ) (command : ConnectionCommand) → IsCommon command → (reply : List Part) (new : World) → IsOutcome (connection_outcome moment old command) reply new → may_connection old moment command reply new
 outcome_connection old moment (connection.Ping text) none reply new o = o
 outcome_connection old moment (connection.Echo text) none reply new o = o
 outcome_connection old moment connection.Quit none reply new o = o
@@ -133,21 +137,37 @@ outcome_connection old moment (connection.Select number) none reply new o = o
 outcome_connection old moment connection.DbSize none reply new o = o
 outcome_connection old moment connection.FlushDb none reply new o = o
 outcome_connection old moment connection.FlushAll none reply new o = o
+outcome_connection old moment connection.MemorySlabs none reply new o = absurd none
 outcome_connection old moment (connection.DebugRehash n) none reply new o = absurd none
+outcome_connection old moment (connection.DebugDefrag n) none reply new o = absurd none
+
+-- a command on the connection or the server writes no key
+connection_writes : (db : ℕ) (command : ConnectionCommand) (number : ℕ) (key : List ℕ) → (connection_scope db command).writes number key → ⊥
+connection_writes db (connection.Ping text) number key named = named
+connection_writes db (connection.Echo text) number key named = named
+connection_writes db connection.Quit number key named = named
+connection_writes db (connection.Select other) number key named = named
+connection_writes db connection.DbSize number key named = named.1
+connection_writes db connection.FlushDb number key named = named
+connection_writes db connection.FlushAll number key named = named
+connection_writes db connection.MemorySlabs number key named = named
+connection_writes db (connection.DebugRehash n) number key named = named
+connection_writes db (connection.DebugDefrag n) number key named = named
 
 -- a command on the connection or the server ran
 pub served_connection : {S E : Type 0} (blocks : S → Blocks) (step : S → S → Type 0) (old new : Keyspace S) (at : Ctx) (command same : ConnectionCommand) (result : Result (List Part) E)
-    → command ≡ same → RehashesNone command → Serves blocks old new at same result → Kept blocks step (connection_scope at.db same) old new result → Runs blocks step old new at (Connection command) result
+    → command ≡ same → IsCommon command → Serves blocks old new at same result → Kept blocks step (connection_scope at.db same) old new result → Runs blocks step old new at (Connection command) result
 served_connection {E = E} blocks step old new at command same (Ok reply) is none given kept = record {
   answers = outcome_connection (sight blocks old at) at.moment command none reply (sight blocks new at) (subst (λ c. IsOutcome (connection_outcome at.moment (sight blocks old at) c) reply (sight blocks new at)) (sym is) (outcome_is (connection_outcome at.moment (sight blocks old at) same) reply (sight blocks new at) given));
   kept = subst (λ c. Kept {E = E} blocks step (connection_scope at.db c) old new (Ok reply)) (sym is) kept;
   shows = connection_shows {E = E} blocks old new command none (Ok reply);
+  forms = formed_scope Unwritten (connection_scope at.db same) (connection_writes at.db same) old.bases new.bases (blocks old.store) (blocks new.store) kept.within;
 }
-served_connection {E = E} blocks step old new at command same (Err x) is none given kept = record { answers = tt; kept = subst (λ c. Kept {E = E} blocks step (connection_scope at.db c) old new (Err x)) (sym is) kept; shows = tt }
+served_connection {E = E} blocks step old new at command same (Err x) is none given kept = record { answers = tt; kept = subst (λ c. Kept {E = E} blocks step (connection_scope at.db c) old new (Err x)) (sym is) kept; shows = tt; forms = tt }
 
 -- one that tells the same in every world
 pub told_connection : {S E : Type 0} (blocks : S → Blocks) (step : S → S → Type 0) (keyspace : Keyspace S) (at : Ctx) (command same : ConnectionCommand) (result : Result (List Part) E)
-    → command ≡ same → RehashesNone command → Tells same result → Ready blocks keyspace at → Runs blocks step keyspace keyspace at (Connection command) result
+    → command ≡ same → IsCommon command → Tells same result → Ready blocks keyspace at → Runs blocks step keyspace keyspace at (Connection command) result
 told_connection blocks step keyspace at command same result is none told ready =
     served_connection blocks step keyspace keyspace at command same result is none (told at.moment (sight blocks keyspace at)) (unchanged blocks step (connection_scope at.db same) keyspace result ready.sound)
 
@@ -155,20 +175,29 @@ told_connection blocks step keyspace at command same result is none told ready =
 pub ran_keys : {S E : Type 0} (blocks : S → Blocks) (step : S → S → Type 0) (old new : Keyspace S) (at : Ctx) (command same : KeyCommand) (result : Result (List Part) E)
     → ((reply : List Part) (world : World) → IsOutcome (key_outcome at.moment (sight blocks old at) same) reply world → may_keys old.bases.seed (sight blocks old at) at.moment same reply world)
     → ((reply : List Part) → key_shown old.bases (blocks old.store) at same reply)
-    → command ≡ same → Gives blocks old new at same result → Kept blocks step (key_scope at.db same) old new result → Runs blocks step old new at (Keys command) result
-ran_keys {E = E} blocks step old new at command same result fixed shows is given kept =
-    subst (λ c. Runs {E = E} blocks step old new at (Keys c) result) (sym is) (record { answers = answers result given; kept = kept; shows = key_shows _ result shows })
+    → command ≡ same → Gives blocks old new at same result → Kept blocks step (key_scope at.db same) old new result → IfOk result (λ reply. Formed blocks (key_form at.db same) old new) → Runs blocks step old new at (Keys command) result
+ran_keys {E = E} blocks step old new at command same result fixed shows is given kept forms =
+    subst (λ c. Runs {E = E} blocks step old new at (Keys c) result) (sym is) (record { answers = answers result given; kept = kept; shows = key_shows _ result shows; forms = forms })
   where
     answers : (result : Result (List Part) E) → Gives blocks old new at same result → IfOk result (λ reply. may_keys old.bases.seed (sight blocks old at) at.moment same reply (sight blocks new at))
     answers (Ok reply) given = fixed reply (sight blocks new at) (outcome_is (key_outcome at.moment (sight blocks old at) same) reply (sight blocks new at) given)
     answers (Err x) given = tt
+
+-- one that writes none
+pub removed_keys : {S E : Type 0} (blocks : S → Blocks) (step : S → S → Type 0) (old new : Keyspace S) (at : Ctx) (command same : KeyCommand) (result : Result (List Part) E)
+    → ((reply : List Part) (world : World) → IsOutcome (key_outcome at.moment (sight blocks old at) same) reply world → may_keys old.bases.seed (sight blocks old at) at.moment same reply world)
+    → ((reply : List Part) → key_shown old.bases (blocks old.store) at same reply) → ((number : ℕ) (key : List ℕ) → (key_scope at.db same).writes number key → ⊥)
+    → command ≡ same → Gives blocks old new at same result → Kept blocks step (key_scope at.db same) old new result → Runs blocks step old new at (Keys command) result
+removed_keys blocks step old new at command same result fixed shows none is given kept =
+    ran_keys blocks step old new at command same result fixed shows is given kept
+    (formed_ok blocks (key_form at.db same) old new result (formed_scope (key_form at.db same) (key_scope at.db same) none old.bases new.bases (blocks old.store) (blocks new.store) kept.within))
 
 -- a command on keys only looked
 pub asked_keys : {S E : Type 0} (blocks : S → Blocks) (step : S → S → Type 0) (keyspace : Keyspace S) (at : Ctx) (command same : KeyCommand) (result : Result (List Part) E)
     → command ≡ same → IfOk result (λ reply. may_keys keyspace.bases.seed (sight blocks keyspace at) at.moment same reply (sight blocks keyspace at)) → IfOk result (λ reply. key_shown keyspace.bases (blocks keyspace.store) at same reply) → Ready blocks keyspace at
     → Runs blocks step keyspace keyspace at (Keys command) result
 asked_keys {E = E} blocks step keyspace at command same result is given shows ready =
-    subst (λ c. Runs {E = E} blocks step keyspace keyspace at (Keys c) result) (sym is) (record { answers = given; kept = unchanged blocks step (key_scope at.db same) keyspace result ready.sound; shows = shows })
+    subst (λ c. Runs {E = E} blocks step keyspace keyspace at (Keys c) result) (sym is) (record { answers = given; kept = unchanged blocks step (key_scope at.db same) keyspace result ready.sound; shows = shows; forms = unformed blocks (key_form at.db same) keyspace result })
 
 -- and told what the model tells
 pub told_keys : {S E : Type 0} (blocks : S → Blocks) (step : S → S → Type 0) (keyspace : Keyspace S) (at : Ctx) (command same : KeyCommand) (result : Result (List Part) E)
@@ -176,7 +205,7 @@ pub told_keys : {S E : Type 0} (blocks : S → Blocks) (step : S → S → Type 
     → ((reply : List Part) → key_shown keyspace.bases (blocks keyspace.store) at same reply)
     → command ≡ same → Gives blocks keyspace keyspace at same result → Ready blocks keyspace at → Runs blocks step keyspace keyspace at (Keys command) result
 told_keys blocks step keyspace at command same result fixed shows is given ready =
-    ran_keys blocks step keyspace keyspace at command same result fixed shows is given (unchanged blocks step (key_scope at.db same) keyspace result ready.sound)
+    ran_keys blocks step keyspace keyspace at command same result fixed shows is given (unchanged blocks step (key_scope at.db same) keyspace result ready.sound) (unformed blocks (key_form at.db same) keyspace result)
 
 -- what is asked of a key alone leaves the world
 pub and_stays : {E : Type 0} (P : List Part → Type 0) (world : World) (result : Result (List Part) E) → IfOk result P → IfOk result (λ reply. P reply × (world ≡ world))

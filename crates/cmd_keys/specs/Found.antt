@@ -6,7 +6,7 @@ use Rattle.plain_world.specs.declared.reply.Part.{Part}
 use Rattle.plain_model.specs.Outcomes.{leaves, tells}
 use Rattle.plain_model.specs.ConnectionSteps.{connection_outcome}
 use Rattle.plain_model.specs.declared.connection.ConnectionCommand.{ConnectionCommand}
-use Rattle.plain_model.specs.declared.connection.ConnectionCommand.TheVariants.{Select, DebugRehash}
+use Rattle.plain_model.specs.declared.connection.ConnectionCommand.TheVariants.{Select, MemorySlabs, DebugRehash, DebugDefrag}
 use Rattle.plain_model.specs.KeySteps.{key_outcome, time_told}
 use Rattle.plain_model.specs.declared.ctx.Ctx.{Ctx}
 use Rattle.plain_model.specs.declared.keys.KeyCommand.{KeyCommand}
@@ -53,12 +53,11 @@ pub record IsAhead (moment deadline : ℕ) : Type 0 where
 abbrev pub IsDatabase : Option ℕ → Type 0
 IsDatabase db = IfSome db (λ number. number < 16)
 
--- the command selects no database
-abbrev pub SelectsNone : ConnectionCommand → Type 0
-SelectsNone (Select number) = ⊥
-SelectsNone other = Unit {0}
-
--- the command makes no rehash steps of its own
-abbrev pub RehashesNone : ConnectionCommand → Type 0
-RehashesNone (DebugRehash n) = ⊥
-RehashesNone other = Unit {0}
+-- what it may answer is one outcome in the world, over the keyspace alone: it selects no database, makes no steps of its own,
+-- and tells nothing of slabs
+abbrev pub IsCommon : ConnectionCommand → Type 0
+IsCommon (Select number) = ⊥
+IsCommon MemorySlabs = ⊥
+IsCommon (DebugRehash n) = ⊥
+IsCommon (DebugDefrag n) = ⊥
+IsCommon other = Unit {0}

@@ -1,3 +1,4 @@
 pub mod Emptied
 pub mod Found
 pub mod Sieve
+pub mod Slabs

@@ -4,7 +4,7 @@ ghost use Rattle.std.specs.Prelude.{◌≡◌, ◌<◌};
 ghost use Rattle.plain_model.specs.Meant.{IsAsked};
 ghost use Rattle.plain_model.specs.declared.command.Command.TheVariants.{Keys, Connection};
 ghost use Rattle.keyspace.specs.Commands.{Ready, Runs};
-ghost use Rattle.cmd_keys.specs.Found.{SelectsNone, RehashesNone};
+ghost use Rattle.cmd_keys.specs.Found.{IsCommon};
 
 use crate::connection::{dbsize, echo, flushall, flushdb, ping, quit};
 use crate::keys::{
@@ -61,15 +61,15 @@ pub fn run_keys<B: BlockStore>(
 }
 
 /// Runs a command on the connection or the server by its own function. SELECT is none of them: whoever keeps the number of
-/// the selected database answers it. Nor is DEBUG REHASH, which leaves tables as no other command does.
+/// the selected database answers it. Nor are MEMORY and DEBUG, which tell of slabs, and leave tables and blocks as no other
+/// command does.
 pub fn run_connection<B: BlockStore>(
     keyspace: &mut Keyspace<B>,
     at: &Ctx,
     command: &ConnectionCommand,
 ) -> Result<Reply, Memory>
     requires ready { Ready B.blocks keyspace.old at.now }
-    requires selects { SelectsNone command.now }
-    requires steps { RehashesNone command.now }
+    requires common { IsCommon command.now }
     ensures { Runs B.blocks B.step keyspace.old keyspace.new at.now (Connection command.now) result }
 {
     match command {
@@ -80,6 +80,8 @@ pub fn run_connection<B: BlockStore>(
         ConnectionCommand::DbSize => dbsize(keyspace, at),
         ConnectionCommand::FlushDb => flushdb(keyspace, at),
         ConnectionCommand::FlushAll => flushall(keyspace, at),
+        ConnectionCommand::MemorySlabs => unreachable!(),
         ConnectionCommand::DebugRehash(_) => unreachable!(),
+        ConnectionCommand::DebugDefrag(_) => unreachable!(),
     }
 }

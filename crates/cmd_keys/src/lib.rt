@@ -8,6 +8,7 @@
 mod connection;
 mod dispatch;
 mod keys;
+mod slabs;
 
 pub use connection::{dbsize, debug_rehash, echo, flushall, flushdb, ping, quit};
 pub use dispatch::{run_connection, run_keys};
@@ -16,3 +17,4 @@ pub use keys::{
     pexpire, pexpireat, pexpiretime, pttl, randomkey, rename, renamenx, scan, touch, ttl, type_of,
     unlink,
 };
+pub use slabs::memory_slabs;

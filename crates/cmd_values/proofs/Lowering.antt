@@ -13,10 +13,11 @@ use Rattle.keyspace.specs.Calls.{Lifted}
 use Rattle.keyspace.specs.Values.{value_of, value_refs}
 use Rattle.keyspace.specs.Databases.{Bases, means}
 use Rattle.keyspace.specs.Sound.{IsIntact, Sound, SoundBeside}
+use Rattle.held.specs.Calls.{HasOnly}
 use Rattle.keyspace.specs.Calls.{Lifts, IsPlace, AreParts}
 use Rattle.keyspace.specs.Commands.{seen}
 use Rattle.keyspace.specs.Scopes.{one_key, Within}
-use Rattle.keyspace.proofs.Uses.{Lower-intact, Lower-sound, Lower-within, Lower-means}
+use Rattle.keyspace.proofs.Uses.{Lower-intact, Lower-sound, Lower-has, Lower-within, Lower-means}
 use Rattle.cmd_values.specs.Found.{Becomes}
 
 -- the string of a value, and of what stands at a key
@@ -46,6 +47,10 @@ module _ (at : Ctx) (old mid : Bases) (m own after : Blocks) (key : List ℕ) (l
     -- from the clauses `within` of `lift` and `lower`
     pub text_within : Within (one_key at.db key) old mid m m → ((k : List ℕ) (deadline : Option ℕ) → IsPlace mid after lifted.db lifted.item k deadline → Within (one_key lifted.db k) mid new after after) → Within (one_key at.db key) old new m later
     text_within taken clause = subst (Within (one_key at.db key) old new m) (sym stays) (Lower-within old mid m after at.db at.moment key lifted lowered [] lifts sound changes refl refl new taken clause)
+
+    -- from the clause `has` of `lower`
+    pub text_has : ((k : List ℕ) (deadline : Option ℕ) → IsPlace mid after lifted.db lifted.item k deadline → HasOnly new after lifted.db k (values.Text changed)) → HasOnly new later at.db key (values.Text changed)
+    text_has clause = subst (λ b. HasOnly new b at.db key (values.Text changed)) (sym stays) (Lower-has old mid m after at.db at.moment key lifted lowered [] lifts sound changes refl refl new clause)
 
     pub text_becomes : ((k : List ℕ) (deadline : Option ℕ) → IsPlace mid after lifted.db lifted.item k deadline → means lifted.db new after ≡ put (means lifted.db mid after) k (record { value = value_of after (values.Text changed); deadline = deadline }))
         → (next : List ℕ → List ℕ) → text_bytes after changed ≡ next (text_bytes own text)

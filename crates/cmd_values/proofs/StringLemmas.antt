@@ -16,6 +16,8 @@ use Rattle.std.specs.Prelude.{Bool}
 use Rattle.plain_model.specs.StringSteps.{string_outcome, on_string, or_null, string_part, string_or_null, replace}
 use Rattle.keyspace.proofs.Running.{outcome_is, unchanged, nothing_shown}
 use Rattle.keyspace.specs.Shown.{Shows}
+use Rattle.keyspace.specs.Forms.{Formed, string_form, form_of}
+use Rattle.keyspace.proofs.Forming.{formed_ok, formed_scope, unformed}
 use Rattle.plain_model.specs.declared.ctx.Ctx.{Ctx}
 use Rattle.keyspace.specs.declared.value.Value.TheVariants as values
 use Rattle.keyspace.specs.Databases.{Bases, means}
@@ -255,15 +257,27 @@ overflowed old key n next (Err x) at large is = tt
 
 -- a command on strings ran
 pub ran_strings : {S E : Type 0} (blocks : S → Blocks) (step : S → S → Type 0) (old new : Keyspace S) (at : Ctx) (command : Command) (own same : StringCommand) (result : Result (List Part) E)
-    → command ≡ Strings own → own ≡ same → Gives blocks old new at same result → Kept blocks step (string_scope at.db same) old new result → Runs blocks step old new at command result
-ran_strings blocks step old new at command own same result e f given kept =
-    record { answers = step_of old.bases.seed at.moment (sight blocks old at) (sight blocks new at) command own same result e f given; kept = subst (λ x. Kept blocks step (scope_of at.db x) old new result) (sym e) (subst (λ x. Kept blocks step (string_scope at.db x) old new result) (sym f) kept); shows = subst (λ x. IfOk result (λ reply. Shows blocks old new at x reply)) (sym e) (nothing_shown result) }
+    → command ≡ Strings own → own ≡ same → Gives blocks old new at same result → Kept blocks step (string_scope at.db same) old new result → IfOk result (λ reply. Formed blocks (string_form (sight blocks old at) same) old new) → Runs blocks step old new at command result
+ran_strings blocks step old new at command own same result e f given kept forms =
+    record {
+      answers = step_of old.bases.seed at.moment (sight blocks old at) (sight blocks new at) command own same result e f given;
+      kept = subst (λ x. Kept blocks step (scope_of at.db x) old new result) (sym e) (subst (λ x. Kept blocks step (string_scope at.db x) old new result) (sym f) kept);
+      shows = subst (λ x. IfOk result (λ reply. Shows blocks old new at x reply)) (sym e) (nothing_shown result);
+      forms = subst (λ x. IfOk result (λ reply. Formed blocks (form_of at.db (sight blocks old at) x) old new)) (sym e) (subst (λ x. IfOk result (λ reply. Formed blocks (string_form (sight blocks old at) x) old new)) (sym f) forms);
+    }
+
+-- a command on strings that writes none
+pub removed_strings : {S E : Type 0} (blocks : S → Blocks) (step : S → S → Type 0) (old new : Keyspace S) (at : Ctx) (command : Command) (own same : StringCommand) (result : Result (List Part) E)
+    → ((db : ℕ) (key : List ℕ) → (string_scope at.db same).writes db key → ⊥) → command ≡ Strings own → own ≡ same → Gives blocks old new at same result → Kept blocks step (string_scope at.db same) old new result → Runs blocks step old new at command result
+removed_strings blocks step old new at command own same result none e f given kept =
+    ran_strings blocks step old new at command own same result e f given kept
+    (formed_ok blocks (string_form (sight blocks old at) same) old new result (formed_scope (string_form (sight blocks old at) same) (string_scope at.db same) none old.bases new.bases (blocks old.store) (blocks new.store) kept.within))
 
 -- a command on strings only looked
 pub looked_strings : {S E : Type 0} (blocks : S → Blocks) (step : S → S → Type 0) (keyspace : Keyspace S) (at : Ctx) (command : Command) (own same : StringCommand) (result : Result (List Part) E)
     → command ≡ Strings own → own ≡ same → Gives blocks keyspace keyspace at same result → Ready blocks keyspace at → Runs blocks step keyspace keyspace at command result
 looked_strings blocks step keyspace at command own same result e f given ready =
-    ran_strings blocks step keyspace keyspace at command own same result e f given (unchanged blocks step (string_scope at.db same) keyspace result ready.sound)
+    ran_strings blocks step keyspace keyspace at command own same result e f given (unchanged blocks step (string_scope at.db same) keyspace result ready.sound) (unformed blocks (string_form (sight blocks keyspace at) same) keyspace result)
 
 -- what was put stands there
 pub put_there : (old mid : World) (key bytes : List ℕ) → mid ≡ replace old key bytes → is_some (look mid key) ≡ true

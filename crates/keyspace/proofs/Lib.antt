@@ -5,3 +5,4 @@ pub mod Serving
 pub mod Tables
 pub mod Calls
 pub mod Moving
+pub mod Forming

@@ -9,7 +9,9 @@ use Rattle.std.proofs.lemmas.List.{length-map}
 use Rattle.std.proofs.lemmas.List.Sums.{count_by-le-length}
 use Rattle.blocks.specs.declared.BlockRef.{BlockRef}
 use Rattle.blocks.specs.declared.Moved.{Moved}
-use Rattle.blocks.specs.Blocks.{Blocks, Changes}
+use Rattle.blocks.specs.Blocks.{Blocks, Changes, Owned}
+use Rattle.blocks.proofs.Change.{Changes-same}
+use Rattle.blocks.proofs.Sweeps.{Calmer-same}
 use Rattle.blocks.specs.Slabs.{Heap, wants, Calmer}
 use Rattle.blocks.proofs.Sums.{count_cons}
 use Rattle.plain_world.specs.Worlds.{Str}
@@ -17,6 +19,7 @@ use Rattle.string_object.specs.declared.text.Text as string
 use Rattle.string_object.specs.declared.text.Text.TheVariants.{Number, Whole, Raw}
 use Rattle.string_object.specs.Text.{text_bytes, text_refs}
 use Rattle.held.specs.Relocation.{is_before, is_passed, PassesPart}
+use Rattle.keyspace.specs.declared.value.Value.{Value}
 use Rattle.keyspace.specs.declared.value.Value.TheVariants.{Text}
 use Rattle.keyspace.specs.Values.{value_of, value_refs, value_marks}
 
@@ -91,3 +94,11 @@ text_passes m after heap later old new from room answer bytes changes calmer man
     on = subst (λ o. IfSome o (λ to. (from < to) × (room ≤ answer.used + 17))) (sym next) tt;
   };
 }
+
+-- the same where nothing moves
+pub text_passed : (m : Blocks) (heap : Heap) (value : Value) (text : string.Text) (from room : ℕ) (o : Option Moved) → value ≡ Text text → Owned (value_refs value) m → IfSome o (λ moved. from ≡ 0 → All (λ r. wants heap r ≡ false) (text_refs text)) → IfSome o (λ moved. moved.next ≡ None)
+    → IfSome o (λ moved. moved.used ≡ cond (eqb from 0) (length (text_refs text)) 0) → 32 ≤ room → IfSome o (λ moved. PassesPart value_refs value_of value_marks m m heap heap value value from room moved)
+text_passed m heap value text from room None is owned calm next used wide = tt
+text_passed m heap value text from room (Some moved) is owned calm next used wide =
+    subst (λ v. PassesPart value_refs value_of value_marks m m heap heap v v from room moved) (sym is)
+    (text_passes m m heap heap text text from room moved refl (Changes-same m (text_refs text) (subst (λ v. Owned (value_refs v) m) is owned)) (Calmer-same heap) refl calm (λ above. refl) next used wide)

@@ -18,6 +18,7 @@ use Rattle.keyspace.specs.Values.{value_of, value_refs, value_own, vacant, IsEnc
 use Rattle.keyspace.specs.Databases.{Bases, means}
 use Rattle.keyspace.specs.Sound.{IsIntact, Sound, SoundBeside}
 use Rattle.keyspace.specs.Scopes.{Scope, one_key, Within}
+use Rattle.held.specs.Calls.{HasOnly}
 use Rattle.keyspace.specs.Calls.{Lifted, IsPlace, IsVacant, Lifts, AreParts}
 use Rattle.held.proofs.Uses as held
 
@@ -84,6 +85,10 @@ module _ (old mid : Bases) (m after : Blocks) (db moment : ℕ) (key : List ℕ)
     -- from the clause `sound` of `lower`
     pub Lower-sound : ((all rest : List BlockRef) → SoundBeside mid after all → AreParts all (value_refs changed.value) rest → SoundBeside new after rest) → SoundBeside new after out
     Lower-sound = held.Lower-sound value_refs value_of value_own old mid m after db moment key lifted changed out vacant lifts sound p same_db same_item new
+
+    -- from the clause `has` of `lower`
+    pub Lower-has : ((k : List ℕ) (deadline : Option ℕ) → IsPlace mid after changed.db changed.item k deadline → HasOnly new after changed.db k changed.value) → HasOnly new after db key changed.value
+    Lower-has = held.Lower-has value_refs value_of value_own old mid m after db moment key lifted changed out vacant lifts sound p same_db same_item new
 
     -- from the clauses `within` of `lift` and `lower`
     pub Lower-within : Within (one_key db key) old mid m m → ((k : List ℕ) (deadline : Option ℕ) → IsPlace mid after changed.db changed.item k deadline → Within (one_key changed.db k) mid new after after) → Within (one_key db key) old new m after

@@ -11,6 +11,7 @@ use Rattle.keyspace.specs.Databases.{Bases, Keyspace, means, SameSettings}
 use Rattle.keyspace.specs.Sound.{Sound}
 use Rattle.keyspace.specs.Scopes.{Scope, Within, scope_of}
 use Rattle.keyspace.specs.Shown.{Shows}
+use Rattle.keyspace.specs.Forms.{Formed, form_of}
 
 -- the world that a command sees
 abbrev pub seen : Ctx → Bases → Blocks → World
@@ -40,8 +41,9 @@ pub record Kept {S E : Type 0} (blocks : S → Blocks) (step : S → S → Type 
   pub settings : SameSettings old.bases new.bases
   pub within : Within scope old.bases new.bases (blocks old.store) (blocks new.store)
 
--- The command is a step of the model on what the keyspace means, before and after.
+-- The command is a step of the model on what the keyspace means, before and after, and what it writes is encoded by its rule.
 pub record Runs {S E : Type 0} (blocks : S → Blocks) (step : S → S → Type 0) (old new : Keyspace S) (at : Ctx) (command : Command) (result : Result (List Part) E) : Type 0 where
   pub answers : IfOk result (λ reply. may old.bases.seed (sight blocks old at) at.moment command reply (sight blocks new at))
   pub kept : Kept blocks step (scope_of at.db command) old new result
   pub shows : IfOk result (λ reply. Shows blocks old new at command reply)
+  pub forms : IfOk result (λ reply. Formed blocks (form_of at.db (sight blocks old at) command) old new)

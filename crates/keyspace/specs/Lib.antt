@@ -5,5 +5,6 @@ pub mod Sound
 pub mod Worlds
 pub mod Scopes
 pub mod Calls
+pub mod Forms
 pub mod Shown
 pub mod Commands

@@ -12,7 +12,7 @@ use Rattle.plain_model.specs.declared.connection.ConnectionCommand.{ConnectionCo
 use Rattle.plain_model.specs.declared.connection.ConnectionCommand.TheVariants as connection
 use Rattle.keyspace.specs.Databases.{Bases}
 use Rattle.keyspace.specs.Values.{value_refs}
-pub use Rattle.held.specs.Scopes.{Scope, untouched, one_key, some_keys, no_key, two_keys, all_keys, everything, AreSettled}
+pub use Rattle.held.specs.Scopes.{Scope, untouched, one_key, some_keys, no_key, two_keys, all_keys, everything, anything, AreGrown, AreSettled}
 
 -- The databases come from those before within a scope.
 abbrev pub Within : Scope → Bases → Bases → Blocks → Blocks → Type 0
@@ -80,7 +80,9 @@ connection_scope db (connection.Select number) = untouched
 connection_scope db connection.DbSize = no_key db
 connection_scope db connection.FlushDb = all_keys db
 connection_scope db connection.FlushAll = everything
+connection_scope db connection.MemorySlabs = untouched
 connection_scope db (connection.DebugRehash n) = untouched
+connection_scope db (connection.DebugDefrag n) = untouched
 
 -- What a command but DEBUG REHASH may change, where this database is selected. A key that it removes, or whose deadline it
 -- changes, it doesn't write.

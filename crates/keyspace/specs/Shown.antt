@@ -1,12 +1,15 @@
 -- What a reply shows of the tables and values that stand, beside what the world fixes.
-use Rattle.std.specs.Prelude.{◌≡◌, ℕ, List, [], ◌∷◌, pos, Option, Some, None}
+use Rattle.std.specs.Prelude.{◌≡◌, ℕ, List, [], ◌∷◌, map, Bool, nat_lt, pos, Option, Some, None}
+use Rattle.std.specs.List.{filter, range_with_len}
 use Rattle.blocks.specs.Blocks.{Blocks}
+use Rattle.blocks.specs.Slabs.{Heap, size_of, slabs_of, used_of}
 use Rattle.rehash_dict.specs.Table.{Table}
 use Rattle.rehash_dict.specs.Scan.{scanned}
 use Rattle.scan_cursor.specs.Page.{scan_list}
 use Rattle.plain_world.specs.Worlds.{live, look}
 use Rattle.plain_world.specs.declared.reply.Part.{Part}
 use Rattle.plain_world.specs.declared.reply.Part.TheVariants.{Number, Bulk, Null}
+use Rattle.plain_model.specs.ConnectionSteps.{ClassSlabs, slab_table}
 use Rattle.plain_model.specs.Scans.{Sought, Passes, keys_sought, paged}
 use Rattle.plain_model.specs.declared.command.Command.{Command}
 use Rattle.plain_model.specs.declared.command.Command.TheVariants.{Strings, Keys, Connection}
@@ -67,6 +70,23 @@ pub record IsRehashed {S : Type 0} (blocks : S → Blocks) (steps : ℕ) (old ne
   pub tables : Rehashed (blocks old.store) steps found old.bases new.bases
   pub store : new.store ≡ old.store
   pub is : reply ≡ Number (pos found) ∷ []
+
+-- ---- MEMORY SLABS
+
+-- what stands in the slabs of a class
+abbrev pub class_slabs : Heap → ℕ → ClassSlabs
+class_slabs heap class = record { size = size_of class; slabs = slabs_of heap class; used = used_of heap class }
+
+abbrev pub has_slab : ClassSlabs → Bool
+has_slab class = nat_lt 0 class.slabs
+
+-- the classes that have a slab, of all 36
+abbrev pub used_classes : Heap → List ClassSlabs
+used_classes heap = filter has_slab (map (class_slabs heap) (range_with_len 0 36))
+
+-- the reply lists the slabs of the store as they stand
+abbrev pub ListsSlabs : Heap → List Part → Type 0
+ListsSlabs heap reply = reply ≡ slab_table (used_classes heap)
 
 -- ---- each command
 

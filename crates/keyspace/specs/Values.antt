@@ -1,5 +1,5 @@
 -- What a value over the blocks of a store means, and the blocks that it owns: a line for each type of value.
-use Rattle.std.specs.Prelude.{◌≡◌, ℕ, List, [], length, map, pos}
+use Rattle.std.specs.Prelude.{◌≡◌, ℕ, List, [], length, map, pos, true, false}
 use Rattle.std.proofs.Common.{refl, ap}
 use Rattle.std.proofs.lemmas.List.{length-map}
 use Rattle.blocks.specs.declared.BlockRef.{BlockRef}
@@ -33,6 +33,18 @@ value_marked (Text text) = length-map (text_refs text) (λ at. 0)
 -- this is the name of its encoding (Redis command reference, "OBJECT ENCODING")
 abbrev pub IsEncodedAs : Blocks → Value → List ℕ → Type 0
 IsEncodedAs blocks (Text text) name = (own : Name) × IsNameOf (text_bytes blocks text) (is_raw text) own × (name ≡ name_text own)
+
+-- it is encoded as one written whole: no part of it was changed
+abbrev pub IsWhole : Value → Type 0
+IsWhole (Text text) = is_raw text ≡ false
+
+-- it was made raw by a change of a part
+abbrev pub IsRaw : Value → Type 0
+IsRaw (Text text) = is_raw text ≡ true
+
+-- both are encoded alike, where they mean the same
+abbrev pub IsLike : Value → Value → Type 0
+IsLike (Text text) (Text other) = is_raw other ≡ is_raw text
 
 -- what stands in the place of a value that was taken out: the string of the number 0
 abbrev pub vacant : Value

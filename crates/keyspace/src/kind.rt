@@ -39,4 +39,9 @@ impl Held for Value {
         *self = Value::Text(text);
         moved
     }
+
+    fn passed<B: BlockStore>(&self, store: &B, from: u128, room: u32) -> Option<Moved> {
+        let _ = room;
+        self.as_text().passed(store, from)
+    }
 }

@@ -2,7 +2,7 @@ ghost use Rattle.std.specs.Prelude.{◌≡◌, [], IfOk, OnErr};
 ghost use Rattle.std.specs.List.{Contains};
 ghost use Rattle.blocks.specs.Blocks.{Blocks, Changes, Owned, Served};
 ghost use Rattle.plain_model.specs.KeySteps.{type_name, encodings};
-ghost use Rattle.keyspace.specs.Values.{value_of, value_refs, IsEncodedAs};
+ghost use Rattle.keyspace.specs.Values.{value_of, value_refs, IsEncodedAs, IsLike};
 
 use blocks::{BlockStore, Memory};
 use plain_model::Line;
@@ -58,6 +58,7 @@ impl Value {
     pub fn copy<B: BlockStore>(&self, store: &mut B) -> Result<Value, Memory>
         requires { Owned (value_refs self.now) (B.blocks store.old) }
         ensures same { IfOk result (λ value. value_of (B.blocks store.new) value ≡ value_of (B.blocks store.old) self.now) }
+        ensures encoding { IfOk result (λ value. IsLike self.now value) }
         ensures changes { IfOk result (λ value. Changes (B.blocks store.old) (B.blocks store.new) [] (value_refs value)) }
         ensures served { Served B.step store.old store.new }
         ensures err { OnErr result (B.blocks store.new ≡ B.blocks store.old) }

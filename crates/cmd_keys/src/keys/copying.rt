@@ -9,6 +9,7 @@ ghost use Rattle.keyspace.specs.Values.{value_of, value_refs};
 ghost use Rattle.keyspace.specs.Databases.{means, SameSettings};
 ghost use Rattle.keyspace.specs.Sound.{Sound, SoundBeside};
 ghost use Rattle.keyspace.specs.Scopes.{one_key, two_keys, number_or, Within};
+ghost use Rattle.keyspace.specs.Forms.{AsAt, HasForm, Formed};
 ghost use Rattle.keyspace.specs.Commands.{Ready, Held, Kept, sight};
 ghost use Rattle.cmd_keys.specs.Found.{Gives, IsDatabase};
 
@@ -32,6 +33,8 @@ fn copy_value<B: BlockStore>(
     ensures served { Served B.step keyspace.old.store keyspace.new.store }
     ensures within { Within (one_key at.now.db key.now) keyspace.old.bases keyspace.new.bases (B.blocks keyspace.old.store) (B.blocks keyspace.new.store) }
     ensures settings { SameSettings keyspace.old.bases keyspace.new.bases }
+    ensures form { IfOk result (λ value. HasForm (AsAt at.now.db key.now) keyspace.old.bases (B.blocks keyspace.old.store) value) }
+    ensures forms { IfOk result (λ value. Formed B.blocks (AsAt at.now.db key.now) keyspace.old keyspace.new) }
 {
     let Some(lifted) = keyspace.lift(at.db, key, at.moment) else {
         unreachable!();
@@ -57,6 +60,7 @@ fn copy_to<B: BlockStore>(
     requires number { number < 16 }
     ensures world { OnOk result ((entry : Entry) → look (sight B.blocks keyspace.old at.now) from.now ≡ Some entry → sight B.blocks keyspace.new at.now ≡ put_in (sight B.blocks keyspace.old at.now) number to.now entry) }
     ensures held { Held B.blocks B.step (two_keys at.now.db from.now number to.now) keyspace.old keyspace.new }
+    ensures forms { OnOk result (Formed B.blocks (AsAt at.now.db from.now) keyspace.old keyspace.new) }
 {
     let deadline = deadline_at(keyspace, at, from);
     match copy_value(keyspace, at, from) {
@@ -108,6 +112,7 @@ pub fn copy<B: BlockStore>(
     requires database { IsDatabase options.db }
     ensures gives { Gives B.blocks keyspace.old keyspace.new at.now (commands.Copy from.now to.now options) result }
     ensures kept { Kept B.blocks B.step (two_keys at.now.db from.now (number_or at.now.db options.db) to.now) keyspace.old keyspace.new result }
+    ensures forms { IfOk result (λ reply. Formed B.blocks (AsAt at.now.db from.now) keyspace.old keyspace.new) }
 {
     let alloc = keyspace.alloc();
     let number = number_of(at, options.db);

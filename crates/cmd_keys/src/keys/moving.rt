@@ -7,6 +7,7 @@ ghost use Rattle.plain_model.specs.KeySteps.{IsSomeKey};
 ghost use Rattle.plain_model.specs.declared.keys.KeyCommand.TheVariants as commands;
 ghost use Rattle.cmd_keys.specs.Found.{Gives};
 ghost use Rattle.keyspace.specs.Scopes.{two_keys};
+ghost use Rattle.keyspace.specs.Forms.{AsAt, Formed};
 ghost use Rattle.keyspace.specs.Commands.{Ready, Held, Kept, sight};
 
 use crate::keys::look::{count_reply, is_there};
@@ -46,6 +47,7 @@ fn move_to<B: BlockStore>(
     requires apart { (at.now.db ≡ number) × (from.now ≡ to.now) → ⊥ }
     ensures world { OnOk result ((entry : Entry) → look (sight B.blocks keyspace.old at.now) from.now ≡ Some entry → sight B.blocks keyspace.new at.now ≡ put_in (remove (sight B.blocks keyspace.old at.now) from.now) number to.now entry) }
     ensures held { Held B.blocks B.step (two_keys at.now.db from.now number to.now) keyspace.old keyspace.new }
+    ensures forms { OnOk result (Formed B.blocks (AsAt at.now.db from.now) keyspace.old keyspace.new) }
 {
     match keyspace.rename(at.db, from, number, to) {
         Ok(_) => Ok(()),
@@ -63,6 +65,7 @@ fn rename_key<B: BlockStore>(
     requires ready { Ready B.blocks keyspace.old at.now }
     ensures world { OnOk result ((entry : Entry) → look (sight B.blocks keyspace.old at.now) from.now ≡ Some entry → sight B.blocks keyspace.new at.now ≡ model.rename (sight B.blocks keyspace.old at.now) from.now to.now entry) }
     ensures held { Held B.blocks B.step (two_keys at.now.db from.now at.now.db to.now) keyspace.old keyspace.new }
+    ensures forms { OnOk result (Formed B.blocks (AsAt at.now.db from.now) keyspace.old keyspace.new) }
 {
     if from == to {
         return Ok(());
@@ -80,6 +83,7 @@ pub fn rename<B: BlockStore>(
     requires ready { Ready B.blocks keyspace.old at.now }
     ensures gives { Gives B.blocks keyspace.old keyspace.new at.now (commands.Rename from.now to.now) result }
     ensures kept { Kept B.blocks B.step (two_keys at.now.db from.now at.now.db to.now) keyspace.old keyspace.new result }
+    ensures forms { IfOk result (λ reply. Formed B.blocks (AsAt at.now.db from.now) keyspace.old keyspace.new) }
 {
     let alloc = keyspace.alloc();
     if !is_there(keyspace, at, from) {
@@ -99,6 +103,7 @@ pub fn renamenx<B: BlockStore>(
     requires ready { Ready B.blocks keyspace.old at.now }
     ensures gives { Gives B.blocks keyspace.old keyspace.new at.now (commands.RenameNx from.now to.now) result }
     ensures kept { Kept B.blocks B.step (two_keys at.now.db from.now at.now.db to.now) keyspace.old keyspace.new result }
+    ensures forms { IfOk result (λ reply. Formed B.blocks (AsAt at.now.db from.now) keyspace.old keyspace.new) }
 {
     let alloc = keyspace.alloc();
     if !is_there(keyspace, at, from) {
@@ -123,6 +128,7 @@ pub fn move_key<B: BlockStore>(
     requires number { number < 16 }
     ensures gives { Gives B.blocks keyspace.old keyspace.new at.now (commands.MoveKey key.now number) result }
     ensures kept { Kept B.blocks B.step (two_keys at.now.db key.now number key.now) keyspace.old keyspace.new result }
+    ensures forms { IfOk result (λ reply. Formed B.blocks (AsAt at.now.db key.now) keyspace.old keyspace.new) }
 {
     let alloc = keyspace.alloc();
     if number == at.db {

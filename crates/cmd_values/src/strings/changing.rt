@@ -1,11 +1,13 @@
 //! Commands that change a part of a string.
 
-ghost use Rattle.std.specs.Prelude.{◌≡◌, ◌<◌, ◌≤◌, ◌+◌, ◌++◌, List, ℕ, [], IfOk, OnOk, length, is_some, true};
+ghost use Rattle.std.specs.Prelude.{◌≡◌, ◌<◌, ◌≤◌, ◌+◌, ◌++◌, List, ℕ, [], IfOk, OnOk, length, is_some, true, if◌then◌else◌};
 ghost use Rattle.plain_world.specs.Words.{longest};
 ghost use Rattle.plain_world.specs.Worlds.{look};
 ghost use Rattle.plain_model.specs.StringSteps.{written_over};
 ghost use Rattle.plain_model.specs.declared.command.StringCommand.TheVariants as strings;
 ghost use Rattle.keyspace.specs.Scopes.{one_key};
+ghost use Rattle.keyspace.specs.Forms.{Whole, Raw, Formed, AllAt};
+ghost use Rattle.keyspace.specs.Values.{IsRaw};
 ghost use Rattle.keyspace.specs.Commands.{Ready, Held, Kept, sight};
 ghost use Rattle.cmd_values.specs.Found.{Gives, IsThere, Becomes};
 
@@ -27,6 +29,7 @@ fn append_there<B: BlockStore>(
     requires room { (bytes : List ℕ) → IsThere (sight B.blocks keyspace.old at.now) key.now bytes → length bytes + length tail.now ≤ longest }
     ensures becomes { OnOk result (Becomes (sight B.blocks keyspace.old at.now) key.now (λ bytes. bytes ++ tail.now) (sight B.blocks keyspace.new at.now)) }
     ensures held { Held B.blocks B.step (one_key at.now.db key.now) keyspace.old keyspace.new }
+    ensures raw { OnOk result (AllAt IsRaw keyspace.new.bases (B.blocks keyspace.new.store) at.now.db key.now) }
 {
     let Some(lifted) = keyspace.lift(at.db, key, at.moment) else {
         unreachable!();
@@ -56,6 +59,7 @@ fn write_there<B: BlockStore>(
     requires room { place + length piece.now ≤ longest }
     ensures becomes { OnOk result (Becomes (sight B.blocks keyspace.old at.now) key.now (λ bytes. written_over bytes place piece.now) (sight B.blocks keyspace.new at.now)) }
     ensures held { Held B.blocks B.step (one_key at.now.db key.now) keyspace.old keyspace.new }
+    ensures raw { OnOk result (AllAt IsRaw keyspace.new.bases (B.blocks keyspace.new.store) at.now.db key.now) }
 {
     let Some(lifted) = keyspace.lift(at.db, key, at.moment) else {
         unreachable!();
@@ -81,6 +85,7 @@ pub fn append<B: BlockStore>(
     requires ready { Ready B.blocks keyspace.old at.now }
     ensures gives { Gives B.blocks keyspace.old keyspace.new at.now (strings.Append key.now tail.now) result }
     ensures kept { Kept B.blocks B.step (one_key at.now.db key.now) keyspace.old keyspace.new result }
+    ensures forms { IfOk result (λ reply. Formed B.blocks (if is_some (look (sight B.blocks keyspace.old at.now) key.now) then Raw else Whole) keyspace.old keyspace.new) }
 {
     let alloc = keyspace.alloc();
     match length_at(keyspace, at, key) {
@@ -114,6 +119,7 @@ pub fn setrange<B: BlockStore>(
     requires room { 0 < length piece.now → place + length piece.now ≤ longest }
     ensures gives { Gives B.blocks keyspace.old keyspace.new at.now (strings.SetRange key.now place piece.now) result }
     ensures kept { Kept B.blocks B.step (one_key at.now.db key.now) keyspace.old keyspace.new result }
+    ensures forms { IfOk result (λ reply. Formed B.blocks Raw keyspace.old keyspace.new) }
 {
     let alloc = keyspace.alloc();
     match length_at(keyspace, at, key) {

@@ -7,6 +7,7 @@ ghost use Rattle.plain_model.specs.StringSteps.{change};
 ghost use Rattle.plain_world.specs.declared.reply.Part.TheVariants as parts;
 ghost use Rattle.plain_model.specs.declared.command.StringCommand.TheVariants as strings;
 ghost use Rattle.keyspace.specs.Scopes.{one_key};
+ghost use Rattle.keyspace.specs.Forms.{Whole, Formed};
 ghost use Rattle.keyspace.specs.Commands.{Ready, Held, Kept, sight};
 ghost use Rattle.cmd_values.specs.Found.{Gives, NumberAt};
 
@@ -41,6 +42,7 @@ fn put_number<B: BlockStore>(
     requires none { look (sight B.blocks keyspace.old at.now) key.now ≡ None }
     ensures world { OnOk result (sight B.blocks keyspace.new at.now ≡ change (sight B.blocks keyspace.old at.now) key.now (canonical n)) }
     ensures held { Held B.blocks B.step (one_key at.now.db key.now) keyspace.old keyspace.new }
+    ensures forms { OnOk result (Formed B.blocks Whole keyspace.old keyspace.new) }
 {
     keyspace.put(at.db, key, Value::Text(Text::Number(n)), None)
 }
@@ -56,6 +58,7 @@ fn write_number<B: BlockStore>(
     ensures reply { IfOk result (λ reply. reply ≡ parts.Number n ∷ []) }
     ensures world { OnOk result (sight B.blocks keyspace.new at.now ≡ change (sight B.blocks keyspace.old at.now) key.now (canonical n)) }
     ensures held { Held B.blocks B.step (one_key at.now.db key.now) keyspace.old keyspace.new }
+    ensures forms { IfOk result (λ reply. Formed B.blocks Whole keyspace.old keyspace.new) }
 {
     let alloc = keyspace.alloc();
     match keyspace.lift(at.db, key, at.moment) {
@@ -85,6 +88,7 @@ pub fn incrby<B: BlockStore>(
     requires ready { Ready B.blocks keyspace.old at.now }
     ensures gives { Gives B.blocks keyspace.old keyspace.new at.now (strings.IncrBy key.now by) result }
     ensures kept { Kept B.blocks B.step (one_key at.now.db key.now) keyspace.old keyspace.new result }
+    ensures forms { IfOk result (λ reply. Formed B.blocks Whole keyspace.old keyspace.new) }
 {
     match number_at(keyspace, at, key) {
         None => Reply::refused(keyspace.alloc(), Refusal::NotAnInteger),
@@ -106,6 +110,7 @@ pub fn decrby<B: BlockStore>(
     requires ready { Ready B.blocks keyspace.old at.now }
     ensures gives { Gives B.blocks keyspace.old keyspace.new at.now (strings.DecrBy key.now by) result }
     ensures kept { Kept B.blocks B.step (one_key at.now.db key.now) keyspace.old keyspace.new result }
+    ensures forms { IfOk result (λ reply. Formed B.blocks Whole keyspace.old keyspace.new) }
 {
     match number_at(keyspace, at, key) {
         None => Reply::refused(keyspace.alloc(), Refusal::NotAnInteger),
@@ -125,6 +130,7 @@ pub fn incr<B: BlockStore>(
     requires ready { Ready B.blocks keyspace.old at.now }
     ensures gives { Gives B.blocks keyspace.old keyspace.new at.now (strings.Incr key.now) result }
     ensures kept { Kept B.blocks B.step (one_key at.now.db key.now) keyspace.old keyspace.new result }
+    ensures forms { IfOk result (λ reply. Formed B.blocks Whole keyspace.old keyspace.new) }
 {
     incrby(keyspace, at, key, 1)
 }
@@ -138,6 +144,7 @@ pub fn decr<B: BlockStore>(
     requires ready { Ready B.blocks keyspace.old at.now }
     ensures gives { Gives B.blocks keyspace.old keyspace.new at.now (strings.Decr key.now) result }
     ensures kept { Kept B.blocks B.step (one_key at.now.db key.now) keyspace.old keyspace.new result }
+    ensures forms { IfOk result (λ reply. Formed B.blocks Whole keyspace.old keyspace.new) }
 {
     decrby(keyspace, at, key, 1)
 }

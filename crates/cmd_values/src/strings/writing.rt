@@ -8,6 +8,7 @@ ghost use Rattle.plain_model.specs.StringSteps.{replace, replace_all, any_there,
 ghost use Rattle.plain_model.specs.declared.command.Condition.{Condition};
 ghost use Rattle.plain_model.specs.declared.command.StringCommand.TheVariants as strings;
 ghost use Rattle.keyspace.specs.Scopes.{one_key, no_key, some_keys, first_words};
+ghost use Rattle.keyspace.specs.Forms.{Whole, Formed};
 ghost use Rattle.keyspace.specs.Commands.{Ready, Held, Kept, sight};
 ghost use Rattle.cmd_values.specs.Found.{Gives, IsSetReply, IsLifetime};
 
@@ -31,6 +32,7 @@ pub fn put_lasting<B: BlockStore>(
     requires latest { IsDeadline deadline }
     ensures world { OnOk result (sight B.blocks keyspace.new at.now ≡ stand (sight B.blocks keyspace.old at.now) at.now.moment key.now (record { value = Str value.now; deadline = deadline })) }
     ensures held { Held B.blocks B.step (one_key at.now.db key.now) keyspace.old keyspace.new }
+    ensures forms { OnOk result (Formed B.blocks Whole keyspace.old keyspace.new) }
 {
     let text = Text::make(&mut keyspace.store, value)?;
     keyspace.put(at.db, key, Value::Text(text), deadline)
@@ -46,6 +48,7 @@ pub fn put_string<B: BlockStore>(
     requires ready { Ready B.blocks keyspace.old at.now }
     ensures world { OnOk result (sight B.blocks keyspace.new at.now ≡ replace (sight B.blocks keyspace.old at.now) key.now value.now) }
     ensures held { Held B.blocks B.step (one_key at.now.db key.now) keyspace.old keyspace.new }
+    ensures forms { OnOk result (Formed B.blocks Whole keyspace.old keyspace.new) }
 {
     put_lasting(keyspace, at, key, value, None)
 }
@@ -124,6 +127,7 @@ fn set_lasting<B: BlockStore>(
     requires latest { IsDeadline deadline }
     ensures gives { IfOk result (λ reply. set_outcome (sight B.blocks keyspace.old at.now) at.now.moment key.now (record { value = Str value.now; deadline = deadline }) options.condition options.get ≡ leaves reply (sight B.blocks keyspace.new at.now)) }
     ensures kept { Kept B.blocks B.step (one_key at.now.db key.now) keyspace.old keyspace.new result }
+    ensures forms { IfOk result (λ reply. Formed B.blocks Whole keyspace.old keyspace.new) }
 {
     let written = writes(keyspace, at, key, options.condition);
     let reply = set_reply(keyspace, at, key, options.get, written)?;
@@ -145,6 +149,7 @@ pub fn set<B: BlockStore>(
     requires ready { Ready B.blocks keyspace.old at.now }
     ensures gives { Gives B.blocks keyspace.old keyspace.new at.now (strings.Set key.now value.now options) result }
     ensures kept { Kept B.blocks B.step (one_key at.now.db key.now) keyspace.old keyspace.new result }
+    ensures forms { IfOk result (λ reply. Formed B.blocks Whole keyspace.old keyspace.new) }
 {
     match lifetime_at(keyspace, at, key, options.lifetime) {
         None => Reply::refused(keyspace.alloc(), Refusal::InvalidExpireTime),
@@ -162,6 +167,7 @@ pub fn setnx<B: BlockStore>(
     requires ready { Ready B.blocks keyspace.old at.now }
     ensures gives { Gives B.blocks keyspace.old keyspace.new at.now (strings.SetNx key.now value.now) result }
     ensures kept { Kept B.blocks B.step (one_key at.now.db key.now) keyspace.old keyspace.new result }
+    ensures forms { IfOk result (λ reply. Formed B.blocks Whole keyspace.old keyspace.new) }
 {
     if is_there(keyspace, at, key) {
         return Reply::number(keyspace.alloc(), 0);
@@ -180,6 +186,7 @@ pub fn getset<B: BlockStore>(
     requires ready { Ready B.blocks keyspace.old at.now }
     ensures gives { Gives B.blocks keyspace.old keyspace.new at.now (strings.GetSet key.now value.now) result }
     ensures kept { Kept B.blocks B.step (one_key at.now.db key.now) keyspace.old keyspace.new result }
+    ensures forms { IfOk result (λ reply. Formed B.blocks Whole keyspace.old keyspace.new) }
 {
     let reply = old_value(keyspace, at, key)?;
     put_string(keyspace, at, key, value)?;
@@ -225,6 +232,7 @@ fn put_pairs<B: BlockStore>(
     requires ready { Ready B.blocks keyspace.old at.now }
     ensures world { OnOk result (sight B.blocks keyspace.new at.now ≡ replace_all (sight B.blocks keyspace.old at.now) pairs.now) }
     ensures held { Held B.blocks B.step (some_keys at.now.db (first_words pairs.now)) keyspace.old keyspace.new }
+    ensures forms { OnOk result (Formed B.blocks Whole keyspace.old keyspace.new) }
 {
     let mut rest = pairs;
     'pairs: while let Some((pair, others)) = rest.split_first() {
@@ -243,6 +251,7 @@ pub fn mset<B: BlockStore>(
     requires ready { Ready B.blocks keyspace.old at.now }
     ensures gives { Gives B.blocks keyspace.old keyspace.new at.now (strings.MSet pairs.now) result }
     ensures kept { Kept B.blocks B.step (some_keys at.now.db (first_words pairs.now)) keyspace.old keyspace.new result }
+    ensures forms { IfOk result (λ reply. Formed B.blocks Whole keyspace.old keyspace.new) }
 {
     put_pairs(keyspace, at, pairs)?;
     Reply::simple(keyspace.alloc(), Line::ok())
@@ -257,6 +266,7 @@ pub fn msetnx<B: BlockStore>(
     requires ready { Ready B.blocks keyspace.old at.now }
     ensures gives { Gives B.blocks keyspace.old keyspace.new at.now (strings.MSetNx pairs.now) result }
     ensures kept { Kept B.blocks B.step (some_keys at.now.db (first_words pairs.now)) keyspace.old keyspace.new result }
+    ensures forms { IfOk result (λ reply. Formed B.blocks Whole keyspace.old keyspace.new) }
 {
     if is_any_there(keyspace, at, pairs) {
         return Reply::number(keyspace.alloc(), 0);

@@ -3,6 +3,8 @@ use Rattle.keyspace.specs.Commands.{seen}
 use Rattle.cmd_keys.proofs.Copying.{copy_done, copy_stopped}
 use Rattle.keyspace.proofs.Running.{unchanged}
 use Rattle.keyspace.specs.Scopes.{two_keys, number_or}
+use Rattle.keyspace.specs.Forms.{AsAt}
+use Rattle.keyspace.proofs.Forming.{unformed, formed_ok}
 use Rattle.cmd_keys.proofs.keys.copying.copy.Goals as goal
 
 pub returns-then-is_taken-clause-gives : goal.returns-then-is_taken-clause-gives
@@ -29,3 +31,15 @@ returns-then-not-is_there-clause-kept g c =
 pub returns-then-is_taken-clause-kept : goal.returns-then-is_taken-clause-kept
 returns-then-is_taken-clause-kept g c =
     unchanged g.B.BlockStore.blocks g.B.BlockStore.step (two_keys c.args.at.now.db c.args.from.now (number_or c.args.at.now.db c.args.options.db) c.args.to.now) c.args.keyspace.now _ c.requires.ready.sound
+
+pub returns-then-is_same_place-clause-forms : goal.returns-then-is_same_place-clause-forms
+returns-then-is_same_place-clause-forms g c = unformed g.B.BlockStore.blocks (AsAt c.args.at.now.db c.args.from.now) c.args.keyspace.now _
+
+pub returns-then-not-is_there-clause-forms : goal.returns-then-not-is_there-clause-forms
+returns-then-not-is_there-clause-forms g c = unformed g.B.BlockStore.blocks (AsAt c.args.at.now.db c.args.from.now) c.args.keyspace.now _
+
+pub returns-then-is_taken-clause-forms : goal.returns-then-is_taken-clause-forms
+returns-then-is_taken-clause-forms g c = unformed g.B.BlockStore.blocks (AsAt c.args.at.now.db c.args.from.now) c.args.keyspace.now _
+
+pub returns-clause-forms : goal.returns-clause-forms
+returns-clause-forms g c = formed_ok g.B.BlockStore.blocks (AsAt c.args.at.now.db c.args.from.now) c.args.keyspace.now c.copy_to.new.keyspace _ c.in_ok-copy_to.ensures.forms

@@ -4,6 +4,8 @@ use Rattle.plain_world.specs.Worlds.{deadline_of}
 use Rattle.keyspace.specs.Values.{value_refs}
 use Rattle.keyspace.proofs.Calls.{settings_then}
 use Rattle.cmd_keys.proofs.Copying.{copied_put, copied_within, first_within, on_ok_so}
+use Rattle.keyspace.specs.Forms.{AsAt}
+use Rattle.keyspace.proofs.Forming.{formed_copied}
 use Rattle.cmd_keys.proofs.keys.copying.copy_to.Goals as goal
 
 pub returns-in-Ok-clause-world : goal.returns-in-Ok-clause-world
@@ -29,3 +31,8 @@ returns-in-Err-clause-held g c = record {
   settings = c.copy_value.ensures.settings;
   within = first_within c.args.at.now.db c.args.from.now c.args.number c.args.to.now c.args.keyspace.now.bases c.copy_value.new.keyspace.bases (g.B.BlockStore.blocks c.args.keyspace.now.store) (g.B.BlockStore.blocks c.copy_value.new.keyspace.store) c.copy_value.ensures.within;
 }
+
+pub returns-in-Ok-clause-forms : goal.returns-in-Ok-clause-forms
+returns-in-Ok-clause-forms g c =
+    formed_copied (AsAt c.args.at.now.db c.args.from.now) c.args.number c.args.to.now c.in-Ok.value c.args.keyspace.now.bases c.copy_value.new.keyspace.bases c.put.new.self.bases _ _ _ c.in-Ok.ensures.form c.in-Ok.ensures.forms c.put.ensures.within
+    (c.put.ensures.sound (value_refs c.in-Ok.value) [] c.in-Ok.ensures.sound (λ r. omega arith)).arranged c.put.result c.put.ensures.has

@@ -1,6 +1,9 @@
 use Rattle.std.proofs.Common.{[], ap}
 use Rattle.keyspace.specs.Values.{value_refs}
-use Rattle.cmd_keys.proofs.Copying.{copy_changed, err_changed, copy_intact, copy_sound, copy_within, copy_means}
+use Rattle.cmd_keys.proofs.Copying.{copy_changed, err_changed, copy_intact, copy_sound, copy_within, copy_has, copy_means}
+use Rattle.std.proofs.Common.{sym, subst}
+use Rattle.keyspace.specs.Forms.{AsAt, HasForm}
+use Rattle.keyspace.proofs.Forming.{formed_key, like_itself}
 use Rattle.cmd_keys.proofs.keys.copying.copy_value.Goals as goal
 
 pub lower-requires-clause-intact : goal.lower-requires-clause-intact
@@ -44,3 +47,15 @@ returns-in-Err-clause-within g c =
     copy_within c.args.keyspace.now.bases c.lift.new.self.bases (g.B.BlockStore.blocks c.args.keyspace.now.store) (g.B.BlockStore.blocks c.lift.new.self.store) (g.B.BlockStore.blocks c.copy-copied.new.store) c.args.at.now.db c.args.at.now.moment c.args.key.now c.in-Some.lifted []
     (ap g.B.BlockStore.blocks c.in-Some.ensures.store) c.in-Some.ensures.lifts (c.in-Some.ensures.sound [] c.requires.ready.sound) (err_changed (g.B.BlockStore.blocks c.lift.new.self.store) (g.B.BlockStore.blocks c.copy-copied.new.store) c.in-Err.ensures.err)
     c.lower.new.self.bases (g.B.BlockStore.blocks c.lower.new.self.store) (ap g.B.BlockStore.blocks c.lower.ensures.store) c.in-Some.ensures.within c.lower.ensures.within
+
+pub returns-in-Ok-clause-form : goal.returns-in-Ok-clause-form
+returns-in-Ok-clause-form g c = (c.in-Some.lifted.value, c.in-Some.ensures.lifts.had, c.in-Ok.ensures.encoding)
+
+pub returns-in-Ok-clause-forms : goal.returns-in-Ok-clause-forms
+returns-in-Ok-clause-forms g c =
+    let m = g.B.BlockStore.blocks c.args.keyspace.now.store in
+    let has = copy_has c.args.keyspace.now.bases c.lift.new.self.bases (g.B.BlockStore.blocks c.args.keyspace.now.store) (g.B.BlockStore.blocks c.lift.new.self.store) (g.B.BlockStore.blocks c.copy-copied.new.store) c.args.at.now.db c.args.at.now.moment c.args.key.now c.in-Some.lifted (value_refs c.in-Ok.value)
+    (ap g.B.BlockStore.blocks c.in-Some.ensures.store) c.in-Some.ensures.lifts (c.in-Some.ensures.sound [] c.requires.ready.sound) c.in-Ok.ensures.changes
+    c.lower.new.self.bases (g.B.BlockStore.blocks c.lower.new.self.store) (ap g.B.BlockStore.blocks c.lower.ensures.store) c.lower.ensures.has in
+    formed_key (AsAt c.args.at.now.db c.args.key.now) c.args.at.now.db c.args.key.now c.args.keyspace.now.bases c.lower.new.self.bases m (g.B.BlockStore.blocks c.lower.new.self.store) (returns-in-Ok-clause-within g c) (returns-in-Ok-clause-sound g c).arranged
+    (λ i e found bytes. subst (HasForm (AsAt c.args.at.now.db c.args.key.now) c.args.keyspace.now.bases m) (sym (has i e found bytes)) (c.in-Some.lifted.value, c.in-Some.ensures.lifts.had, like_itself c.in-Some.lifted.value))

@@ -1,6 +1,7 @@
 use Rattle.std.proofs.Common.{[]}
 use Rattle.keyspace.specs.Databases.{means}
 use Rattle.cmd_keys.proofs.Moving.{seen_moved}
+use Rattle.keyspace.proofs.Forming.{formed_moved}
 use Rattle.cmd_keys.proofs.keys.moving.move_to.Goals as goal
 
 pub returns-in-Ok-clause-world : goal.returns-in-Ok-clause-world
@@ -14,3 +15,6 @@ returns-in-Ok-clause-held g c = record { sound = c.rename.ensures.sound [] c.req
 
 pub returns-in-Err-clause-held : goal.returns-in-Err-clause-held
 returns-in-Err-clause-held g c = record { sound = c.rename.ensures.sound [] c.requires.ready.sound; served = c.rename.ensures.served; settings = c.rename.ensures.settings; within = c.rename.ensures.within }
+
+pub returns-in-Ok-clause-forms : goal.returns-in-Ok-clause-forms
+returns-in-Ok-clause-forms g c = formed_moved c.args.at.now.db c.args.from.now c.args.keyspace.now.bases c.rename.new.self.bases _ _ (c.in-Ok.ensures.writes [] c.requires.ready.sound)

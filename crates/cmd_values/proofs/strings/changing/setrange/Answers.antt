@@ -4,6 +4,8 @@ use Rattle.keyspace.specs.Commands.{seen}
 use Rattle.cmd_values.proofs.StringLemmas.{put_there, range_none, range_some}
 use Rattle.keyspace.proofs.Running.{unchanged, calm, held_then}
 use Rattle.keyspace.specs.Scopes.{one_key}
+use Rattle.keyspace.specs.Forms.{Raw}
+use Rattle.keyspace.proofs.Forming.{unformed, formed_ok, formed_key}
 use Rattle.cmd_values.proofs.strings.changing.setrange.Goals as goal
 
 pub write_there-requires-clause-there : goal.write_there-requires-clause-there
@@ -37,3 +39,21 @@ returns-in_err-write_there-in-None-clause-kept g c =
 pub returns-in_ok-write_there-in-None-clause-kept : goal.returns-in_ok-write_there-in-None-clause-kept
 returns-in_ok-write_there-in-None-clause-kept g c =
     calm g.B.BlockStore.blocks g.B.BlockStore.step (one_key c.args.at.now.db c.args.key.now) c.args.keyspace.now c.write_there.new.keyspace _ (search rules) (held_then g.B.BlockStore.blocks g.B.BlockStore.step (one_key c.args.at.now.db c.args.key.now) c.args.keyspace.now c.put_string.new.keyspace c.write_there.new.keyspace c.put_string.ensures.held c.write_there.ensures.held)
+
+pub returns-then-is_empty-clause-forms : goal.returns-then-is_empty-clause-forms
+returns-then-is_empty-clause-forms g c = unformed g.B.BlockStore.blocks Raw c.args.keyspace.now _
+
+pub returns-then-is_empty-2-clause-forms : goal.returns-then-is_empty-2-clause-forms
+returns-then-is_empty-2-clause-forms g c = unformed g.B.BlockStore.blocks Raw c.args.keyspace.now _
+
+pub returns-in_ok-write_there-in-None-clause-forms : goal.returns-in_ok-write_there-in-None-clause-forms
+returns-in_ok-write_there-in-None-clause-forms g c =
+    let held = held_then g.B.BlockStore.blocks g.B.BlockStore.step (one_key c.args.at.now.db c.args.key.now) c.args.keyspace.now c.put_string.new.keyspace c.write_there.new.keyspace c.put_string.ensures.held c.write_there.ensures.held in
+    formed_ok g.B.BlockStore.blocks Raw c.args.keyspace.now c.write_there.new.keyspace _
+    (formed_key Raw c.args.at.now.db c.args.key.now c.args.keyspace.now.bases c.write_there.new.keyspace.bases _ _ held.within held.sound.arranged c.in_ok-write_there-in-None.ensures.raw)
+
+pub returns-in_ok-write_there-in-Some-clause-forms : goal.returns-in_ok-write_there-in-Some-clause-forms
+returns-in_ok-write_there-in-Some-clause-forms g c =
+    let held = c.write_there-in-Some.ensures.held in
+    formed_ok g.B.BlockStore.blocks Raw c.args.keyspace.now c.write_there-in-Some.new.keyspace _
+    (formed_key Raw c.args.at.now.db c.args.key.now c.args.keyspace.now.bases c.write_there-in-Some.new.keyspace.bases _ _ held.within held.sound.arranged c.in_ok-write_there-in-Some.ensures.raw)

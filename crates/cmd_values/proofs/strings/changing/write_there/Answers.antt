@@ -1,7 +1,9 @@
 use Rattle.std.proofs.Common.{rules, [], ap, ◌∙◌}
 use Rattle.plain_model.specs.StringSteps.{written_over}
 use Rattle.cmd_values.proofs.Ranges.{ranged_over}
-use Rattle.cmd_values.proofs.Lowering.{text_intact, text_sound, text_within, text_becomes}
+use Rattle.cmd_values.proofs.Lowering.{text_intact, text_sound, text_within, text_has, text_becomes}
+use Rattle.std.proofs.Common.{sym, subst}
+use Rattle.keyspace.specs.Values.{IsRaw}
 use Rattle.cmd_values.proofs.strings.changing.write_there.Goals as goal
 
 pub lower-requires-clause-intact : goal.lower-requires-clause-intact
@@ -34,3 +36,8 @@ returns-in-Ok-clause-becomes g c =
     text_becomes c.args.at.now c.args.keyspace.now.bases c.lift.new.self.bases _ _ _ c.args.key.now c.in-Some.lifted c.into_text-text.result c.set_range-written.new.self c.into_text-text.ensures (ap g.B.BlockStore.blocks c.in-Some.ensures.store)
     c.in-Some.ensures.lifts (c.in-Some.ensures.sound [] c.requires.ready.sound) c.set_range-written.ensures.changes c.lower.new.self.bases _ (ap g.B.BlockStore.blocks c.lower.ensures.store) c.lower.ensures.means
     (λ bytes. written_over bytes c.args.place c.args.piece.now) (c.in-Ok.ensures.bytes ∙ ranged_over _ c.args.place c.args.piece.now c.requires.some)
+
+pub returns-in-Ok-clause-raw : goal.returns-in-Ok-clause-raw
+returns-in-Ok-clause-raw g c i e found bytes =
+    let has = text_has c.args.at.now c.args.keyspace.now.bases c.lift.new.self.bases _ _ _ c.args.key.now c.in-Some.lifted c.into_text-text.result c.set_range-written.new.self c.into_text-text.ensures (ap g.B.BlockStore.blocks c.in-Some.ensures.store) c.in-Some.ensures.lifts (c.in-Some.ensures.sound [] c.requires.ready.sound) c.set_range-written.ensures.changes c.lower.new.self.bases _ (ap g.B.BlockStore.blocks c.lower.ensures.store) c.lower.ensures.has in
+    subst IsRaw (sym (has i e found bytes)) (c.in-Ok.ensures.raw c.requires.some)

@@ -6,6 +6,8 @@ use Rattle.cmd_values.proofs.StringLemmas.{not_number, overflowed, counted}
 use Rattle.std.proofs.Common.{rules}
 use Rattle.keyspace.proofs.Running.{unchanged, calm}
 use Rattle.keyspace.specs.Scopes.{one_key}
+use Rattle.keyspace.specs.Forms.{Whole}
+use Rattle.keyspace.proofs.Forming.{unformed}
 use Rattle.cmd_values.proofs.strings.counting.decrby.Goals as goal
 
 pub returns-in-None-clause-gives : goal.returns-in-None-clause-gives
@@ -37,3 +39,9 @@ returns-in-None-checked_sub-clause-kept g c =
 pub returns-in-Some-checked_sub-clause-kept : goal.returns-in-Some-checked_sub-clause-kept
 returns-in-Some-checked_sub-clause-kept g c =
     calm g.B.BlockStore.blocks g.B.BlockStore.step (one_key c.args.at.now.db c.args.key.now) c.args.keyspace.now c.write_number.new.keyspace _ (search rules) c.write_number.ensures.held
+
+pub returns-in-None-clause-forms : goal.returns-in-None-clause-forms
+returns-in-None-clause-forms g c = unformed g.B.BlockStore.blocks Whole c.args.keyspace.now _
+
+pub returns-in-None-checked_sub-clause-forms : goal.returns-in-None-checked_sub-clause-forms
+returns-in-None-checked_sub-clause-forms g c = unformed g.B.BlockStore.blocks Whole c.args.keyspace.now _

@@ -1,5 +1,10 @@
 use Rattle.std.proofs.Common.{[], arith, rules}
 use Rattle.cmd_values.proofs.StringLemmas.{number_put}
+use Rattle.std.proofs.Common.{refl}
+use Rattle.string_object.specs.declared.text.Text.TheVariants.{Number}
+use Rattle.keyspace.specs.declared.value.Value.TheVariants.{Text}
+use Rattle.keyspace.specs.Forms.{Whole}
+use Rattle.keyspace.proofs.Forming.{formed_put}
 use Rattle.cmd_values.proofs.strings.counting.put_number.Goals as goal
 
 pub returns-clause-world : goal.returns-clause-world
@@ -7,3 +12,7 @@ returns-clause-world g c = number_put c.args.at.now c.args.keyspace.now.bases c.
 
 pub returns-clause-held : goal.returns-clause-held
 returns-clause-held g c = record { sound = c.put.ensures.sound [] [] c.requires.ready.sound (λ r. omega arith); served = c.put.ensures.served; settings = c.put.ensures.settings; within = c.put.ensures.within }
+
+pub returns-clause-forms : goal.returns-clause-forms
+returns-clause-forms g c =
+    formed_put Whole c.args.at.now.db c.args.key.now (Text (Number c.args.n)) c.args.keyspace.now.bases c.put.new.self.bases _ _ refl (returns-clause-held g c).within (returns-clause-held g c).sound.arranged c.put.result (search rules)

@@ -7,6 +7,8 @@ use Rattle.std.specs.Int.{w64}
 use Rattle.std.proofs.lemmas.Int.{to_z-of_z}
 use Rattle.keyspace.specs.Commands.{sight}
 use Rattle.cmd_values.proofs.StringLemmas.{set_lasting}
+use Rattle.keyspace.specs.Forms.{Whole}
+use Rattle.keyspace.proofs.Forming.{unformed, formed_ok}
 use Rattle.cmd_values.proofs.strings.lasting.set_for_units.Goals as goal
 
 pub returns-in-None-clause-kept : goal.returns-in-None-clause-kept
@@ -23,3 +25,9 @@ returns-in_ok-put_lasting-in-Some-clause-gives g c =
     let fits : FitsSigned w64 c.in-Some.due = record { sfits = typed.1.1.1.1.0.1 } in
     set_lasting (sight g.B.BlockStore.blocks c.args.keyspace.now c.args.at.now) (sight g.B.BlockStore.blocks c.put_lasting.new.keyspace c.args.at.now) c.args.at.now.moment c.args.key.now c.args.value.now c.args.unit c.args.n c.in-Some.due _ _ c.simple.result (rw (to_z-of_z w64 c.args.n c.ranges.n) at c.in-Some.ensures.some) fits
     (rw (to_z-of_z w64 c.in-Some.due fits) at c.from_zero.ensures.value) c.in_ok-put_lasting-in-Some.ensures.world (ap Simple c.ok.ensures) c.simple.ensures
+
+pub returns-in-None-clause-forms : goal.returns-in-None-clause-forms
+returns-in-None-clause-forms g c = unformed g.B.BlockStore.blocks Whole c.args.keyspace.now _
+
+pub returns-in_ok-put_lasting-in-Some-clause-forms : goal.returns-in_ok-put_lasting-in-Some-clause-forms
+returns-in_ok-put_lasting-in-Some-clause-forms g c = formed_ok g.B.BlockStore.blocks Whole c.args.keyspace.now c.put_lasting.new.keyspace _ c.in_ok-put_lasting-in-Some.ensures.forms

@@ -7,6 +7,8 @@ use Rattle.keyspace.specs.Sound.{Sound}
 use Rattle.keyspace.proofs.Running.{same_settings}
 use Rattle.keyspace.proofs.Serving.{unmoved}
 use Rattle.keyspace.specs.Scopes.{one_key, Within}
+use Rattle.keyspace.specs.Forms.{Whole}
+use Rattle.keyspace.proofs.Forming.{formed_put}
 use Rattle.cmd_values.proofs.strings.writing.put_lasting.Goals as goal
 
 pub put-requires-clause-intact : goal.put-requires-clause-intact
@@ -31,3 +33,7 @@ returns-in_err-text-clause-held g c = record {
   settings = same_settings c.args.keyspace.now.bases;
   within = subst (Within (one_key c.args.at.now.db c.args.key.now) c.args.keyspace.now.bases c.args.keyspace.now.bases (g.B.BlockStore.blocks c.args.keyspace.now.store)) (sym c.in_err-text.ensures.err_blocks) (unmoved (one_key c.args.at.now.db c.args.key.now) c.args.keyspace.now.bases (g.B.BlockStore.blocks c.args.keyspace.now.store));
 }
+
+pub returns-clause-forms : goal.returns-clause-forms
+returns-clause-forms g c =
+    formed_put Whole c.args.at.now.db c.args.key.now (values.Text c.in_ok-text.text) c.args.keyspace.now.bases c.put.new.self.bases (g.B.BlockStore.blocks c.args.keyspace.now.store) _ c.in_ok-text.ensures.whole (returns-clause-held g c).within (returns-clause-held g c).sound.arranged c.put.result c.put.ensures.has

@@ -6,6 +6,8 @@ use Rattle.keyspace.specs.Scopes.{some_keys, first_words}
 use Rattle.keyspace.proofs.Calls.{settings_then}
 use Rattle.keyspace.proofs.Running.{same_settings}
 use Rattle.keyspace.proofs.Serving.{unmoved, further}
+use Rattle.keyspace.specs.Forms.{Whole}
+use Rattle.keyspace.proofs.Forming.{formed_none, formed_then}
 use Rattle.cmd_values.proofs.Pairs.{ArePart, first_part, rest_part, within_pairs}
 use Rattle.cmd_values.proofs.strings.writing.put_pairs.Goals as goal
 
@@ -17,6 +19,7 @@ pairs-init g c = record {
   part = λ key there. there;
   within = unmoved (some_keys c.args.at.now.db (first_words c.args.pairs.now)) c.args.keyspace.now.bases (g.B.BlockStore.blocks c.args.keyspace.now.store);
   settings = same_settings c.args.keyspace.now.bases;
+  forms = formed_none g.B.BlockStore.blocks Whole c.args.keyspace.now;
 }
 
 pub returns-in_err-put_string-clause-held : goal.returns-in_err-put_string-clause-held
@@ -44,6 +47,7 @@ pairs-preserved g c =
       sound = held.sound;
       served = Served-then _ _ _ c.pairs.invariant.served held.served;
       part = rest_part c.in-Some.pair.now c.in-Some.others.now c.args.pairs.now part;
+      forms = formed_then blocks c.args.keyspace.now c.pairs.keyspace c.put_string.new.keyspace c.pairs.invariant.forms c.in_ok-put_string.ensures.forms;
       settings = settings_then _ _ _ c.pairs.invariant.settings held.settings;
       within = further (some_keys c.args.at.now.db (first_words c.args.pairs.now)) c.args.keyspace.now.bases c.pairs.keyspace.bases c.put_string.new.keyspace.bases (blocks c.args.keyspace.now.store) (blocks c.pairs.keyspace.store) (blocks c.put_string.new.keyspace.store) c.pairs.invariant.within
           (within_pairs c.args.at.now.db c.in-Some.pair.now.0 c.args.pairs.now (first_part c.in-Some.pair.now c.in-Some.others.now c.args.pairs.now part) c.pairs.keyspace.bases c.put_string.new.keyspace.bases (blocks c.pairs.keyspace.store) (blocks c.put_string.new.keyspace.store) (search rules));

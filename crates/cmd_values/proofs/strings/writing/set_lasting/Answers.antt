@@ -6,6 +6,8 @@ use Rattle.cmd_values.proofs.StringLemmas.{set_given}
 use Rattle.keyspace.proofs.Running.{unchanged, same_held, calm}
 use Rattle.keyspace.specs.Scopes.{one_key}
 use Rattle.keyspace.specs.Commands.{Held}
+use Rattle.keyspace.specs.Forms.{Whole, Formed}
+use Rattle.keyspace.proofs.Forming.{formed_none}
 use Rattle.cmd_values.proofs.strings.writing.set_lasting.Goals as goal
 use Rattle.cmd_values.proofs.strings.writing.set_lasting.Goals.{then-written+in_ok-put_lasting, else-written}
 use Rattle.cmd_values.proofs.strings.writing.set_lasting.Goals.{then-written+in_ok-put_lasting, else-written}
@@ -30,3 +32,9 @@ returns-clause-kept g c =
       | then-written+in_ok-put_lasting w ↦ subst (Held g.B.BlockStore.blocks g.B.BlockStore.step (one_key c.args.at.now.db c.args.key.now) c.args.keyspace.now) (sym w.keyspace-is) w.put_lasting.ensures.held
       | else-written w ↦ subst (Held g.B.BlockStore.blocks g.B.BlockStore.step (one_key c.args.at.now.db c.args.key.now) c.args.keyspace.now) (sym w.keyspace-is) (same_held g.B.BlockStore.blocks g.B.BlockStore.step (one_key c.args.at.now.db c.args.key.now) c.args.keyspace.now c.requires.ready.sound)
     ])
+
+pub returns-clause-forms : goal.returns-clause-forms
+returns-clause-forms g c = elim c.if-written.branch [
+  | then-written+in_ok-put_lasting w ↦ subst (Formed g.B.BlockStore.blocks Whole c.args.keyspace.now) (sym w.keyspace-is) w.in_ok-put_lasting.ensures.forms
+  | else-written w ↦ subst (Formed g.B.BlockStore.blocks Whole c.args.keyspace.now) (sym w.keyspace-is) (formed_none g.B.BlockStore.blocks Whole c.args.keyspace.now)
+]
