@@ -1,10 +1,12 @@
 //! The items of a file, one by one.
 
-ghost use Rattle.std.specs.Prelude.{◌≡◌};
+ghost use Rattle.std.specs.Prelude.{◌≡◌, IfOk};
 ghost use Rattle.blocks.specs.Blocks.{Served};
 ghost use Rattle.plain_world.specs.Worlds.{new_world};
 ghost use Rattle.keyspace.specs.Databases.{means, SameSettings};
 ghost use Rattle.keyspace.specs.Sound.{Sound};
+ghost use Rattle.keyspace.specs.Scopes.{anything, Within};
+ghost use Rattle.keyspace.specs.Forms.{AreWhole};
 ghost use Rattle.rdb_reader.specs.Loads.{Holds, Reads, ReadsAll, load_fault};
 
 use crate::fault::LoadFault;
@@ -60,7 +62,7 @@ fn not_read(fault: ItemFault) -> LoadFault
 }
 
 // Reads the next item.
-#[tactic(auto, using(keyspace::proofs::Serving::nothing, keyspace::proofs::Serving::both))]
+#[tactic(auto, using(keyspace::proofs::Serving::nothing, keyspace::proofs::Serving::both, keyspace::proofs::Serving::unmoved, keyspace::proofs::Serving::further))]
 fn read_item<B: BlockStore>(
     alloc: Global,
     bytes: &[u8],
@@ -74,6 +76,8 @@ fn read_item<B: BlockStore>(
     ensures sound { Sound keyspace.new.bases (B.blocks keyspace.new.store) }
     ensures served { Served B.step keyspace.old.store keyspace.new.store }
     ensures settings { SameSettings keyspace.old.bases keyspace.new.bases }
+    ensures within { Within anything keyspace.old.bases keyspace.new.bases (B.blocks keyspace.old.store) (B.blocks keyspace.new.store) }
+    ensures whole { IfOk result (λ read. AreWhole keyspace.old.bases → AreWhole keyspace.new.bases) }
 {
     let item = match next_item(alloc, bytes, so_far.at) {
         Ok(item) => item,
@@ -119,7 +123,7 @@ fn read_item<B: BlockStore>(
 /// how many were passed over.
 ///
 /// `Refused` comes exactly by the file's first fault, and `Memory` for want of memory. Some keys may stand after a fault.
-#[tactic(auto, using(keyspace::proofs::Serving::nothing, keyspace::proofs::Serving::both))]
+#[tactic(auto, using(keyspace::proofs::Serving::nothing, keyspace::proofs::Serving::both, keyspace::proofs::Serving::unmoved, keyspace::proofs::Serving::further))]
 pub fn read_items<B: BlockStore>(
     alloc: Global,
     bytes: &[u8],
@@ -132,6 +136,8 @@ pub fn read_items<B: BlockStore>(
     ensures sound { Sound keyspace.new.bases (B.blocks keyspace.new.store) }
     ensures served { Served B.step keyspace.old.store keyspace.new.store }
     ensures settings { SameSettings keyspace.old.bases keyspace.new.bases }
+    ensures within { Within anything keyspace.old.bases keyspace.new.bases (B.blocks keyspace.old.store) (B.blocks keyspace.new.store) }
+    ensures whole { IfOk result (λ loaded. AreWhole keyspace.new.bases) }
 {
     let at = match check_header(bytes) {
         Ok(at) => at,

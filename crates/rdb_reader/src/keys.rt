@@ -5,6 +5,8 @@ ghost use Rattle.blocks.specs.Blocks.{Changes, Served};
 ghost use Rattle.plain_world.specs.Worlds.{in_time, look, put};
 ghost use Rattle.keyspace.specs.Databases.{means, SameSettings};
 ghost use Rattle.keyspace.specs.Sound.{Sound};
+ghost use Rattle.keyspace.specs.Scopes.{anything, Within};
+ghost use Rattle.keyspace.specs.Forms.{AreWhole};
 ghost use Rattle.keyspace.specs.Values as values;
 ghost use Rattle.held.specs.Calls.{IsDeadline};
 ghost use Rattle.rdb_grammar.specs.Views.{text_of, value_of};
@@ -29,6 +31,7 @@ fn text<'a>(chunk: &'a Chunk<'a>, buffer: &'a mut Buffer) -> &'a [u8]
 // Makes a value of the file over the blocks of a store. For want of memory no block changes.
 fn make_value<B: BlockStore>(store: &mut B, value: &FileValue<'_>) -> Result<Value, Memory>
     ensures means { IfOk result (λ made. values.value_of (B.blocks store.new) made ≡ value_of value.now) }
+    ensures whole { IfOk result (λ made. values.IsWhole made) }
     ensures changes { IfOk result (λ made. Changes (B.blocks store.old) (B.blocks store.new) [] (values.value_refs made)) }
     ensures served { Served B.step store.old store.new }
     ensures err { OnErr result (B.blocks store.new ≡ B.blocks store.old) }
@@ -58,6 +61,8 @@ fn put_value<B: BlockStore>(
     ensures sound { Sound keyspace.new.bases (B.blocks keyspace.new.store) }
     ensures served { Served B.step keyspace.old.store keyspace.new.store }
     ensures settings { SameSettings keyspace.old.bases keyspace.new.bases }
+    ensures within { Within anything keyspace.old.bases keyspace.new.bases (B.blocks keyspace.old.store) (B.blocks keyspace.new.store) }
+    ensures whole { OnOk result (AreWhole keyspace.old.bases → AreWhole keyspace.new.bases) }
 {
     let made = make_value(&mut keyspace.store, value)?;
     keyspace.put(db, name, made, deadline)
@@ -97,7 +102,7 @@ pub enum Put {
 /// of memory, the key may have the later value.
 //
 // A key that is kept is searched only once, when it is put: where it was there, the count of keys stays.
-#[tactic(auto, using(keyspace::proofs::Serving::nothing, keyspace::proofs::Serving::both))]
+#[tactic(auto, using(keyspace::proofs::Serving::nothing, keyspace::proofs::Serving::both, keyspace::proofs::Serving::unmoved, keyspace::proofs::Serving::further))]
 pub fn put_key<B: BlockStore>(
     keyspace: &mut Keyspace<B>,
     db: usize,
@@ -113,6 +118,8 @@ pub fn put_key<B: BlockStore>(
     ensures sound { Sound keyspace.new.bases (B.blocks keyspace.new.store) }
     ensures served { Served B.step keyspace.old.store keyspace.new.store }
     ensures settings { SameSettings keyspace.old.bases keyspace.new.bases }
+    ensures within { Within anything keyspace.old.bases keyspace.new.bases (B.blocks keyspace.old.store) (B.blocks keyspace.new.store) }
+    ensures whole { IfOk result (λ put. AreWhole keyspace.old.bases → AreWhole keyspace.new.bases) }
 {
     let mut buffer = Buffer::new();
     let name = text(name, &mut buffer);

@@ -6,6 +6,8 @@ ghost use Rattle.blocks.specs.Blocks.{Served};
 ghost use Rattle.plain_world.specs.Worlds.{new_world};
 ghost use Rattle.keyspace.specs.Databases.{means, SameSettings};
 ghost use Rattle.keyspace.specs.Sound.{Sound};
+ghost use Rattle.keyspace.specs.Scopes.{anything, Within};
+ghost use Rattle.keyspace.specs.Forms.{AreWhole};
 ghost use Rattle.rdb_reader.specs.Fetching.{Counts};
 ghost use Rattle.rdb_reader.specs.Loads.{Loads};
 
@@ -33,6 +35,7 @@ fn clear_all<B: BlockStore>(keyspace: &mut Keyspace<B>)
     ensures sound { Sound keyspace.new.bases (B.blocks keyspace.new.store) }
     ensures served { Served B.step keyspace.old.store keyspace.new.store }
     ensures settings { SameSettings keyspace.old.bases keyspace.new.bases }
+    ensures within { Within anything keyspace.old.bases keyspace.new.bases (B.blocks keyspace.old.store) (B.blocks keyspace.new.store) }
 {
     'databases: for db in 0..16 {
         keyspace.clear(db);
@@ -44,7 +47,10 @@ fn clear_all<B: BlockStore>(keyspace: &mut Keyspace<B>)
 ///
 /// `Refused` comes exactly where the format excludes the file, with its first fault; `Host` exactly where the host's
 /// count of faults rose; `Limit` exactly where the file has more bytes than the limit. After each fault the keyspace has no key.
-#[tactic(auto, using(keyspace::proofs::Serving::nothing, keyspace::proofs::Serving::both))]
+///
+/// The tables come from those before, or from none, by inserts and removals, and each value is encoded as one that is written
+/// whole (Redis command reference, "OBJECT ENCODING").
+#[tactic(auto, using(keyspace::proofs::Serving::nothing, keyspace::proofs::Serving::both, keyspace::proofs::Serving::unmoved, keyspace::proofs::Serving::further))]
 pub fn load<H: Host, B: BlockStore>(
     alloc: Global,
     host: &mut H,
@@ -60,6 +66,8 @@ pub fn load<H: Host, B: BlockStore>(
     ensures sound { Sound keyspace.new.bases (B.blocks keyspace.new.store) }
     ensures served { Served B.step keyspace.old.store keyspace.new.store }
     ensures settings { SameSettings keyspace.old.bases keyspace.new.bases }
+    ensures within { Within anything keyspace.old.bases keyspace.new.bases (B.blocks keyspace.old.store) (B.blocks keyspace.new.store) }
+    ensures whole { AreWhole keyspace.new.bases }
 {
     let bytes = match fetch(alloc, host, name, limit) {
         Ok(bytes) => bytes,

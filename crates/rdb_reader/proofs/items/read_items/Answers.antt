@@ -1,6 +1,9 @@
 use Rattle.std.proofs.Common.{refl}
 use Rattle.blocks.specs.Blocks.{no_step}
 use Rattle.keyspace.specs.Databases.{means}
+use Rattle.keyspace.specs.Scopes.{anything}
+use Rattle.keyspace.proofs.Serving.{unmoved}
+use Rattle.keyspace.proofs.Forming.{none_whole}
 use Rattle.rdb_reader.proofs.Read.{holds_nothing}
 use Rattle.rdb_reader.proofs.items.read_items.Goals as goal
 
@@ -13,4 +16,9 @@ items-init g c =
       sound = c.requires.sound;
       served = no_step;
       settings = record { limits = refl; seed = refl; turn = refl };
+      within = unmoved anything c.args.keyspace.now.bases (g.B.BlockStore.blocks c.args.keyspace.now.store);
+      whole = none_whole c.args.keyspace.now.bases (g.B.BlockStore.blocks c.args.keyspace.now.store) c.requires.sound.arranged c.requires.empty;
     }
+
+pub returns-in-Ok-End-clause-whole : goal.returns-in-Ok-End-clause-whole
+returns-in-Ok-End-clause-whole g c = c.in-Ok-End.ensures.whole c.items.invariant.whole

@@ -2,6 +2,8 @@ use Rattle.std.proofs.Common.{◌-◌, length}
 use Rattle.blocks.specs.Blocks.{Served}
 use Rattle.keyspace.specs.Databases.{means, SameSettings}
 use Rattle.keyspace.specs.Sound.{Sound}
+use Rattle.keyspace.specs.Scopes.{anything, Within}
+use Rattle.keyspace.specs.Forms.{AreWhole}
 use Rattle.rdb_reader.specs.Loads.{Holds}
 use Rattle.rdb_reader.proofs.items.read_items.Given as goal
 
@@ -13,6 +15,8 @@ invariant-items g l =
       sound : Sound l.keyspace.bases (blocks l.keyspace.store);
       served : Served g.B.BlockStore.step l.fn.keyspace.store l.keyspace.store;
       settings : SameSettings l.fn.keyspace.bases l.keyspace.bases;
+      within : Within anything l.fn.keyspace.bases l.keyspace.bases (blocks l.fn.keyspace.store) (blocks l.keyspace.store);
+      whole : AreWhole l.keyspace.bases;
     }
 
 abbrev pub decreases-items : goal.decreases-items

@@ -1,4 +1,8 @@
-use Rattle.keyspace.proofs.Uses.{Made-intact, Put-sound}
+use Rattle.std.proofs.Common.{sym, subst}
+use Rattle.keyspace.specs.Scopes.{anything, one_key, Within}
+use Rattle.keyspace.proofs.Serving.{unmoved, unbound}
+use Rattle.keyspace.proofs.Forming.{put_whole}
+use Rattle.keyspace.proofs.Uses.{Made-intact, Put-sound, Put-within}
 use Rattle.rdb_reader.proofs.Entries.{value_put}
 use Rattle.rdb_reader.proofs.keys.put_value.Goals as goal
 
@@ -11,3 +15,18 @@ returns-clause-sound g c = Put-sound _ _ _ c.in_ok-made.made c.requires.sound c.
 pub returns-clause-world : goal.returns-clause-world
 returns-clause-world g c =
     value_put c.args.db c.args.keyspace.now.bases _ _ c.in_ok-made.made c.requires.sound c.in_ok-made.ensures.changes c.put.new.self.bases _ c.args.name.now _ c.args.deadline c.in_ok-made.ensures.means c.put.result c.put.ensures.means
+
+pub returns-clause-within : goal.returns-clause-within
+returns-clause-within g c =
+    unbound (one_key c.args.db c.args.name.now) c.args.keyspace.now.bases c.put.new.self.bases _ _
+    (Put-within _ _ _ c.in_ok-made.made c.requires.sound c.in_ok-made.ensures.changes c.put.new.self.bases _ (one_key c.args.db c.args.name.now) c.put.ensures.within)
+
+pub returns-clause-whole : goal.returns-clause-whole
+returns-clause-whole g c =
+    let sound = Put-sound _ _ _ c.in_ok-made.made c.requires.sound c.in_ok-made.ensures.changes _ _ c.put.ensures.sound in
+    put_whole c.args.db c.args.name.now c.in_ok-made.made c.in_ok-made.ensures.whole c.args.keyspace.now.bases c.put.new.self.bases _ _ c.put.ensures.within sound.arranged c.put.result c.put.ensures.has
+
+pub returns-in_err-made-clause-within : goal.returns-in_err-made-clause-within
+returns-in_err-made-clause-within g c =
+    let m = g.B.BlockStore.blocks c.args.keyspace.now.store in
+    subst (Within anything c.args.keyspace.now.bases c.args.keyspace.now.bases m) (sym c.in_err-made.ensures.err) (unmoved anything c.args.keyspace.now.bases m)
