@@ -1,6 +1,6 @@
 ghost use Rattle.std.specs.Prelude.{◌≡◌, ℕ, ◌+◌, ◌-◌, ◌*◌, ◌<◌, ◌≤◌, ◌↔◌, List, [], None, is_some, if◌then◌else◌, IsTrue, MatchBool};
 ghost use Rattle.blocks.specs.declared.BlockRef.{BlockRef};
-ghost use Rattle.blocks.specs.Slabs.{Calmer, slabs_of, needed};
+ghost use Rattle.blocks.specs.Slabs.{Begun, Calmer, slabs_of, needed};
 ghost use Rattle.held.specs.Databases.{table_at};
 ghost use Rattle.held.specs.Sound.{IsIntact, Sound, SoundBeside};
 ghost use Rattle.held.specs.Table.{item};
@@ -8,7 +8,7 @@ ghost use Rattle.held.specs.Relocation.{Relocates};
 ghost use Rattle.defrag.specs.Swept.{IsSwept};
 ghost use Rattle.defrag.specs.Ways.{shape, SameShapes, Leg, Goes, IsForward, MayGo, MustStop};
 
-use blocks::{BlockStore, start_sweep};
+use blocks::BlockStore;
 use held::{Held, Keyspace};
 
 // How many databases there are.
@@ -42,11 +42,12 @@ impl Walk {
     /// Begins a pass over the store of a keyspace, and first ends one that is open.
     pub fn start<V: Held, B: BlockStore>(keyspace: &mut Keyspace<V, B>) -> Walk
         ensures place { result ≡ record { database = 0; item = 0; mark = None } }
+        ensures begun { Begun (B.heap keyspace.old.store) (B.heap keyspace.new.store) }
         ensures swept { IsSwept V.refs_of V.marks keyspace.new.bases (B.heap keyspace.new.store) result }
         ensures bases { keyspace.new.bases ≡ keyspace.old.bases }
         ensures blocks { B.blocks keyspace.new.store ≡ B.blocks keyspace.old.store }
     {
-        start_sweep(&mut keyspace.store);
+        keyspace.store.begin_pass();
         Walk {
             database: 0,
             item: 0,
