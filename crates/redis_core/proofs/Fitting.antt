@@ -94,7 +94,9 @@ connection_fits db (connection.Select number) = fits_none
 connection_fits db connection.DbSize = fits_keys db (λ other. ⊥)
 connection_fits db connection.FlushDb = fits_all db
 connection_fits db connection.FlushAll = fits_everything
+connection_fits db connection.MemorySlabs = fits_none
 connection_fits db (connection.DebugRehash n) = fits_none
+connection_fits db (connection.DebugDefrag n) = fits_none
 
 pub fits_of : (db : ℕ) (command : Command) → Fits (scope_of db command) (touched_of db command)
 fits_of db (Strings command) = string_fits db command
@@ -160,7 +162,9 @@ connection_databases db below (connection.Select number) = tt
 connection_databases db below connection.DbSize = below
 connection_databases db below connection.FlushDb = below
 connection_databases db below connection.FlushAll = tt
+connection_databases db below connection.MemorySlabs = tt
 connection_databases db below (connection.DebugRehash n) = tt
+connection_databases db below (connection.DebugDefrag n) = tt
 
 pub databases_of : (db : ℕ) → db < 16 → (command : Command) → IsAsked command → AreDatabases (touched_of db command)
 databases_of db below (Strings command) asked = string_databases db below command

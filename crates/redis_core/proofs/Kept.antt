@@ -170,7 +170,9 @@ module _ (old : World) where
   connection_keeps moment connection.DbSize reply new m r = m.1
   connection_keeps moment connection.FlushDb reply new m r = absurd (subst IsRefusal m.0 r)
   connection_keeps moment connection.FlushAll reply new m r = absurd (subst IsRefusal m.0 r)
+  connection_keeps moment connection.MemorySlabs reply new m r = m.1
   connection_keeps moment (connection.DebugRehash n) reply new m r = m.1
+  connection_keeps moment (connection.DebugDefrag n) reply new m r = m.1
 
   command_keeps : (seed moment : ℕ) (command : Command) (reply : List Part) (new : World) → may seed old moment command reply new → IsRefusal reply → new ≡ old
   command_keeps seed moment (Strings command) reply new m r = m.1 ∙ outcome_keeps moment command (subst IsRefusal m.0 r)

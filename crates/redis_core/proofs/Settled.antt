@@ -5,23 +5,29 @@ use Rattle.blocks.specs.Blocks.{Blocks, ref_eq}
 use Rattle.blocks.proofs.Refs.{ref_eq-refl}
 use Rattle.blocks.proofs.Change.{one_if}
 use Rattle.rehash_dict.specs.Tables.{IsSettled}
-use Rattle.rehash_dict.specs.Table.{at_item, tables}
+use Rattle.rehash_dict.specs.Table.{tables}
+use Rattle.rehash_dict.proofs.MapOf.{map_of-stands}
 use Rattle.held.specs.declared.databases.Base.{Base}
 use Rattle.held.specs.Table.{Element, item}
 use Rattle.held.specs.Databases.{no_base, base_at, table_at, deadlines_at}
+use Rattle.held.specs.Sound.{IsArranged}
+use Rattle.held.proofs.Calls.{look_stands, look_lacks, deadline_seen}
+use Rattle.held.proofs.Timing.{moments_lack}
 use Rattle.held.proofs.Within.{within_wider}
-use Rattle.plain_world.specs.Worlds.{live}
+use Rattle.plain_world.specs.Worlds.{live, look, deadline_of}
 use Rattle.plain_world.specs.declared.reply.Part.{Part}
 use Rattle.plain_model.specs.Outcomes.{IsRefusal}
 use Rattle.plain_model.specs.Steps.{may}
 use Rattle.plain_model.specs.declared.command.Command.{Command}
 use Rattle.plain_model.specs.declared.ctx.Ctx.{Ctx}
 use Rattle.keyspace.specs.declared.value.Value.{Value}
-use Rattle.keyspace.specs.Values.{value_refs}
+use Rattle.keyspace.specs.Values.{value_of, value_refs, value_own}
 use Rattle.keyspace.specs.Databases.{Bases, Keyspace, means}
 use Rattle.keyspace.specs.Sound.{Sound}
 use Rattle.keyspace.specs.Scopes.{Scope, no_key, Within, AreSettled, scope_of}
 use Rattle.keyspace.specs.Commands.{sight, Held, Runs}
+use Rattle.keyspace.specs.Forms.{form_of}
+use Rattle.keyspace.proofs.Forming.{formed_on}
 use Rattle.keyspace.proofs.Running.{held_then}
 use Rattle.keyspace.proofs.Serving.{further}
 use Rattle.redis_core.specs.declared.settling.Touched.{Touched}
@@ -31,15 +37,27 @@ use Rattle.cmd_keys.specs.Found as found
 use Rattle.plain_model.specs.declared.command.Command.TheVariants.{Strings, Keys, Connection}
 use Rattle.plain_model.specs.declared.connection.ConnectionCommand.{ConnectionCommand}
 use Rattle.plain_model.specs.declared.connection.ConnectionCommand.TheVariants as connection
-use Rattle.redis_core.specs.Touched.{covers, shrinking, touched_of, RehashesNone, Lost, Settles}
+use Rattle.redis_core.specs.Touched.{covers, shrinking, touched_of, IsCommon, Lost, Settles}
 use Rattle.redis_core.proofs.Fitting.{Fits, fits_of, covers_or}
 
--- where elements keep their item numbers no key is lost
-pub settles_items : (old new : Bases) (m : Blocks) → ((db : ℕ) → (table_at new db).items ≡ (table_at old db).items) → ((db : ℕ) → (deadlines_at new db).table.items ≡ (deadlines_at old db).table.items) → Settles old new m m
-settles_items old new m keys deadlines = record {
-  keys = λ db lost. absurd (lost.gone.each lost.at lost.stood.element (ap (λ items. at_item items lost.at) (keys db) ∙ lost.stood.found) lost.stood.bytes);
-  deadlines = λ db lost. absurd (lost.gone.each lost.at lost.stood.element (ap (λ items. at_item items lost.at) (deadlines db) ∙ lost.stood.found) lost.stood.bytes);
-}
+-- where databases mean what they meant no key is lost
+module _ (old new : Bases) (m after : Blocks) (before : IsArranged old m) (later : IsArranged new after) (same : (number : ℕ) → means number new after ≡ means number old m) where
+  no_key_gone : (db : ℕ) → Lost m after (table_at old db) (table_at new db) → ⊥
+  no_key_gone db lost =
+      let stood = look_stands value_refs value_of value_own old db m before lost.key lost.at lost.stood.element lost.stood.found lost.stood.bytes _ refl in
+      let gone = look_lacks value_refs value_of value_own new db after later lost.key lost.gone in
+      let both = sym gone ∙ ap (λ w. look w lost.key) (same db) ∙ stood in cc
+
+  no_deadline_gone : (db : ℕ) → Lost m after (deadlines_at old db).table (deadlines_at new db).table → ⊥
+  no_deadline_gone db lost =
+      let stood = map_of-stands m (λ v. v) (deadlines_at old db).table lost.at lost.stood.element lost.key (before.timed db).keyed lost.stood.found lost.stood.bytes in
+      let gone = moments_lack after (deadlines_at new db) lost.key (later.timed db).keyed lost.gone in
+      let one = deadline_seen value_refs value_of value_own old db m before lost.key in
+      let two = deadline_seen value_refs value_of value_own new db after later lost.key in
+      let both = sym gone ∙ two ∙ ap (λ w. deadline_of (look w lost.key)) (same db) ∙ sym one ∙ stood in cc
+
+  pub settles_means : Settles old new m after
+  settles_means = record { keys = λ db lost. absurd (no_key_gone db lost); deadlines = λ db lost. absurd (no_deadline_gone db lost) }
 
 -- where nothing changed no key is lost
 pub settles_none : (bases : Bases) (m : Blocks) → Settles bases bases m m
@@ -77,7 +95,7 @@ module _ (scope : Scope) (touched : Touched) (fits : Fits scope touched) (old ne
   }
 
 -- what a reply shows of the tables before it, it shows whatever follows
-connection_shows_on : {S : Type 0} (blocks : S → Blocks) (old mid new : Keyspace S) (command : ConnectionCommand) → found.RehashesNone command → (reply : List Part) → connection_shown blocks old mid command reply → connection_shown blocks old new command reply
+connection_shows_on : {S : Type 0} (blocks : S → Blocks) (old mid new : Keyspace S) (command : ConnectionCommand) → found.IsCommon command → (reply : List Part) → connection_shown blocks old mid command reply → connection_shown blocks old new command reply
 connection_shows_on blocks old mid new (connection.Ping text) none reply s = tt
 connection_shows_on blocks old mid new (connection.Echo text) none reply s = tt
 connection_shows_on blocks old mid new connection.Quit none reply s = tt
@@ -85,9 +103,11 @@ connection_shows_on blocks old mid new (connection.Select number) none reply s =
 connection_shows_on blocks old mid new connection.DbSize none reply s = tt
 connection_shows_on blocks old mid new connection.FlushDb none reply s = tt
 connection_shows_on blocks old mid new connection.FlushAll none reply s = tt
+connection_shows_on blocks old mid new connection.MemorySlabs none reply s = absurd none
 connection_shows_on blocks old mid new (connection.DebugRehash n) none reply s = absurd none
+connection_shows_on blocks old mid new (connection.DebugDefrag n) none reply s = absurd none
 
-shows_on : {S : Type 0} (blocks : S → Blocks) (old mid new : Keyspace S) (at : Ctx) (command : Command) → RehashesNone command → (reply : List Part) → Shows blocks old mid at command reply → Shows blocks old new at command reply
+shows_on : {S : Type 0} (blocks : S → Blocks) (old mid new : Keyspace S) (at : Ctx) (command : Command) → IsCommon command → (reply : List Part) → Shows blocks old mid at command reply → Shows blocks old new at command reply
 shows_on blocks old mid new at (Strings command) none reply s = tt
 shows_on blocks old mid new at (Keys command) none reply s = s
 shows_on blocks old mid new at (Connection command) none reply s = connection_shows_on blocks old mid new command none reply s
@@ -109,9 +129,10 @@ module _ {S E : Type 0} (blocks : S → Blocks) (step : S → S → Type 0) (old
         within = within_wider value_refs (shrinking (touched_of at.db command)) (scope_of at.db command) (fits_of at.db command).into (λ number key no. absurd no) (λ number no. absurd no) mid.bases new.bases (blocks mid.store) (blocks new.store) settled.within;
       })
 
-  pub settled_runs : RehashesNone command → ((number : ℕ) → means number new.bases (blocks new.store) ≡ means number mid.bases (blocks mid.store)) → Runs {E = E} blocks step old new at command (Ok reply)
+  pub settled_runs : IsCommon command → ((number : ℕ) → means number new.bases (blocks new.store) ≡ means number mid.bases (blocks mid.store)) → Runs {E = E} blocks step old new at command (Ok reply)
   settled_runs none world = record {
     shows = shows_on blocks old mid new at command none reply ran.shows;
+    forms = formed_on blocks (form_of at.db (sight blocks old at) command) (shrinking (touched_of at.db command)) old mid new (λ db key no. no) ran.forms settled.within;
     answers = subst (λ w. may old.bases.seed (sight blocks old at) at.moment command reply (live w at.moment)) (sym (world at.db)) ran.answers;
     kept = record { refusals = λ refused. absurd (calm refused); sound = held_both.sound; served = held_both.served; settings = held_both.settings; within = held_both.within };
   }
@@ -119,6 +140,7 @@ module _ {S E : Type 0} (blocks : S → Blocks) (step : S → S → Type 0) (old
   pub settled_fails : (e : E) → Runs {E = E} blocks step old new at command (Err e)
   settled_fails e = record {
     shows = tt;
+    forms = tt;
     answers = tt;
     kept = record { refusals = tt; sound = held_both.sound; served = held_both.served; settings = held_both.settings; within = held_both.within };
   }

@@ -1,5 +1,5 @@
 -- A walk that commands don't disturb ends with the least number of slabs.
-use Rattle.std.proofs.Common.{◌≡◌, ◌<◌, ℕ, ◌+◌, Option, Some, None, List, refl, sym, ap, ◌∙◌, subst, arith}
+use Rattle.std.proofs.Common.{◌≡◌, ◌<◌, ℕ, Option, Some, None, refl, sym, ap, ◌∙◌, subst, arith}
 use Rattle.blocks.specs.declared.BlockRef.{BlockRef}
 use Rattle.blocks.specs.Blocks.{Blocks}
 use Rattle.blocks.specs.Slabs.{Heap, Swept}
@@ -9,15 +9,15 @@ use Rattle.defrag.specs.declared.walk.Visit.{Visit}
 use Rattle.defrag.specs.declared.walk.Visit.TheVariants.{More, Done}
 use Rattle.defrag.specs.declared.walk.Walk.{Walk}
 use Rattle.held.specs.Databases.{table_at}
-use Rattle.held.specs.Table.{Table, item}
+use Rattle.held.specs.Table.{item}
 use Rattle.held.proofs.Rehashing.{keys_stay}
 use Rattle.outside.specs.declared.pacing.Plan.{Plan}
 use Rattle.keyspace.specs.Databases.{Bases, Keyspace}
 use Rattle.keyspace.specs.Values.{value_refs, value_marks}
-use Rattle.keyspace.specs.declared.value.Value.{Value}
-use Rattle.redis_core.specs.Background.{left_open, IsSweptTo, HasLeastSlabs, IsTidy, Opens, WalksOn, Packs, Works, Rests}
-use Rattle.redis_core.specs.Background.Opens.{open_walk, new_walk}
-use Rattle.redis_core.specs.Background.{Packs as packs}
+use Rattle.redis_core.specs.Walking.{left_open, IsSweptTo, HasLeastSlabs, IsTidy, Opens, WalksOn, Packs}
+use Rattle.redis_core.specs.Background.{EngineRests}
+use Rattle.redis_core.specs.Walking.Opens.{open_walk, new_walk}
+use Rattle.redis_core.specs.Walking.{Packs as packs}
 use Rattle.redis_core.specs.Engines.{State, keyspace_of}
 use Rattle.redis_core.specs.declared.background.StepsDone.{StepsDone}
 
@@ -49,7 +49,7 @@ module _ {S : Type 0} (blocks : S → Blocks) (heap : S → Heap) where
 
   opens_swept : (old mid : Keyspace S) (before : Option Walk) (from : Walk) → Opens blocks heap old mid before from → IsTidy blocks heap old before → IsSweptTo blocks heap mid from
   opens_swept old mid _ _ (open_walk walk same) t = subst (λ (k : Keyspace S). IsSweptTo blocks heap k walk) (sym same) t
-  opens_swept old mid _ _ (new_walk bases store swept) t = swept
+  opens_swept old mid _ _ (new_walk bases store begun swept) t = swept
 
   left_tidy : (new : Keyspace S) (visit : Visit) (to : Walk) → (visit ≡ More → IsSweptTo blocks heap new to) → IsTidy blocks heap new (left_open visit to)
   left_tidy new More to s = s refl
@@ -59,12 +59,12 @@ module _ {S : Type 0} (blocks : S → Blocks) (heap : S → Heap) where
   left_done More to none = cc
   left_done Done to none = refl
 
-  step_tidy : (old new : Keyspace S) (before after : Option Walk) → WalksOn blocks heap old new before after → IsTidy blocks heap old before → IsTidy blocks heap new after
+  pub step_tidy : (old new : Keyspace S) (before after : Option Walk) → WalksOn blocks heap old new before after → IsTidy blocks heap old before → IsTidy blocks heap new after
   step_tidy old new before after w t =
       let swept = opens_swept old w.mid before w.from w.opens t in
       subst (IsTidy blocks heap new) (sym w.left) (left_tidy new w.visit w.to (λ is. w.swept is swept))
 
-  step_least : (old new : Keyspace S) (before after : Option Walk) → WalksOn blocks heap old new before after → IsTidy blocks heap old before → after ≡ None → HasLeastSlabs blocks heap new
+  pub step_least : (old new : Keyspace S) (before after : Option Walk) → WalksOn blocks heap old new before after → IsTidy blocks heap old before → after ≡ None → HasLeastSlabs blocks heap new
   step_least old new before after w t none = w.least (left_done w.visit w.to (sym w.left ∙ none)) (opens_swept old w.mid before w.from w.opens t)
 
   packs_tidy : (old : Keyspace S) (before : Option Walk) (steps : ℕ) (new : Keyspace S) (after : Option Walk) → Packs blocks heap old before steps new after → IsTidy blocks heap old before → IsTidy blocks heap new after
@@ -75,7 +75,7 @@ module _ {S : Type 0} (blocks : S → Blocks) (heap : S → Heap) where
   packs_least old before _ _ _ packs.start some none t = absurd (omega (arith, some))
   packs_least old before _ _ _ (packs.more steps mid new walk after p w) some none t = step_least mid new walk after w (packs_tidy old before steps mid walk p t) none
 
-  module _ (step_of : S → S → Type 0) (moment : ℕ) (plan : Plan) (old new : State S) (done : StepsDone) (still : plan.expire ≡ 0) (r : Rests blocks heap step_of moment plan old new done) where
+  module _ (step_of : S → S → Type 0) (moment : ℕ) (plan : Plan) (old new : State S) (done : StepsDone) (still : plan.expire ≡ 0) (r : EngineRests blocks heap step_of moment plan old new done) where
     begins_tidy : IsTidy blocks heap (keyspace_of old) old.walk → IsTidy blocks heap r.works.mid old.walk
     begins_tidy t =
         let w = r.works in

@@ -16,8 +16,9 @@ use Rattle.keyspace.specs.Databases.{Bases, Keyspace, SameSettings, means}
 use Rattle.keyspace.specs.Sound.{Sound}
 use Rattle.keyspace.specs.Values.{value_of, value_refs, value_marks}
 use Rattle.keyspace.proofs.Calls.{settings_then}
-use Rattle.redis_core.specs.Background.{left_open, IsSweptTo, HasLeastSlabs, Opens, WalksOn, Works, Packs, Rests}
-use Rattle.redis_core.specs.Background.{Packs as packs}
+use Rattle.redis_core.specs.Walking.{left_open, IsSweptTo, HasLeastSlabs, Opens, WalksOn, Packs}
+use Rattle.redis_core.specs.Background.{DoesPlan, EngineRests}
+use Rattle.redis_core.specs.Walking.{Packs as packs}
 use Rattle.redis_core.specs.Engines.{State, keyspace_of}
 use Rattle.redis_core.specs.declared.background.StepsDone.{StepsDone}
 
@@ -56,7 +57,7 @@ module _ {S : Type 0} (blocks : S → Blocks) (heap : S → Heap) (step_of : S �
       → Served step_of old.store thinned.store → thinned.bases.limits ≡ old.bases.limits → thinned.bases.seed ≡ old.bases.seed
       → Rehashed (blocks thinned.store) plan.rehash done.rehash thinned.bases mid.bases → mid.store ≡ thinned.store → ((number : ℕ) → means number mid.bases (blocks thinned.store) ≡ means number thinned.bases (blocks thinned.store)) → SameSettings thinned.bases mid.bases
       → Packs blocks heap mid before done.defrag new after → done.defrag ≡ plan.defrag → ((number : ℕ) → means number new.bases (blocks new.store) ≡ means number mid.bases (blocks mid.store)) → Sound new.bases (blocks new.store) → SameSettings mid.bases new.bases
-      → Works blocks heap step_of moment plan old new before after done
+      → DoesPlan blocks heap step_of moment plan old new before after done
   worked expired unthinned stays served limits seed rehashed store world settings packed all packs sound settings' =
       let both = settings_then thinned.bases mid.bases new.bases settings settings' in
       record {
@@ -78,16 +79,16 @@ module _ {S : Type 0} (blocks : S → Blocks) (heap : S → Heap) (step_of : S �
 
 -- an engine does the work that its keyspace does, at the moment that it used
 pub rests : {S : Type 0} (blocks : S → Blocks) (heap : S → Heap) (step_of : S → S → Type 0) (engine inside : State S) (moment : ℕ) (plan : Plan) (bases : Bases) (store : S) (walk : Option Walk) (done : StepsDone) → inside ≡ record engine { last = max engine.last moment }
-    → Works blocks heap step_of inside.last plan (record { bases = inside.bases; store = inside.store }) (record { bases = bases; store = store }) inside.walk walk done → Rests blocks heap step_of moment plan engine (record inside { bases = bases; store = store; walk = walk }) done
+    → DoesPlan blocks heap step_of inside.last plan (record { bases = inside.bases; store = inside.store }) (record { bases = bases; store = store }) inside.walk walk done → EngineRests blocks heap step_of moment plan engine (record inside { bases = bases; store = store; walk = walk }) done
 rests {S = S} blocks heap step_of engine inside moment plan bases store walk done e w = record {
   last = ap (λ x. x.last) e;
-  works = subst (λ (x : State S). Works blocks heap step_of inside.last plan (keyspace_of x) (record { bases = bases; store = store }) x.walk walk done) e w;
+  works = subst (λ (x : State S). DoesPlan blocks heap step_of inside.last plan (keyspace_of x) (record { bases = bases; store = store }) x.walk walk done) e w;
   selected = ap (λ x. x.selected) e;
   alive = ap (λ x. x.is_spent) e;
 }
 
 -- no step of the walk leaves all
-unpacked : {S : Type 0} (blocks : S → Blocks) (heap : S → Heap) (steps : ℕ) → steps ≡ 0 → (old : Keyspace S) (before : Option Walk) (new : Keyspace S) (after : Option Walk) → Packs blocks heap old before steps new after → (new ≡ old) × (after ≡ before)
+pub unpacked : {S : Type 0} (blocks : S → Blocks) (heap : S → Heap) (steps : ℕ) → steps ≡ 0 → (old : Keyspace S) (before : Option Walk) (new : Keyspace S) (after : Option Walk) → Packs blocks heap old before steps new after → (new ≡ old) × (after ≡ before)
 unpacked blocks heap _ none old before _ _ packs.start = (refl, refl)
 unpacked blocks heap _ none old before _ _ (packs.more steps mid new walk after p w) = absurd (omega (arith, none))
 
@@ -97,7 +98,7 @@ pub record Stills {S : Type 0} (step_of : S → S → Type 0) (old new : State S
   pub walk : new.walk ≡ old.walk
   pub served : Served step_of old.store new.store
 
-pub rests_still : {S : Type 0} (blocks : S → Blocks) (heap : S → Heap) (step_of : S → S → Type 0) (moment : ℕ) (plan : Plan) (old new : State S) (done : StepsDone) → plan.expire ≡ 0 → plan.defrag ≡ 0 → Rests blocks heap step_of moment plan old new done → Stills step_of old new
+pub rests_still : {S : Type 0} (blocks : S → Blocks) (heap : S → Heap) (step_of : S → S → Type 0) (moment : ℕ) (plan : Plan) (old new : State S) (done : StepsDone) → plan.expire ≡ 0 → plan.defrag ≡ 0 → EngineRests blocks heap step_of moment plan old new done → Stills step_of old new
 rests_still {S = S} blocks heap step_of moment plan old new done none still r =
     let w = r.works in
     let u = unpacked blocks heap done.defrag (w.all_packed ∙ still) w.mid old.walk (keyspace_of new) new.walk w.packed in

@@ -1,4 +1,5 @@
 pub mod Touched
+pub mod Walking
 pub mod Engines
 pub mod Laws
 pub mod Background

@@ -6,6 +6,7 @@ use Rattle.rehash_dict.specs.Table.{Table, tables}
 use Rattle.rehash_dict.specs.Keyed.{Stands, Lacks}
 use Rattle.held.specs.Databases.{table_at, deadlines_at}
 use Rattle.plain_world.specs.Words.{Words}
+use Rattle.plain_world.specs.Worlds.{World}
 use Rattle.plain_world.specs.declared.refusal.Refusal.{Refusal}
 use Rattle.plain_model.specs.Meant.{meant}
 use Rattle.plain_model.specs.declared.command.Command.{Command}
@@ -18,6 +19,7 @@ use Rattle.plain_model.specs.declared.connection.ConnectionCommand.{ConnectionCo
 use Rattle.plain_model.specs.declared.connection.ConnectionCommand.TheVariants as connection
 use Rattle.keyspace.specs.Databases.{Bases, Keyspace}
 use Rattle.keyspace.specs.Shown.{Shows}
+use Rattle.keyspace.specs.Forms.{Form, Unwritten, form_of}
 use Rattle.cmd_keys.specs.Found as found
 use Rattle.plain_model.specs.declared.ctx.Ctx.{Ctx}
 use Rattle.plain_world.specs.declared.reply.Part.{Part}
@@ -94,7 +96,9 @@ connection_touched db (connection.Select number) = Nothing
 connection_touched db connection.DbSize = One db
 connection_touched db connection.FlushDb = One db
 connection_touched db connection.FlushAll = All
+connection_touched db connection.MemorySlabs = Nothing
 connection_touched db (connection.DebugRehash n) = Nothing
+connection_touched db (connection.DebugDefrag n) = Nothing
 
 abbrev pub touched_of : ℕ → Command → Touched
 touched_of db (Strings command) = string_touched db command
@@ -111,21 +115,41 @@ abbrev pub scope_meant : ℕ → Result Command Refusal → Scope
 scope_meant db (Ok command) = scope_of db command
 scope_meant db (Err refusal) = untouched
 
--- what the words of a request but DEBUG REHASH may change, where this database is selected; a request that is refused changes
+-- what the words of a request but DEBUG may change, where this database is selected; a request that is refused changes
 -- nothing
 abbrev pub scope_asked : ℕ → Words → Scope
 scope_asked db words = scope_meant db (meant words)
 
--- the command makes no rehash steps of its own
-abbrev pub RehashesNone : Command → Type 0
-RehashesNone (Strings command) = Unit {0}
-RehashesNone (Keys command) = Unit {0}
-RehashesNone (Connection command) = found.RehashesNone command
+-- how a value is encoded that a request writes in a world
+abbrev pub form_meant : ℕ → World → Result Command Refusal → Form
+form_meant db world (Ok command) = form_of db world command
+form_meant db world (Err refusal) = Unwritten
+
+-- the command runs over the keyspace alone, and what it may answer is one outcome in the world
+abbrev pub IsCommon : Command → Type 0
+IsCommon (Strings command) = Unit {0}
+IsCommon (Keys command) = Unit {0}
+IsCommon (Connection command) = found.IsCommon command
+
+-- it makes no steps of its own
+abbrev pub MakesNoSteps : Command → Type 0
+MakesNoSteps (Connection (connection.DebugRehash n)) = ⊥
+MakesNoSteps (Connection (connection.DebugDefrag n)) = ⊥
+MakesNoSteps other = Unit {0}
+
+-- it moves no block
+abbrev pub MovesNone : Command → Type 0
+MovesNone (Connection (connection.DebugDefrag n)) = ⊥
+MovesNone other = Unit {0}
 
 -- the same of what words mean
 abbrev pub AsksNoSteps : Result Command Refusal → Type 0
-AsksNoSteps (Ok command) = RehashesNone command
+AsksNoSteps (Ok command) = MakesNoSteps command
 AsksNoSteps (Err refusal) = Unit {0}
+
+abbrev pub AsksNoMoves : Result Command Refusal → Type 0
+AsksNoMoves (Ok command) = MovesNone command
+AsksNoMoves (Err refusal) = Unit {0}
 
 -- ---- what a reply shows of the tables and values
 

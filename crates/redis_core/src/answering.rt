@@ -1,19 +1,23 @@
 //! One request by its command's own function.
 
-ghost use Rattle.std.specs.Prelude.{◌≡◌, IfOk, IfSome, IfNone, IsTrue, IsFalse};
+ghost use Rattle.std.specs.Prelude.{◌≡◌, ℕ, IfOk, IfErr, IfSome, IfNone, IsTrue, IsFalse};
 ghost use Rattle.plain_model.specs.Outcomes.{IsRefusal};
-ghost use Rattle.redis_core.specs.Touched.{RehashesNone, Settles};
+ghost use Rattle.redis_core.specs.Touched.{IsCommon, Settles};
+ghost use Rattle.redis_core.specs.Walking.{IsOpen, IsDefragged};
 ghost use Rattle.plain_model.specs.Meant.{IsAsked, is_quit};
 ghost use Rattle.plain_model.specs.declared.command.Command.TheVariants.{Connection};
-ghost use Rattle.plain_model.specs.declared.connection.ConnectionCommand.TheVariants.{Select, DebugRehash};
 ghost use Rattle.keyspace.specs.Commands.{Ready, Runs};
-ghost use Rattle.redis_core.specs.Engines.{Leads, Answers, SelectsNone};
+ghost use Rattle.keyspace.specs.Databases.{means, SameSettings};
+ghost use Rattle.keyspace.specs.Sound.{Sound};
+ghost use Rattle.redis_core.specs.Engines.{Leads, Answers, own_command, answered_with};
 
+use crate::background::defragment;
 use crate::settling::{settle, touched_by};
 use blocks::BlockStore;
-use cmd_keys::{debug_rehash, run_connection, run_keys};
+use cmd_keys::{debug_rehash, memory_slabs, run_connection, run_keys};
 use cmd_values::run_strings;
 use command_table::{ReadingFault, read};
+use defrag::Walk;
 use keyspace::Keyspace;
 use plain_model::{Command, ConnectionCommand, Ctx, Line, Memory, Part, Reply};
 use rand_pcg::Pcg32;
@@ -30,24 +34,28 @@ pub struct Answered {
     pub quit: bool,
 }
 
-// The database that a command selects, if it does.
-fn selected_by(command: &Command) -> Option<usize>
-    ensures some { IfSome result (λ number. command.now ≡ Connection (Select number)) }
-    ensures none { IfNone result (SelectsNone command.now) }
-{
-    match command {
-        Command::Connection(ConnectionCommand::Select(number)) => Some(*number),
-        _ => None,
-    }
+/// A command that the engine answers itself, since it needs more than a keyspace, or leaves it as no other command does.
+pub enum Own {
+    /// SELECT, with a database.
+    Select(usize),
+    /// DEBUG REHASH, with a number of steps.
+    Rehash(u32),
+    /// DEBUG DEFRAG, with a number of steps.
+    Defrag(u32),
+    /// MEMORY SLABS.
+    Slabs,
 }
 
-// How many rehash steps a command makes of its own, if it makes any.
-fn steps_of(command: &Command) -> Option<u32>
-    ensures some { IfSome result (λ steps. command.now ≡ Connection (DebugRehash steps)) }
-    ensures none { IfNone result (RehashesNone command.now) }
+// The command as one that the engine answers itself, if it is one.
+fn own_of(command: &Command) -> Option<Own>
+    ensures some { IfSome result (λ own. command.now ≡ Connection (own_command own)) }
+    ensures none { IfNone result (IsCommon command.now) }
 {
     match command {
-        Command::Connection(ConnectionCommand::DebugRehash(steps)) => Some(*steps),
+        Command::Connection(ConnectionCommand::Select(number)) => Some(Own::Select(*number)),
+        Command::Connection(ConnectionCommand::DebugRehash(steps)) => Some(Own::Rehash(*steps)),
+        Command::Connection(ConnectionCommand::DebugDefrag(steps)) => Some(Own::Defrag(*steps)),
+        Command::Connection(ConnectionCommand::MemorySlabs) => Some(Own::Slabs),
         _ => None,
     }
 }
@@ -59,7 +67,7 @@ fn ends_run(command: &Command) -> bool
     matches!(command, Command::Connection(ConnectionCommand::Quit))
 }
 
-// Runs a command of any family that selects no database and makes no rehash steps of its own.
+// Runs a common command of any family.
 fn run_family<B: BlockStore>(
     keyspace: &mut Keyspace<B>,
     at: &Ctx,
@@ -68,8 +76,7 @@ fn run_family<B: BlockStore>(
 ) -> Result<Reply, Memory>
     requires ready { Ready B.blocks keyspace.old at.now }
     requires asked { IsAsked command.now }
-    requires stays { SelectsNone command.now }
-    requires steps { RehashesNone command.now }
+    requires common { IsCommon command.now }
     ensures { Runs B.blocks B.step keyspace.old keyspace.new at.now command.now result }
 {
     match command {
@@ -90,8 +97,8 @@ fn is_refusal(reply: &Reply) -> bool
     }
 }
 
-// Runs a command that selects no database and makes no rehash steps of its own. Where it isn't refused, the tables of the databases that it may have changed are
-// made smaller where their elements are few.
+// Runs a common command. Where it isn't refused, the tables of the databases that it may have changed are made smaller where
+// their elements are few.
 fn run_settled<B: BlockStore>(
     keyspace: &mut Keyspace<B>,
     at: &Ctx,
@@ -100,8 +107,7 @@ fn run_settled<B: BlockStore>(
 ) -> Result<Reply, Memory>
     requires ready { Ready B.blocks keyspace.old at.now }
     requires asked { IsAsked command.now }
-    requires stays { SelectsNone command.now }
-    requires steps { RehashesNone command.now }
+    requires common { IsCommon command.now }
     ensures runs { Runs B.blocks B.step keyspace.old keyspace.new at.now command.now result }
     ensures settles { IfOk result (λ reply. Settles keyspace.old.bases keyspace.new.bases (B.blocks keyspace.old.store) (B.blocks keyspace.new.store)) }
 {
@@ -119,61 +125,92 @@ fn run_settled<B: BlockStore>(
     }
 }
 
-// Runs a command of any family. SELECT is answered here, since the engine keeps which database is selected; no table is made
-// smaller after DEBUG REHASH.
-fn run<B: BlockStore>(
+// DEBUG DEFRAG: steps of the walk, and 1 where its pass ended, else 0. Both replies are made first, so that want of memory
+// leaves all.
+fn debug_defrag<B: BlockStore>(
     keyspace: &mut Keyspace<B>,
-    at: &Ctx,
-    command: &Command,
-    dice: &mut Pcg32,
-) -> Result<Answered, Memory>
-    requires ready { Ready B.blocks keyspace.old at.now }
-    requires asked { IsAsked command.now }
-    ensures { Leads B.blocks B.step keyspace.old keyspace.new at.now command.now result }
+    walk: &mut Option<Walk>,
+    steps: u32,
+) -> Result<Reply, Memory>
+    requires sound { Sound keyspace.old.bases (B.blocks keyspace.old.store) }
+    requires walking { IsOpen walk.old }
+    ensures defragged { IfOk result (λ reply. IsDefragged B.blocks B.heap keyspace.old keyspace.new walk.old walk.new steps reply) }
+    ensures err { IfErr result (λ e. (keyspace.new ≡ keyspace.old) × (walk.new ≡ walk.old)) }
+    ensures sound { Sound keyspace.new.bases (B.blocks keyspace.new.store) }
+    ensures walking { IsOpen walk.new }
+    ensures means { (number : ℕ) → means number keyspace.new.bases (B.blocks keyspace.new.store) ≡ means number keyspace.old.bases (B.blocks keyspace.old.store) }
+    ensures settings { SameSettings keyspace.old.bases keyspace.new.bases }
 {
-    if let Some(selected) = selected_by(command) {
-        return match Reply::simple(keyspace.alloc(), Line::ok()) {
-            Ok(reply) => Ok(Answered {
-                reply,
-                selected,
-                quit: false,
-            }),
-            Err(error) => Err(error),
-        };
+    let alloc = keyspace.alloc();
+    let goes_on = Reply::number(alloc, 0)?;
+    let ended = Reply::number(alloc, 1)?;
+    if defragment(keyspace, walk, steps) {
+        Ok(ended)
+    } else {
+        Ok(goes_on)
     }
-    if let Some(steps) = steps_of(command) {
-        return match debug_rehash(keyspace, steps) {
-            Ok(reply) => Ok(Answered {
-                reply,
-                selected: at.db,
-                quit: false,
-            }),
-            Err(error) => Err(error),
-        };
-    }
-    match run_settled(keyspace, at, command, dice) {
+}
+
+// What a reply leads to.
+fn replied(reply: Result<Reply, Memory>, selected: usize, quit: bool) -> Result<Answered, Memory>
+    ensures { result ≡ answered_with selected quit reply }
+{
+    match reply {
         Ok(reply) => Ok(Answered {
             reply,
-            selected: at.db,
-            quit: ends_run(command),
+            selected,
+            quit,
         }),
         Err(error) => Err(error),
     }
 }
 
-/// Answers a request: reads its words, and runs the command that they mean. Random picks are drawn from the dice.
+// Runs a command of any family. No table is made smaller after DEBUG.
+fn run<B: BlockStore>(
+    keyspace: &mut Keyspace<B>,
+    walk: &mut Option<Walk>,
+    at: &Ctx,
+    command: &Command,
+    dice: &mut Pcg32,
+) -> Result<Answered, Memory>
+    requires ready { Ready B.blocks keyspace.old at.now }
+    requires walking { IsOpen walk.old }
+    requires asked { IsAsked command.now }
+    ensures leads { Leads B.blocks B.heap B.step keyspace.old keyspace.new walk.old walk.new at.now command.now result }
+    ensures walking { IsOpen walk.new }
+{
+    match own_of(command) {
+        Some(Own::Select(number)) => {
+            replied(Reply::simple(keyspace.alloc(), Line::ok()), number, false)
+        }
+        Some(Own::Rehash(steps)) => replied(debug_rehash(keyspace, steps), at.db, false),
+        Some(Own::Defrag(steps)) => replied(debug_defrag(keyspace, walk, steps), at.db, false),
+        Some(Own::Slabs) => replied(memory_slabs(keyspace), at.db, false),
+        None => replied(
+            run_settled(keyspace, at, command, dice),
+            at.db,
+            ends_run(command),
+        ),
+    }
+}
+
+/// Answers a request: reads its words, and runs the command that they mean. Random picks are drawn from the dice, and DEBUG
+/// DEFRAG makes steps of the walk.
 pub fn answer<B: BlockStore>(
     keyspace: &mut Keyspace<B>,
+    walk: &mut Option<Walk>,
     at: &Ctx,
     request: &Request<'_>,
     dice: &mut Pcg32,
 ) -> Result<Answered, Memory>
     requires ready { Ready B.blocks keyspace.old at.now }
-    ensures { Answers B.blocks B.step keyspace.old keyspace.new at.now request.now result }
+    requires walking { IsOpen walk.old }
+    ensures answers { Answers B.blocks B.heap B.step keyspace.old keyspace.new walk.old walk.new at.now request.now result }
+    ensures walking { IsOpen walk.new }
 {
     let alloc = keyspace.alloc();
     match read(alloc, request) {
-        Ok(command) => run(keyspace, at, &command, dice),
+        Ok(command) => run(keyspace, walk, at, &command, dice),
         Err(ReadingFault::Refused(refusal)) => match Reply::refused(alloc, refusal) {
             Ok(reply) => Ok(Answered {
                 reply,

@@ -1,14 +1,10 @@
 //! What is done between commands.
 
-ghost use Rattle.std.specs.Prelude.{◌≡◌, ◌≤◌, ◌<◌, ℕ};
-ghost use Rattle.blocks.specs.Blocks.{Served};
-ghost use Rattle.held.specs.Expiry.{Expired};
-ghost use Rattle.plain_world.specs.Worlds.{live};
-ghost use Rattle.keyspace.specs.Values.{value_refs};
+ghost use Rattle.std.specs.Prelude.{◌≡◌, ◌<◌, ℕ};
 ghost use Rattle.keyspace.specs.Databases.{means, SameSettings};
 ghost use Rattle.keyspace.specs.Sound.{Sound};
-ghost use Rattle.redis_core.specs.Background.{Opens, WalksOn, Packs, Works};
-ghost use Rattle.redis_core.specs.Engines.{IsOpen};
+ghost use Rattle.redis_core.specs.Background.{DoesPlan};
+ghost use Rattle.redis_core.specs.Walking.{IsOpen, Opens, WalksOn, Packs, Defrags, passes};
 
 use blocks::BlockStore;
 use defrag::{Visit, Walk};
@@ -33,23 +29,6 @@ impl StepsDone {
         defrag: 0,
         expired: 0,
     };
-}
-
-// Makes so many expiry steps, and touches nothing where there is none. The answer is how many keys were dropped.
-fn thin<B: BlockStore>(keyspace: &mut Keyspace<B>, steps: u32, moment: u64) -> u64
-    requires sound { Sound keyspace.old.bases (B.blocks keyspace.old.store) }
-    ensures steps { Expired value_refs moment keyspace.old.bases (B.blocks keyspace.old.store) steps result keyspace.new.bases (B.blocks keyspace.new.store) }
-    ensures unthinned { steps ≡ 0 → keyspace.new ≡ keyspace.old }
-    ensures stays { (number later : ℕ) → moment ≤ later → live (means number keyspace.new.bases (B.blocks keyspace.new.store)) later ≡ live (means number keyspace.old.bases (B.blocks keyspace.old.store)) later }
-    ensures sound { Sound keyspace.new.bases (B.blocks keyspace.new.store) }
-    ensures served { Served B.step keyspace.old.store keyspace.new.store }
-    ensures limits { keyspace.new.bases.limits ≡ keyspace.old.bases.limits }
-    ensures seed { keyspace.new.bases.seed ≡ keyspace.old.bases.seed }
-{
-    if steps == 0 {
-        return 0;
-    }
-    keyspace.expire(steps, moment)
 }
 
 // The walk that is open, or one that begins.
@@ -98,6 +77,33 @@ fn pack<B: BlockStore>(keyspace: &mut Keyspace<B>, walk: &mut Option<Walk>, step
     }
 }
 
+/// Makes steps of the walk that is open, or of one that begins, until so many are made or its pass ends. Whether it ended is
+/// answered.
+pub fn defragment<B: BlockStore>(
+    keyspace: &mut Keyspace<B>,
+    walk: &mut Option<Walk>,
+    steps: u32,
+) -> bool
+    requires sound { Sound keyspace.old.bases (B.blocks keyspace.old.store) }
+    requires walking { IsOpen walk.old }
+    ensures defrags { Defrags B.blocks B.heap steps keyspace.old keyspace.new walk.old walk.new (passes result) }
+    ensures sound { Sound keyspace.new.bases (B.blocks keyspace.new.store) }
+    ensures walking { IsOpen walk.new }
+    ensures means { (number : ℕ) → means number keyspace.new.bases (B.blocks keyspace.new.store) ≡ means number keyspace.old.bases (B.blocks keyspace.old.store) }
+    ensures settings { SameSettings keyspace.old.bases keyspace.new.bases }
+{
+    for _ in 0..steps {
+        match walk_on(keyspace, *walk) {
+            Some(place) => *walk = Some(place),
+            None => {
+                *walk = None;
+                return true;
+            }
+        }
+    }
+    false
+}
+
 /// Does the work of a plan over a keyspace and the walk that may be open, at this moment in milliseconds.
 pub fn work<B: BlockStore>(
     keyspace: &mut Keyspace<B>,
@@ -107,10 +113,10 @@ pub fn work<B: BlockStore>(
 ) -> StepsDone
     requires sound { Sound keyspace.old.bases (B.blocks keyspace.old.store) }
     requires walking { IsOpen walk.old }
-    ensures works { Works B.blocks B.heap B.step moment plan keyspace.old keyspace.new walk.old walk.new result }
+    ensures works { DoesPlan B.blocks B.heap B.step moment plan keyspace.old keyspace.new walk.old walk.new result }
     ensures walking { IsOpen walk.new }
 {
-    let expired = thin(keyspace, plan.expire, moment);
+    let expired = keyspace.expire(plan.expire, moment);
     let rehash = keyspace.rehash(plan.rehash);
     pack(keyspace, walk, plan.defrag);
     StepsDone {

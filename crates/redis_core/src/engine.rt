@@ -2,13 +2,18 @@
 
 ghost use Rattle.std.specs.Prelude.{◌≡◌, ◌<◌, ◌⊎◌, None, false, true, max, IfOk, is_err};
 ghost use Rattle.outside.specs.Files.{IsListed};
-ghost use Rattle.blocks.specs.Blocks.{no_blocks};
+ghost use Rattle.blocks.specs.Blocks.{no_blocks, Served};
+ghost use Rattle.plain_model.specs.Meant.{meant};
 ghost use Rattle.object_codec.specs.Limits.{AreInRange};
 ghost use Rattle.keyspace.specs.Sound.{Sound};
+ghost use Rattle.keyspace.specs.Scopes.{anything, Within};
+ghost use Rattle.keyspace.specs.Forms.{AreWhole};
 ghost use Rattle.rdb_reader.specs.Fetching.{Counts};
 ghost use Rattle.rdb_reader.specs.Loads.{Loads};
 ghost use Rattle.redis_core.specs.Engines.{world_of, keyspace_of, HasNoKey, IsNew, Stays, Keeps, Executes, quits, is_memory};
-ghost use Rattle.redis_core.specs.Background.{Rests, IsTidy, HasLeastSlabs, no_steps};
+ghost use Rattle.redis_core.specs.Background.{EngineRests, no_steps};
+ghost use Rattle.redis_core.specs.Touched.{AsksNoMoves};
+ghost use Rattle.redis_core.specs.Walking.{IsTidy, HasLeastSlabs, EndsPass};
 ghost use Rattle.redis_core.specs.declared.background.StepsDone.{StepsDone};
 
 use crate::answering::answer;
@@ -88,7 +93,7 @@ impl<B: BlockStore> Engine<B> {
     ///
     /// A spent engine does nothing.
     pub fn background(&mut self, plan: Plan, moment: u64) -> StepsDone
-        ensures rests { self.old.is_spent ≡ false → Rests B.blocks B.heap B.step moment plan self.old self.new result }
+        ensures rests { self.old.is_spent ≡ false → EngineRests B.blocks B.heap B.step moment plan self.old self.new result }
         ensures tidy { self.old.is_spent ≡ false → plan.expire ≡ 0 → IsTidy B.blocks B.heap (keyspace_of self.old) self.old.walk → IsTidy B.blocks B.heap (keyspace_of self.new) self.new.walk }
         ensures least { self.old.is_spent ≡ false → plan.expire ≡ 0 → IsTidy B.blocks B.heap (keyspace_of self.old) self.old.walk → 0 < plan.defrag → self.new.walk ≡ None → HasLeastSlabs B.blocks B.heap (keyspace_of self.new) }
         ensures spent { self.old.is_spent ≡ true → (self.new ≡ self.old) × (result ≡ no_steps) }
@@ -112,6 +117,9 @@ impl<B: BlockStore> Engine<B> {
     ///
     /// `Refused` comes exactly where the format excludes the file, with its first fault; `Host` exactly where the host's
     /// count of faults rose; `Limit` exactly where the file has more bytes than the limit. After each of them the engine has no key.
+    ///
+    /// The tables come from those before, or from none, by inserts and removals, and each value is encoded as one that is
+    /// written whole.
     pub fn load<H: Host>(
         &mut self,
         host: &mut H,
@@ -125,7 +133,11 @@ impl<B: BlockStore> Engine<B> {
         ensures moment { self.new.last ≡ max self.old.last moment }
         ensures spent { self.new.is_spent ≡ is_memory result }
         ensures spent_before { self.old.is_spent ≡ true → (result ≡ Err LoadFault.Memory) × Stays self.old self.new × (host.new ≡ host.old) }
-        ensures keeps { Keeps B.blocks B.step self.old self.new }
+        ensures keeps { Keeps B.blocks self.old self.new }
+        ensures served { Served B.step self.old.store self.new.store }
+        ensures walk { self.new.walk ≡ self.old.walk }
+        ensures within { Within anything self.old.bases self.new.bases (B.blocks self.old.store) (B.blocks self.new.store) }
+        ensures whole { self.old.is_spent ≡ false → AreWhole self.new.bases }
     {
         self.observe(moment);
         if self.is_spent {
@@ -140,15 +152,18 @@ impl<B: BlockStore> Engine<B> {
 
     /// Runs one request, which is a step of the model. The moment, in milliseconds, counts as the last one that was used
     /// where that is later. A request that is refused changes no database and no block, and selects none; QUIT ends the run.
+    /// Where no walk is open, a DEBUG DEFRAG that answers 1 leaves the least number of slabs.
     ///
     /// `Memory` where memory was refused in this call or an earlier one.
     pub fn execute(&mut self, request: &Request<'_>, moment: u64) -> Result<Done, Memory>
-        ensures executes { IfOk result (λ done. Executes B.blocks B.step moment self.old request.now done.reply self.new) }
+        ensures executes { IfOk result (λ done. Executes B.blocks B.heap B.step moment self.old request.now done.reply self.new) }
         ensures quit { IfOk result (λ done. done.quit ≡ quits request.now) }
         ensures moment { self.new.last ≡ max self.old.last moment }
         ensures spent { self.new.is_spent ≡ is_err result }
         ensures spent_before { self.old.is_spent ≡ true → (is_err result ≡ true) × Stays self.old self.new }
-        ensures keeps { Keeps B.blocks B.step self.old self.new }
+        ensures keeps { Keeps B.blocks self.old self.new }
+        ensures served { AsksNoMoves (meant request.now) → Served B.step self.old.store self.new.store }
+        ensures least { self.old.walk ≡ None → IfOk result (λ done. EndsPass (meant request.now) done.reply → HasLeastSlabs B.blocks B.heap (keyspace_of self.new)) }
     {
         self.observe(moment);
         if self.is_spent {
@@ -158,7 +173,13 @@ impl<B: BlockStore> Engine<B> {
             db: self.selected,
             moment: self.last,
         };
-        match answer(&mut self.keyspace, &at, request, &mut self.dice) {
+        match answer(
+            &mut self.keyspace,
+            &mut self.walk,
+            &at,
+            request,
+            &mut self.dice,
+        ) {
             Ok(answered) => {
                 self.selected = answered.selected;
                 Ok(Done {
@@ -175,9 +196,9 @@ impl<B: BlockStore> Engine<B> {
 }
 
 impl<B: BlockStore> Server for Engine<B> {
-    ghost executes = { λ moment old words reply new. Executes B.blocks B.step moment old words reply new };
+    ghost executes = { λ moment old words reply new. Executes B.blocks B.heap B.step moment old words reply new };
 
-    ghost works = { λ moment plan old new. (done : StepsDone) × Rests B.blocks B.heap B.step moment plan old new done };
+    ghost works = { λ moment plan old new. (done : StepsDone) × EngineRests B.blocks B.heap B.step moment plan old new done };
 
     ghost quits = { quits };
 

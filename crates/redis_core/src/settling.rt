@@ -100,7 +100,9 @@ fn touched_by_connection(command: &ConnectionCommand, db: usize) -> Touched
         ConnectionCommand::DbSize => Touched::One(db),
         ConnectionCommand::FlushDb => Touched::One(db),
         ConnectionCommand::FlushAll => Touched::All,
+        ConnectionCommand::MemorySlabs => Touched::Nothing,
         ConnectionCommand::DebugRehash(_) => Touched::Nothing,
+        ConnectionCommand::DebugDefrag(_) => Touched::Nothing,
     }
 }
 

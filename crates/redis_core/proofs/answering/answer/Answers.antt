@@ -1,12 +1,16 @@
-use Rattle.redis_core.proofs.Steps.{refused, not_read}
+use Rattle.redis_core.proofs.Steps.{ran, refused, not_read}
 use Rattle.redis_core.proofs.answering.answer.Goals as goal
 
-pub returns-in-Ok-refused : goal.returns-in-Ok-refused
-returns-in-Ok-refused g c =
-    refused g.B.BlockStore.blocks g.B.BlockStore.step c.args.at.now c.args.request.now c.args.keyspace.now c.in-Err-Refused.refusal c.in-Ok-refused.reply c.requires.ready (rw c.in-Err-Refused.field-0-is at c.in-Err-Refused.ensures.reads) c.in-Ok-refused.ensures
+pub returns-in-Ok-refused-clause-answers : goal.returns-in-Ok-refused-clause-answers
+returns-in-Ok-refused-clause-answers g c =
+    refused g.B.BlockStore.blocks g.B.BlockStore.heap g.B.BlockStore.step c.args.at.now c.args.request.now c.args.walk.now c.args.keyspace.now c.in-Err-Refused.refusal c.in-Ok-refused.reply c.requires.ready (rw c.in-Err-Refused.field-0-is at c.in-Err-Refused.ensures.reads) c.in-Ok-refused.ensures
 
-pub returns-in-Err : goal.returns-in-Err
-returns-in-Err g c = not_read g.B.BlockStore.blocks g.B.BlockStore.step c.args.at.now c.args.request.now c.args.keyspace.now c.in-Err.error c.requires.ready
+pub returns-in-Err-clause-answers : goal.returns-in-Err-clause-answers
+returns-in-Err-clause-answers g c = not_read g.B.BlockStore.blocks g.B.BlockStore.heap g.B.BlockStore.step c.args.at.now c.args.request.now c.args.walk.now c.args.keyspace.now c.in-Err.error c.requires.ready
 
-pub returns-in-Err-Memory : goal.returns-in-Err-Memory
-returns-in-Err-Memory g c = not_read _ _ c.args.at.now c.args.request.now c.args.keyspace.now _ c.requires.ready
+pub returns-in-Err-Memory-clause-answers : goal.returns-in-Err-Memory-clause-answers
+returns-in-Err-Memory-clause-answers g c = not_read _ _ _ c.args.at.now c.args.request.now c.args.walk.now c.args.keyspace.now _ c.requires.ready
+
+pub returns-in-Ok-clause-answers : goal.returns-in-Ok-clause-answers
+returns-in-Ok-clause-answers g c =
+    ran g.B.BlockStore.blocks g.B.BlockStore.heap g.B.BlockStore.step c.args.at.now c.args.request.now c.args.walk.now c.args.keyspace.now c.run.new.keyspace c.run.new.walk _ c.run.result (rw c.in-Ok.command-is at c.in-Ok.ensures.reads) c.run.ensures.leads

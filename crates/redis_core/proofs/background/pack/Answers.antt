@@ -1,7 +1,7 @@
 use Rattle.std.proofs.Common.{refl, ◌∙◌}
 use Rattle.keyspace.proofs.Calls.{settings_then}
 use Rattle.keyspace.proofs.Running.{same_settings}
-use Rattle.redis_core.specs.Background.{Packs as packs}
+use Rattle.redis_core.specs.Walking.{Packs as packs}
 use Rattle.redis_core.proofs.background.pack.Goals as goal
 
 pub loop-init : goal.loop-init

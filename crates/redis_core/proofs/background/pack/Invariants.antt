@@ -1,8 +1,8 @@
 use Rattle.std.proofs.Common.{◌≡◌, ℕ}
 use Rattle.keyspace.specs.Databases.{means, SameSettings}
 use Rattle.keyspace.specs.Sound.{Sound}
-use Rattle.redis_core.specs.Background.{Packs}
-use Rattle.redis_core.specs.Engines.{IsOpen}
+use Rattle.redis_core.specs.Walking.{Packs}
+use Rattle.redis_core.specs.Walking.{IsOpen}
 use Rattle.redis_core.proofs.background.pack.Given as goal
 
 abbrev pub invariant-loop : goal.invariant-loop

@@ -1,5 +1,5 @@
 use Rattle.std.proofs.Common.{[], ap, sym}
-use Rattle.redis_core.specs.Background.{left_open}
+use Rattle.redis_core.specs.Walking.{left_open}
 use Rattle.redis_core.proofs.Working.{opened_sound, walked, walked_means, walked_settings}
 use Rattle.redis_core.proofs.background.walk_on.Goals as goal
 
