@@ -12,7 +12,7 @@ use Rattle.plain_world.specs.declared.reply.Part.{Part}
 use Rattle.plain_model.specs.Runs.{Turn, run, calls_of, replies_of, moment_after}
 use Rattle.plain_model.specs.Steps.{step}
 use Rattle.plain_model.proofs.Covered.{runs_covered}
-use Rattle.redis_core.specs.Background.{Rests}
+use Rattle.redis_core.specs.Background.{EngineRests}
 use Rattle.redis_core.specs.Engines.{Executes, quits}
 use Rattle.redis_core.specs.declared.background.StepsDone.{StepsDone}
 use Rattle.serving.proofs.Said.{served_as}
@@ -46,7 +46,7 @@ record Turned (first : Timed Engine) (words : Words) (reply : List Part) (next :
   seed : next.engine.bases.seed ≡ first.engine.bases.seed
   alive : next.engine.is_spent ≡ false
 
-answered_turn : (moment : ℕ) (first : Timed Engine) (words : Words) (reply : List Part) (next : Timed Engine) → TimedReply (Executes heap_blocks IsClassHeapStep) works quits moment first words reply next → Turned first words reply next
+answered_turn : (moment : ℕ) (first : Timed Engine) (words : Words) (reply : List Part) (next : Timed Engine) → TimedReply (Executes heap_blocks heap_slabs IsClassHeapStep) works quits moment first words reply next → Turned first words reply next
 answered_turn moment first words reply next a = record {
   now = a.read.now;
   read = a.read.read;
@@ -57,13 +57,13 @@ answered_turn moment first words reply next a = record {
 }
 
 -- what is planned leaves what the engine holds at the moment that it used last
-worked_world : (moment : ℕ) (plan : Plan) (old new : Engine) (done : StepsDone) → Rests heap_blocks heap_slabs IsClassHeapStep moment plan old new done → new.last ≡ old.last → world_of new ≡ world_of old
+worked_world : (moment : ℕ) (plan : Plan) (old new : Engine) (done : StepsDone) → EngineRests heap_blocks heap_slabs IsClassHeapStep moment plan old new done → new.last ≡ old.last → world_of new ≡ world_of old
 worked_world moment plan old new done r same =
     r.works.stays new.selected new.last (omega arith)
     ∙ ap (λ number. live (means number old.bases (heap_blocks old.store)) new.last) r.selected
     ∙ ap (λ last. live (means old.selected old.bases (heap_blocks old.store)) last) same
 
-rested_turn : (ends : Bool) (moment : ℕ) (first : Timed Engine) (words : Words) (reply : List Part) (mid next : Timed Engine) → mid.engine.last ≡ max first.engine.last moment → Turned first words reply mid → timed.Rests (Executes heap_blocks IsClassHeapStep) works quits ends moment mid next → Turned first words reply next
+rested_turn : (ends : Bool) (moment : ℕ) (first : Timed Engine) (words : Words) (reply : List Part) (mid next : Timed Engine) → mid.engine.last ≡ max first.engine.last moment → Turned first words reply mid → timed.Rests (Executes heap_blocks heap_slabs IsClassHeapStep) works quits ends moment mid next → Turned first words reply next
 rested_turn true moment first words reply mid next later t same = subst (Turned first words reply) (sym same) t
 rested_turn false moment first words reply mid next later t w =
     let r = w.0.done.1 in

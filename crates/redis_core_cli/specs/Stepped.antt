@@ -7,7 +7,7 @@ use Rattle.outside.specs.declared.pacing.Plan.{Plan}
 use Rattle.class_heap.specs.Heap.{heap_blocks, heap_slabs, IsClassHeapStep}
 use Rattle.plain_world.specs.Words.{Words}
 use Rattle.plain_world.specs.declared.reply.Part.{Part}
-use Rattle.redis_core.specs.Background.{Rests}
+use Rattle.redis_core.specs.Background.{EngineRests}
 use Rattle.redis_core.specs.Engines.{Executes, quits}
 use Rattle.redis_core.specs.declared.background.StepsDone.{StepsDone}
 use Rattle.serving.specs.Path.{path, CutPath}
@@ -28,15 +28,15 @@ standing_of timed = record { world = world_of timed.engine; last = timed.engine.
 
 -- the work of a plan, whatever comes of it
 abbrev pub works : ℕ → Plan → Engine → Engine → Type 0
-works moment plan old new = (done : StepsDone) × Rests heap_blocks heap_slabs IsClassHeapStep moment plan old new done
+works moment plan old new = (done : StepsDone) × EngineRests heap_blocks heap_slabs IsClassHeapStep moment plan old new done
 
 -- a request is answered at the moment that the clock tells, and then what the pacers plan is done
 abbrev pub Steps : Timed Engine → Words → List Part → Timed Engine → Type 0
-Steps = TimedStep (Executes heap_blocks IsClassHeapStep) works quits
+Steps = TimedStep (Executes heap_blocks heap_slabs IsClassHeapStep) works quits
 
 -- a request is answered, and nothing comes after it
 abbrev pub StepsLast : Timed Engine → Words → List Part → Timed Engine → Type 0
-StepsLast = TimedCut (Executes heap_blocks IsClassHeapStep) works quits
+StepsLast = TimedCut (Executes heap_blocks heap_slabs IsClassHeapStep) works quits
 
 -- The run begins with an engine that holds the world and has the seed and the limits, sound over a store that was served from the first
 -- block on. Each pacer was tuned to the effort.

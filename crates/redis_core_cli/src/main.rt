@@ -11,6 +11,8 @@ mod loading_tests;
 mod notes;
 #[cfg(test)]
 mod plan_tests;
+#[cfg(test)]
+mod slab_tests;
 mod starting;
 #[cfg(test)]
 mod string_tests;

@@ -1,7 +1,7 @@
 //! A run with planned work between its requests answers as the same run without.
 
-use crate::top_call::redis_core;
-use outside::{Clock, ListClock, ListPacer, MemHost, MemSink, MemSource, Pacer, Plan};
+use crate::test_runs::run_planned;
+use outside::{MemSink, Plan};
 use std::alloc::{AllocError, Global};
 use std::test::Fail;
 
@@ -37,29 +37,7 @@ fn answered(alloc: Global, stream: &[u8], steps: u32) -> Result<MemSink, AllocEr
         })?;
         moments.push(number)?;
     }
-    let pacer: Box<dyn Pacer> = Box::new(alloc, ListPacer::new(plans))?;
-    let mut pacers = Vec::new(alloc);
-    pacers.push(pacer)?;
-    let mut host = MemHost::new(Vec::new(alloc), Vec::new(alloc), Vec::new(alloc));
-    let mut input = MemSource::new(
-        Vec::from_slice(alloc, stream)?,
-        Vec::new(alloc),
-        Vec::new(alloc),
-    );
-    let mut output = MemSink::new(vec![in alloc; 0u8; 100_000]?, Vec::new(alloc));
-    let mut notes = MemSink::new(vec![in alloc; 0u8; 100]?, Vec::new(alloc));
-    let mut clock: Box<dyn Clock> = Box::new(alloc, ListClock::new(moments))?;
-    redis_core(
-        alloc,
-        &[],
-        &mut host,
-        &mut input,
-        &mut output,
-        &mut notes,
-        &mut clock,
-        pacers,
-    );
-    Ok(output)
+    run_planned(alloc, stream, plans, moments)
 }
 
 #[test]
