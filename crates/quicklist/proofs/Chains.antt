@@ -79,7 +79,7 @@ part k count nodes = take count (drop k nodes)
 part_one : (nodes : List Node) (k : ℕ) (node : Node) → k < length nodes → node ≡ get_or nodes k node → part k 1 nodes ≡ node ∷ []
 part_one nodes k node h is = ap (take 1) (drop_more nodes k node h) ∙ ap (λ (n : Node). n ∷ []) (sym is)
 
--- a node was taken out and its block given back
+-- the block of a node was given back
 pub one_ended : (m n : Blocks) (nodes : List Node) (k : ℕ) (node : Node) → k < length nodes → node ≡ get_or nodes k node → IsSome (m node.at) → n ≡ with_block m node.at None
     → Changes m n (refs_of (part k 1 nodes)) []
 one_ended m n nodes k node h is was gone =
@@ -103,39 +103,24 @@ times_cut r nodes k count =
 Owned-part : (m : Blocks) (nodes : List Node) (k count : ℕ) → Owned (refs_of nodes) m → Owned (refs_of (part k count nodes)) m
 Owned-part m nodes k count own r = omega (arith, own r, times_cut r nodes k count)
 
--- what is left of the nodes owns its blocks
-pub left_owned : (m mid : Blocks) (nodes : List Node) (k count : ℕ) → Owned (refs_of nodes) m → Changes m mid (refs_of (part k count nodes)) [] → Owned (refs_of (remove_range nodes k (k + count))) mid
-left_owned m mid nodes k count own p r =
-    let b = (Counts-changed m mid (refs_of (part k count nodes)) [] (Owned-part m nodes k count own) p).balance r in
-    omega (arith, own r, b, times_cut r nodes k count, times-refs r (take k nodes) (drop (k + count) nodes))
+-- the block of the next node behind those that ended is live
+pub next_live : (m mid : Blocks) (nodes : List Node) (k i : ℕ) (node : Node) → k + i < length nodes → node ≡ get_or nodes (k + i) node → Owned (refs_of nodes) m → Changes m mid (refs_of (part k i nodes)) []
+    → IsSome (mid node.at)
+next_live m mid nodes k i node h is own p =
+    let b = (Counts-changed m mid (refs_of (part k i nodes)) [] (Owned-part m nodes k i own) p).balance node.at in
+    let rest = ap (λ (xs : List Node). times node.at (refs_of xs)) (drop_more nodes (k + i) node h ∙ ap (λ (n : Node). n ∷ drop (k + i + 1) nodes) (sym is)) in
+    live-is mid node.at (omega (arith, own node.at, b, times_cut node.at nodes k i, rest, one_self node.at))
 
--- the next node behind those that were taken out
-next_part : (nodes : List Node) (k i : ℕ) → k ≤ length nodes → part k 1 (remove_range nodes k (k + i)) ≡ part (k + i) 1 nodes
-next_part nodes k i h = ap (take 1) (drop_at (take k nodes) (drop (k + i) nodes) k (length-take-le k nodes h))
-
+-- one node more ended
 more_part : (nodes : List Node) (k i : ℕ) → part k (i + 1) nodes ≡ part k i nodes ++ part (k + i) 1 nodes
 more_part nodes k i = take-add i 1 (drop k nodes) ∙ ap (λ (xs : List Node). part k i nodes ++ take 1 xs) (drop-drop i k nodes)
 
-pub more_ended : (m mid n : Blocks) (nodes left : List Node) (k i : ℕ) → k ≤ length nodes → Owned (refs_of nodes) m → left ≡ remove_range nodes k (k + i) → Changes m mid (refs_of (part k i nodes)) []
-    → Changes mid n (refs_of (part k 1 left)) [] → Changes m n (refs_of (part k (i + 1) nodes)) []
-more_ended m mid n nodes left k i h own is p q =
-    let here' : part k 1 left ≡ part (k + i) 1 nodes = ap (part k 1) is ∙ next_part nodes k i h in
-    let second : Changes mid n (refs_of (part (k + i) 1 nodes)) [] = subst (λ (xs : List Node). Changes mid n (refs_of xs) []) here' q in
+pub more_ended : (m mid n : Blocks) (nodes : List Node) (k i : ℕ) → Owned (refs_of nodes) m → Changes m mid (refs_of (part k i nodes)) [] → Changes mid n (refs_of (part (k + i) 1 nodes)) []
+    → Changes m n (refs_of (part k (i + 1) nodes)) []
+more_ended m mid n nodes k i own p q =
     let whole : refs_of (part k (i + 1) nodes) ≡ refs_of (part k i nodes) ++ refs_of (part (k + i) 1 nodes) = ap refs_of (more_part nodes k i) ∙ refs-append (part k i nodes) (part (k + i) 1 nodes) in
     let both : Owned (refs_of (part k i nodes) ++ refs_of (part (k + i) 1 nodes)) m = subst (λ (xs : List BlockRef). Owned xs m) whole (Owned-part m nodes k (i + 1) own) in
-    subst (λ (xs : List BlockRef). Changes m n xs []) (sym whole) (Changes-both m mid n (refs_of (part k i nodes)) [] (refs_of (part (k + i) 1 nodes)) [] both p second)
-
--- one node fewer, counted from the front
-pub one_fewer_node : (nodes left after : List Node) (k i : ℕ) → k ≤ length nodes → left ≡ remove_range nodes k (k + i) → after ≡ remove_range left k (k + 1) → after ≡ remove_range nodes k (k + (i + 1))
-one_fewer_node nodes left after k i h is gone =
-    let front : take k left ≡ take k nodes = ap (take k) is ∙ take_at (take k nodes) (drop (k + i) nodes) k (length-take-le k nodes h) in
-    let back : drop (k + 1) left ≡ drop (k + (i + 1)) nodes =
-    sym (drop-drop 1 k left) ∙ ap (drop 1) (ap (drop k) is ∙ drop_at (take k nodes) (drop (k + i) nodes) k (length-take-le k nodes h)) ∙ drop-drop 1 (k + i) nodes
-    ∙ (let e : k + i + 1 ≡ k + (i + 1) = omega arith in ap (λ (j : ℕ). drop j nodes) e) in
-    gone ∙ ap (λ (xs : List Node). xs ++ drop (k + 1) left) front ∙ ap (λ (xs : List Node). take k nodes ++ xs) back
-
-pub none_out : (nodes : List Node) (k : ℕ) → nodes ≡ remove_range nodes k (k + 0)
-none_out nodes k = let e : k ≡ k + 0 = omega arith in sym (take-append-drop k nodes) ∙ ap (λ (j : ℕ). take k nodes ++ drop j nodes) e
+    subst (λ (xs : List BlockRef). Changes m n xs []) (sym whole) (Changes-both m mid n (refs_of (part k i nodes)) [] (refs_of (part (k + i) 1 nodes)) [] both p q)
 
 -- no block changed
 pub all_same : (m n : Blocks) → Changes m n [] [] → n ≡ m

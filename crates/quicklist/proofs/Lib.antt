@@ -1,8 +1,11 @@
 pub mod Chains
+pub mod Clearings
+pub mod Going
 pub mod Cursors
 pub mod Depends
 pub mod Elements
 pub mod Moving
 pub mod Places
+pub mod Rebuilding
 pub mod Rising
 pub mod Written

@@ -35,7 +35,7 @@ piece_for-is m node is = record { is_held = is.is_held; counted = is.counted; so
 pub placed_same : (m mid : Blocks) (nodes fresh : List Node) (pieces : List Piece) → Owned (refs_of nodes) m → Placed m mid pieces fresh → Same m mid nodes
 placed_same m mid nodes fresh pieces own p r isin = Owned-others m mid [] (refs_of fresh) (refs_of nodes) own p.changes r isin refl
 
-in_refs : (nodes : List Node) (k : ℕ) (node : Node) → k < length nodes → node ≡ get_or nodes k node → IsIn node.at (refs_of nodes)
+pub in_refs : (nodes : List Node) (k : ℕ) (node : Node) → k < length nodes → node ≡ get_or nodes k node → IsIn node.at (refs_of nodes)
 in_refs nodes k node h is =
     omega (arith, ap (λ (xs : List Node). times node.at (refs_of xs)) (cut_at nodes k node h is), times-refs node.at (take k nodes) (node ∷ drop (k + 1) nodes), one_self node.at)
 

@@ -7,7 +7,7 @@ use Rattle.std.proofs.lemmas.Bool.Decides.{nat_tests}
 use Rattle.std.proofs.lemmas.Grind.{common_steps}
 use Rattle.std.proofs.lemmas.List.{take-append-drop, take-map, drop-map, map-append, map-set, set_split, take_all}
 use Rattle.std.proofs.lemmas.List.Concat.{flat_map-append}
-use Rattle.listpack.specs.Entry.{back_length}
+use Rattle.listpack.specs.Entry.{back_length, text_of}
 use Rattle.listpack.specs.Pack.{entries, IsPack, texts, spellings_of}
 use Rattle.listpack.specs.Writing.{spelling, entry}
 use Rattle.listpack.specs.Edits.{IsEdited}
@@ -95,6 +95,20 @@ joined_is old new text i count p room e is =
     let written : IsEdited new (map spelling (insert (texts old) i text)) count = subst (λ (ss : List (List ℕ)). IsEdited new ss count) (ap (λ (ss : List (List ℕ)). insert ss i (spelling text)) p.written ∙ insert-map (texts old) i text) e in
     edited_written new (insert (texts old) i text) count written is
     (omega (arith, edited_len new (insert (texts old) i text) count written is, pack_len-insert (texts old) i text, packed_len old p, room))
+
+-- behind all others
+pub appended_is : (old new text : List ℕ) (count : ℕ) → IsPacked old → length old + length (entry text) ≤ 8192 → IsEdited new (spellings_of old ++ spelling text ∷ []) count → texts new ≡ texts old ++ text ∷ [] → IsPacked new
+appended_is old new text count p room e is =
+    let written : IsEdited new (map spelling (texts old ++ text ∷ [])) count =
+    subst (λ (ss : List (List ℕ)). IsEdited new ss count) (ap (λ (ss : List (List ℕ)). ss ++ spelling text ∷ []) p.written ∙ sym (map-append spelling (texts old) (text ∷ []))) e in
+    edited_written new (texts old ++ text ∷ []) count written is
+    (omega (arith, edited_len new (texts old ++ text ∷ []) count written is, pack_len-append (texts old) (text ∷ []), alone_len text, packed_len old p, room))
+
+-- an empty one
+pub empty_is : (new : List ℕ) → IsEdited new [] 0 → IsPacked new × (texts new ≡ [])
+empty_is new e =
+    let none : texts new ≡ [] = ap (map text_of) e.entries in
+    (edited_written new [] 0 e none (omega (arith, edited_len new [] 0 e none)), none)
 
 -- with one in the place of another
 pub replaced_len : (old new text : List ℕ) (i count : ℕ) → IsPacked old → IsEdited new (set (spellings_of old) i (spelling text)) count

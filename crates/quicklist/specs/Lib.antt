@@ -1,4 +1,5 @@
 pub mod Nodes
 pub mod Chain
 pub mod Cursor
+pub mod Equal
 pub mod Laws

@@ -1,6 +1,6 @@
 // Nodes that take the place of others.
 
-ghost use Rattle.std.specs.Prelude.{◌≡◌, ◌+◌, ◌<◌, ◌≤◌, ◌++◌, ◌∷◌, [], length, take, drop, OnOk, OnErr, if◌then◌else◌};
+ghost use Rattle.std.specs.Prelude.{◌≡◌, ◌+◌, ◌<◌, ◌≤◌, ◌++◌, ◌∷◌, [], length, take, drop, OnOk, OnErr};
 ghost use Rattle.std.specs.List.{All, remove_range};
 ghost use Rattle.blocks.specs.Blocks.{Served, Changes, Owned};
 ghost use Rattle.std.specs.VecDeque.{deque_len, deque_capacity};
@@ -26,22 +26,19 @@ fn insert_node(nodes: &mut VecDeque<Node>, k: usize, node: Node)
     }
 }
 
-// Takes a node out, and gives its block back.
-fn end_node<B: BlockStore>(store: &mut B, nodes: &mut VecDeque<Node>, k: usize)
-    requires index { k < length nodes.old.items }
-    requires owned { Owned (refs_of nodes.old.items) (B.blocks store.old) }
-    ensures items { nodes.new.items ≡ remove_range nodes.old.items k (k + 1) }
-    ensures capacity { deque_capacity nodes.new ≡ deque_capacity nodes.old }
-    ensures changes { Changes (B.blocks store.old) (B.blocks store.new) (refs_of (take 1 (drop k nodes.old.items))) [] }
-    ensures step { B.step store.old store.new }
+// Gives back the blocks of so many nodes from the node k on.
+fn give_back_nodes<B: BlockStore>(store: &mut B, nodes: &VecDeque<Node>, k: usize, count: usize)
+    requires inside { k + count ≤ length nodes.now.items }
+    requires owned { Owned (refs_of nodes.now.items) (B.blocks store.old) }
+    ensures changes { Changes (B.blocks store.old) (B.blocks store.new) (refs_of (take count (drop k nodes.now.items))) [] }
+    ensures served { Served B.step store.old store.new }
 {
-    match nodes.remove(k) {
-        Some(node) => store.give_back(node.at),
-        None => unreachable!(),
+    for i in 0..count {
+        store.give_back(nodes[k + i].at);
     }
 }
 
-// Takes out so many nodes from the node k on, and gives their blocks back.
+// Takes out so many nodes from the node k on, and gives their blocks back. They leave together, so that the others do not move anew for each.
 pub(crate) fn end_nodes<B: BlockStore>(
     store: &mut B,
     nodes: &mut VecDeque<Node>,
@@ -55,9 +52,8 @@ pub(crate) fn end_nodes<B: BlockStore>(
     ensures changes { Changes (B.blocks store.old) (B.blocks store.new) (refs_of (take count (drop k nodes.old.items))) [] }
     ensures served { Served B.step store.old store.new }
 {
-    for _ in 0..count {
-        end_node(store, nodes, k);
-    }
+    give_back_nodes(store, nodes, k, count);
+    drop(nodes.drain(k..k + count));
 }
 
 // Places nodes of these pieces before the node k. `Memory` leaves all as before.

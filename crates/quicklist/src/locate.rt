@@ -1,6 +1,6 @@
 // Where an index stands.
 
-ghost use Rattle.std.specs.Prelude.{◌≡◌, ◌+◌, ◌<◌, ◌^◌, take, length, sum_by};
+ghost use Rattle.std.specs.Prelude.{◌≡◌, ◌+◌, ◌<◌, ◌^◌, Some, IsSome, take, length, sum_by};
 ghost use Rattle.quicklist.specs.Nodes.{IsPlace, count_of};
 
 use crate::node::Node;
@@ -35,6 +35,17 @@ fn find_from_back(nodes: &VecDeque<Node>, index: usize, len: usize) -> (usize, u
         }
     }
     unreachable!()
+}
+
+/// The place that there is.
+pub(crate) fn there<T: Copy>(place: Option<T>) -> T
+    requires { IsSome place }
+    ensures { place ≡ Some result }
+{
+    match place {
+        Some(found) => found,
+        None => unreachable!(),
+    }
 }
 
 /// The node in which the element at an index stands, and the element's index in it. The search begins at the nearer end.

@@ -1,10 +1,8 @@
 // Expected answers are those of the Redis command reference of lists (LINSERT, LSET, LINDEX, LREM, LTRIM, OBJECT ENCODING), and those
 // of a plain vector under the same edits.
 
-use crate::{Container, Memory, Quick, quick_laws};
+use crate::{Container, End, Memory, Node, Quick, is_text, quick_laws};
 use blocks::{Moved, PlainStore};
-use itoa::Buffer;
-use listpack::Element;
 use object_codec::Form;
 use std::alloc::Global;
 use std::marker::Model;
@@ -27,14 +25,6 @@ impl Model for Held {
     ghost view = { λ held. 0 };
 
     ghost invariant = { λ held. IsQuick (plain_blocks held.store) held.quick };
-}
-
-// Whether an element has this text.
-fn is_text(element: Element<'_>, text: &[u8]) -> bool {
-    match element {
-        Element::Text(part) => part == text,
-        Element::Number(n) => Buffer::new().format(n).as_bytes() == text,
-    }
 }
 
 impl Held {
@@ -75,6 +65,36 @@ impl Held {
             self.quick.remove_range(&mut self.store, from, to)?;
         }
         Ok(())
+    }
+
+    fn remove_equal(&mut self, text: &[u8], end: End, wanted: usize) -> Result<usize, Memory> {
+        self.quick.remove_equal(&mut self.store, text, end, wanted)
+    }
+
+    fn node(&self, k: usize) -> Option<Node> {
+        if k < self.quick.nodes.len() {
+            Some(self.quick.nodes[k])
+        } else {
+            None
+        }
+    }
+
+    // Puts each of these words behind all others.
+    fn extend(&mut self, words: &[&[u8]]) -> Result<(), Memory> {
+        for word in words {
+            self.insert(self.len(), word)?;
+        }
+        Ok(())
+    }
+
+    // Whether these words are the elements.
+    fn holds(&self, words: &[&[u8]]) -> bool {
+        for (index, word) in words.iter().enumerate() {
+            if !self.is_at(index, word) {
+                return false;
+            }
+        }
+        self.len() == words.len()
     }
 
     fn is_at(&self, index: usize, text: &[u8]) -> bool {
@@ -227,6 +247,123 @@ fn blocks_are_passed_by_marks(rt: HostRuntime) -> Result<(), Fail> {
     Ok(())
 }
 
+// What LREM answers and leaves: the words, the text, the end, the wanted number, how many go, and the words that are left. The
+// second row is the command reference's own.
+const REMOVALS: [(&[&[u8]], &[u8], End, usize, usize, &[&[u8]]); 10] = [
+    (
+        &[b"a", b"b", b"a", b"c", b"a"],
+        b"a",
+        End::Head,
+        2,
+        2,
+        &[b"b", b"c", b"a"],
+    ),
+    (
+        &[b"hello", b"hello", b"foo", b"hello"],
+        b"hello",
+        End::Tail,
+        2,
+        2,
+        &[b"hello", b"foo"],
+    ),
+    (
+        &[b"a", b"b", b"a", b"c", b"a"],
+        b"a",
+        End::Head,
+        0,
+        3,
+        &[b"b", b"c"],
+    ),
+    (&[b"a", b"b"], b"x", End::Head, 0, 0, &[b"a", b"b"]),
+    (&[b"a", b"b", b"a"], b"a", End::Head, 9, 2, &[b"b"]),
+    (&[b"a", b"b", b"a"], b"a", End::Tail, 9, 2, &[b"b"]),
+    (
+        &[b"12", b"012", b"12", b"+12", b"12"],
+        b"12",
+        End::Head,
+        2,
+        2,
+        &[b"012", b"+12", b"12"],
+    ),
+    (
+        &[b"12", b"012", b"-12"],
+        b"012",
+        End::Tail,
+        1,
+        1,
+        &[b"12", b"-12"],
+    ),
+    (&[b"-7", b"-7"], b"-7", End::Tail, 0, 2, &[]),
+    (&[], b"", End::Tail, 1, 0, &[]),
+];
+
+#[test]
+fn equal_elements_go(rt: HostRuntime) -> Result<(), Fail> {
+    for (words, text, end, wanted, many, left) in REMOVALS {
+        let mut held = Held::new(rt.alloc());
+        held.extend(words)?;
+        assert_eq!(rt; held.remove_equal(text, end, wanted)?, many);
+        assert!(rt; held.holds(left));
+        held.release();
+    }
+    Ok(())
+}
+
+// Nodes: a plain one, one of two elements, a plain one, one of two elements, a plain one.
+#[test]
+fn other_nodes_stay(rt: HostRuntime) -> Result<(), Fail> {
+    let long = [b'x'; 9000];
+    let mut held = Held::new(rt.alloc());
+    held.extend(&[&long, b"1", b"2", &long, b"2", b"3", &long])?;
+    assert_eq!(rt; held.quick.nodes(), 5);
+    let (second, last) = (held.node(1), held.node(4));
+    assert_eq!(rt; held.remove_equal(b"2", End::Tail, 1)?, 1);
+    assert!(rt; second.is_some() && held.node(1) == second && held.node(4) == last);
+    assert!(rt; held.holds(&[&long, b"1", b"2", &long, b"3", &long]));
+    assert_eq!(rt; held.quick.nodes(), 5);
+    assert_eq!(rt; held.remove_equal(&long, End::Head, 2)?, 2);
+    assert!(rt; held.holds(&[b"1", b"2", b"3", &long]));
+    assert_eq!(rt; held.quick.nodes(), 3);
+    assert_eq!(rt; held.remove_equal(b"3", End::Head, 0)?, 1);
+    assert_eq!(rt; held.quick.nodes(), 2);
+    assert_eq!(rt; held.remove_equal(&long, End::Tail, 7)?, 1);
+    assert!(rt; held.holds(&[b"1", b"2"]));
+    assert_eq!(rt; held.quick.form(), Form::Quicklist);
+    assert_eq!(rt; held.remove_equal(b"1", End::Tail, 0)?, 1);
+    assert_eq!(rt; held.remove_equal(b"2", End::Head, 0)?, 1);
+    assert_eq!(rt; held.quick.nodes(), 0);
+    held.release();
+    Ok(())
+}
+
+// These lengths without the first `wanted` ones from an end on that are `len`, or without all of them where 0 are wanted.
+fn without(
+    alloc: Global,
+    lens: &[usize],
+    len: usize,
+    end: End,
+    wanted: usize,
+) -> Result<Vec<usize>, Memory> {
+    let total = lens.iter().filter(|other| **other == len).count();
+    let many = if wanted == 0 { total } else { wanted };
+    let first = match end {
+        End::Head => 0,
+        End::Tail => total.saturating_sub(many),
+    };
+    let mut left = Vec::new(alloc);
+    let mut ordinal: usize = 0;
+    for other in lens {
+        let is_equal = *other == len;
+        if !is_equal || ordinal < first || ordinal - first >= many {
+            left.push(*other)?;
+        }
+        if is_equal {
+            ordinal = ordinal.saturating_add(1);
+        }
+    }
+    Ok(left)
+}
+
 // The lengths of a list's elements beside the list.
 #[derive(Drop)]
 struct Twin {
@@ -260,6 +397,21 @@ impl Twin {
         self.held.remove_range(at, to)
     }
 
+    // Takes out elements of these bytes, and tells whether as many went of both.
+    fn remove_equal(
+        &mut self,
+        alloc: Global,
+        text: &[u8],
+        end: End,
+        wanted: usize,
+    ) -> Result<bool, Memory> {
+        let left = without(alloc, &self.lens, text.len(), end, wanted)?;
+        let many = self.held.remove_equal(text, end, wanted)?;
+        let before = self.lens.len();
+        self.lens = left;
+        Ok(before.saturating_sub(self.lens.len()) == many)
+    }
+
     fn agrees(&self, filler: &[u8]) -> bool {
         for (index, len) in self.lens.iter().enumerate() {
             if *len > filler.len() || !self.held.is_between(index, &filler[..*len]) {
@@ -285,6 +437,38 @@ fn edits_agree_with_a_vector(rt: HostRuntime) -> Result<(), Fail> {
         let len = (seed >> 16) as usize % most;
         twin.edit(kind, (seed >> 7) as usize, &filler[..len])?;
         if round % 50 == 49 {
+            assert!(rt; twin.agrees(&filler));
+        }
+    }
+    assert!(rt; twin.agrees(&filler));
+    Ok(())
+}
+
+// Elements of six texts, of which two are numbers and one is longer than a node, so that most stand in a list several times.
+#[test]
+fn removals_agree_with_a_vector(rt: HostRuntime) -> Result<(), Fail> {
+    let lens = [1, 2, 40, 700, 1500, 9000];
+    let filler = [b'7'; 9000];
+    let mut twin = Twin {
+        held: Held::new(rt.alloc()),
+        lens: Vec::new(rt.alloc()),
+    };
+    let mut seed: u32 = 11;
+    for round in 0..600 {
+        seed = seed.wrapping_mul(1664525).wrapping_add(1013904223);
+        let text = &filler[..lens[(seed >> 16) as usize % 6]];
+        let end = if seed >> 14 & 1 == 0 {
+            End::Head
+        } else {
+            End::Tail
+        };
+        if round % 8 == 7 {
+            let wanted = (seed >> 10 & 3) as usize;
+            assert!(rt; twin.remove_equal(rt.alloc(), text, end, wanted)?);
+        } else {
+            twin.edit(0, (seed >> 7) as usize, text)?;
+        }
+        if round % 40 == 39 {
             assert!(rt; twin.agrees(&filler));
         }
     }
