@@ -1,7 +1,7 @@
 -- A tower joins or leaves a row.
-use Rattle.std.proofs.Common.{◌≡◌, ◌≢◌, ℕ, zero, suc, ◌+◌, ◌<◌, ◌≤◌, Bool, true, false, List, [], ◌∷◌, ◌++◌, length, refl, sym, ap, ◌∙◌, subst, arith, ◌⊎◌, inl, inr}
-use Rattle.score_list.specs.Rows.{IsRow, Reaches, Stands, Lacks, IsDistinct, AllTall, Hung, Unhung}
-use Rattle.score_list.proofs.Moved.{decide, never, Same, moved, lacks_back, distinct_back, reached_other, beyond}
+use Rattle.std.proofs.Common.{◌≡◌, ◌≢◌, ℕ, suc, Bool, List, [], ◌∷◌, ◌++◌, refl, sym, ap, ◌∙◌, subst, arith, inl, inr}
+use Rattle.score_list.specs.Rows.{IsRow, Reaches, Lacks, IsDistinct, Hung, Unhung}
+use Rattle.score_list.proofs.Moved.{decide, never, Same, moved, reached_other}
 
 module _ (tall : ℕ → Bool) (next span next' span' : ℕ → ℕ) where
   same_behind : (x o left : ℕ) (ks : List ℕ) → ((p : ℕ) → p ≢ o → p ≢ suc x → (next' p ≡ next p) × (span' p ≡ span p)) → Lacks o ks → Lacks (suc x) ks → Same tall next span tall next' span' ks

@@ -1,12 +1,12 @@
 -- What the edits of links and towers make of the order.
-use Rattle.std.proofs.Common.{◌≡◌, ◌≢◌, ℕ, zero, suc, ◌+◌, ◌-◌, ◌<◌, ◌≤◌, ◌^◌, Bool, true, false, nat_lt, List, [], ◌∷◌, ◌++◌, IsSome, length, take, drop, get_or, set, map, Option, Some, None, refl, sym, ap, ◌∙◌, subst, length-append, length-take-le, length-drop, drop-cons, ltb-true, ltb-false, lt-ltb, arith, ◌⊎◌, inl, inr}
+use Rattle.std.proofs.Common.{◌≡◌, ◌≢◌, ℕ, zero, suc, ◌+◌, ◌<◌, ◌^◌, Bool, true, nat_lt, List, [], ◌∷◌, ◌++◌, IsSome, length, take, drop, get_or, map, Option, Some, None, refl, sym, ap, ◌∙◌, subst, length-append, ltb-true, arith}
 use Rattle.std.proofs.lemmas.List.{take-append-drop, map-append, take-map, drop-map}
 use Rattle.slab.specs.Slab.{get}
 use Rattle.score_list.specs.declared.towers.Link.{Link}
 use Rattle.score_list.specs.declared.towers.Tower.{Tower}
 use Rattle.score_list.specs.declared.towers.Towers.{Towers}
-use Rattle.score_list.specs.Rows.{IsRow, Reaches, Stands, Lacks, IsDistinct, AllTall}
-use Rattle.score_list.specs.Linked.{Element, no_link, links_of, links_at, link_at, next_at, span_at, height_at, element_of, element_at, tall, chain, order, items, IsLevel, LinkedAs, IsLinked, Keeps, Threads, Unthreads, Adds, with_at, without_at}
+use Rattle.score_list.specs.Rows.{Lacks, IsDistinct, AllTall}
+use Rattle.score_list.specs.Linked.{Element, no_link, links_of, next_at, span_at, element_of, element_at, tall, order, items, IsLevel, LinkedAs, IsLinked, Threads, Unthreads, Adds, with_at, without_at}
 use Rattle.score_list.proofs.Moved.{never, Same, moved}
 use Rattle.score_list.proofs.Threading.{order_is, all_kept, at_rank}
 

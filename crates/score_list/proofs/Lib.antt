@@ -7,3 +7,4 @@ pub mod Joins
 pub mod Searching
 pub mod Sortings
 pub mod Renaming
+pub mod Walks

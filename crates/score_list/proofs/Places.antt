@@ -1,10 +1,10 @@
 -- Where an owner stands, and the list that the links make.
-use Rattle.std.proofs.Common.{◌≡◌, ◌≢◌, ℕ, zero, suc, ◌+◌, ◌-◌, ◌<◌, ◌≤◌, Bool, true, false, List, [], ◌∷◌, ◌++◌, length, take, drop, get_or, set, Option, Some, None, refl, sym, ap, ◌∙◌, subst, append_assoc, length-append, length-take-le, arith, ◌⊎◌, inl, inr}
+use Rattle.std.proofs.Common.{◌≡◌, ◌≢◌, ℕ, zero, suc, ◌+◌, ◌<◌, ◌≤◌, Bool, true, List, [], ◌∷◌, ◌++◌, length, take, drop, get_or, Option, Some, None, refl, sym, ap, ◌∙◌, subst, append_assoc, arith, ◌⊎◌, inl, inr}
 use Rattle.std.proofs.lemmas.List.{take-append-drop}
-use Rattle.score_list.specs.Rows.{IsRow, Reaches, Stands, Lacks, IsDistinct, AllTall}
+use Rattle.score_list.specs.Rows.{IsRow, Reaches, Stands, AllTall}
 use Rattle.score_list.specs.Rows.Stands.{at_head, at_tower}
 use Rattle.score_list.specs.Linked.{chain}
-use Rattle.score_list.proofs.Moved.{decide, never, stands_row, stands_reach, Ahead, ahead, stays, beyond}
+use Rattle.score_list.proofs.Moved.{never, stands_row, stands_reach, ahead, stays, beyond}
 
 pub apart : (a b : ℕ) → (a ≡ b) ⊎ (a ≢ b)
 apart zero zero = inl refl

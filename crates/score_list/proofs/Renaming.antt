@@ -1,16 +1,16 @@
 -- A tower's member is named by another block.
-use Rattle.std.proofs.Common.{◌≡◌, ◌≢◌, ℕ, zero, suc, ◌+◌, ◌<◌, ℤ, Bool, true, false, List, [], ◌∷◌, length, get_or, set, map, Option, Some, None, refl, sym, ap, ◌∙◌, subst, arith, ◌⊎◌, inl, inr}
+use Rattle.std.proofs.Common.{◌≡◌, ◌≢◌, ℕ, zero, suc, ◌<◌, ℤ, List, [], ◌∷◌, length, get_or, map, Option, Some, None, IsSome, unwrap_or, refl, sym, ap, ◌∙◌, subst, arith, inl, inr}
 use Rattle.std.proofs.Math.Path.{fun_ext}
 use Rattle.std.proofs.lemmas.List.{get_or-set_other, get_or-set_same}
-use Rattle.std.specs.Ordering.{int_cmp, is_gt}
 use Rattle.slab.specs.Slab.{get, with_value}
 use Rattle.blocks.specs.declared.BlockRef.{BlockRef}
+use Rattle.blocks.specs.Blocks.{Blocks, bytes_at}
 use Rattle.score_list.specs.declared.towers.Link.{Link}
 use Rattle.score_list.specs.declared.towers.Tower.{Tower}
 use Rattle.score_list.specs.declared.towers.Towers.{Towers}
 use Rattle.score_list.specs.Rows.{Lacks, IsDistinct}
 use Rattle.score_list.specs.Linked.{Element, no_link, no_element, links_of, link_at, height_at, element_of, element_at, order, items, LinkedAs, IsLinked, renamed_at}
-use Rattle.score_list.specs.Sorted.{AllFrom, IsRising}
+use Rattle.score_list.specs.Sorted.{Key, key_of, key_cmp, AllBehind, IsSorted, Carries, AllFrom, IsRising}
 use Rattle.score_list.proofs.Places.{apart, there}
 use Rattle.score_list.proofs.Threading.{level_kept, all_kept}
 use Rattle.score_list.proofs.Joins.{ordered_as, linked_is}
@@ -88,3 +88,48 @@ pub rising_renamed : (xs : List Element) (rank : ℕ) (new : BlockRef) → IsRis
 rising_renamed [] rank new r = r
 rising_renamed (x ∷ xs) zero new r = r
 rising_renamed (x ∷ xs) (suc rank) new r = (from_renamed x.0 xs rank new r.0, rising_renamed xs rank new r.1)
+
+-- ---- over the store that has the bytes under the new reference
+
+module _ (before after : Blocks) where
+  -- the second list's elements have the scores and members of the first one's
+  abbrev pub Alike : List Element → List Element → Type 0
+  Alike [] [] = Unit {0}
+  Alike [] (y ∷ ys) = ⊥
+  Alike (x ∷ xs) [] = ⊥
+  Alike (x ∷ xs) (y ∷ ys) = (y.0 ≡ x.0) × (after y.1 ≡ before x.1) × Alike xs ys
+
+  keys_alike : (x y : Element) → y.0 ≡ x.0 → after y.1 ≡ before x.1 → key_of after y ≡ key_of before x
+  keys_alike x y s b = (let e : bytes_at after y.1 ≡ bytes_at before x.1 = ap (λ o. unwrap_or o []) b in cc)
+
+  behind_alike : (key : Key) (xs ys : List Element) → Alike xs ys → AllBehind before key xs → AllBehind after key ys
+  behind_alike key [] [] a b = tt
+  behind_alike key [] (y ∷ ys) a b = absurd a
+  behind_alike key (x ∷ xs) [] a b = absurd a
+  behind_alike key (x ∷ xs) (y ∷ ys) a b = (ap (key_cmp key) (keys_alike x y a.0 a.1) ∙ b.0, behind_alike key xs ys a.2 b.1)
+
+  pub sorted_alike : (xs ys : List Element) → Alike xs ys → IsSorted before xs → IsSorted after ys
+  sorted_alike [] [] a s = tt
+  sorted_alike [] (y ∷ ys) a s = absurd a
+  sorted_alike (x ∷ xs) [] a s = absurd a
+  sorted_alike (x ∷ xs) (y ∷ ys) a s = (
+    subst IsSome (sym a.1) s.0,
+    subst (λ k. AllBehind after k ys) (sym (keys_alike x y a.0 a.1)) (behind_alike (key_of before x) xs ys a.2 s.1),
+    sorted_alike xs ys a.2 s.2,
+  )
+
+  others_alike : (xs : List Element) → ((n : ℕ) → n < length xs → after (get_or xs n no_element).1 ≡ before (get_or xs n no_element).1) → Alike xs xs
+  others_alike [] same = tt
+  others_alike (x ∷ xs) same = (refl, same 0 (omega arith), others_alike xs (λ n lt. same (suc n) (omega (arith, lt))))
+
+  renamed_alike : (xs : List Element) (rank : ℕ) (new : BlockRef) → rank < length xs → Carries before after xs rank new → Alike xs (renamed_at xs rank new)
+  renamed_alike [] rank new lt c = absurd (omega (arith, lt))
+  renamed_alike (x ∷ xs) zero new lt c = (refl, c.moved, others_alike xs (λ n less. c.others (suc n) (omega (arith, less)) (λ e. absurd (omega (arith, e)))))
+  renamed_alike (x ∷ xs) (suc rank) new lt c = (
+    refl,
+    c.others 0 (omega arith) (λ e. absurd (omega (arith, e))),
+    renamed_alike xs rank new (omega (arith, lt)) (record { moved = c.moved; others = λ n less ne. c.others (suc n) (omega (arith, less)) (λ e. ne (omega (arith, e))) }),
+  )
+
+  pub sorted_renamed : (xs : List Element) (rank : ℕ) (new : BlockRef) → rank < length xs → Carries before after xs rank new → IsSorted before xs → IsSorted after (renamed_at xs rank new)
+  sorted_renamed xs rank new lt c s = sorted_alike xs (renamed_at xs rank new) (renamed_alike xs rank new lt c) s

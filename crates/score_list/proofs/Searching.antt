@@ -1,15 +1,15 @@
 -- The way down to the first element that a probe doesn't stand above.
-use Rattle.std.proofs.Common.{◌≡◌, ◌≢◌, ℕ, zero, suc, ◌+◌, ◌-◌, ◌<◌, ◌≤◌, Bool, true, false, List, [], ◌∷◌, ◌++◌, length, take, drop, get_or, map, count_by, cond, refl, sym, append_assoc, drop_of_length-le, ap, ◌∙◌, subst, length-append, length-take-le, drop-cons, ltb-true, ltb-false, nat_le, nat_lt, arith, ◌⊎◌, inl, inr}
+use Rattle.std.proofs.Common.{◌≡◌, ℕ, zero, suc, ◌+◌, ◌-◌, ◌<◌, ◌≤◌, Bool, true, false, List, [], ◌∷◌, ◌++◌, length, take, drop, get_or, map, count_by, cond, refl, sym, append_assoc, drop_of_length-le, ap, ◌∙◌, subst, length-take-le, drop-cons, ltb-true, ltb-false, nat_lt, arith, inl, inr}
 use Rattle.std.proofs.lemmas.List.{take-append-drop, take-map, drop-map}
-use Rattle.std.proofs.lemmas.List.Sums.{sum_by-cons, count_by-le-length}
+use Rattle.std.proofs.lemmas.List.Sums.{sum_by-cons}
 use Rattle.score_list.specs.declared.towers.Towers.{Towers}
 use Rattle.score_list.specs.Rows.{IsRow, Reaches, Stands, AllTall}
 use Rattle.score_list.specs.Rows.Stands.{at_head, at_tower}
-use Rattle.score_list.specs.Linked.{Element, links_at, next_at, span_at, height_at, element_at, tall, order, items, IsLevel, LinkedAs, IsLinked, StandsAt, Arrives}
+use Rattle.score_list.specs.Linked.{Element, links_at, next_at, span_at, height_at, tall, order, IsLevel, IsLinked, StandsAt, Arrives}
 use Rattle.score_list.specs.Sorted.{AllAre, IsParted, EachIs}
-use Rattle.score_list.proofs.Moved.{decide, never, Ahead, ahead, reach_stands, stands_below, all_next}
+use Rattle.score_list.proofs.Moved.{decide, never, ahead, reach_stands, stands_below, all_next}
 use Rattle.score_list.proofs.Threading.{lower, row_reached, reaches_of}
-use Rattle.score_list.proofs.Places.{row_at, on, arrived}
+use Rattle.score_list.proofs.Places.{row_at}
 
 module _ {X : Type 0} (f : X → Bool) where
   pub count_yes : (x : X) (xs : List X) → f x ≡ true → count_by f (x ∷ xs) ≡ suc (count_by f xs)

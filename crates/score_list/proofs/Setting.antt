@@ -1,13 +1,13 @@
 -- A link of one owner is set.
-use Rattle.std.proofs.Common.{◌≡◌, ◌≢◌, ℕ, zero, suc, ◌+◌, ◌-◌, ◌<◌, ◌≤◌, Bool, true, false, List, [], ◌∷◌, length, get_or, set, Option, Some, None, refl, sym, ap, ◌∙◌, subst, length-set, arith, ◌⊎◌, inl, inr}
+use Rattle.std.proofs.Common.{◌≡◌, ◌≢◌, ℕ, zero, suc, ◌<◌, length, get_or, set, Option, Some, None, refl, sym, ap, ◌∙◌, subst, length-set, inl, inr}
 use Rattle.std.proofs.Math.Path.{fun_ext}
 use Rattle.std.proofs.lemmas.List.{get_or-set_other, get_or-set_same}
 use Rattle.std.specs.Vec.{with_item}
-use Rattle.slab.specs.Slab.{Slab, get, with_value}
+use Rattle.slab.specs.Slab.{get, with_value}
 use Rattle.score_list.specs.declared.towers.Link.{Link}
 use Rattle.score_list.specs.declared.towers.Tower.{Tower}
 use Rattle.score_list.specs.declared.towers.Towers.{Towers}
-use Rattle.score_list.specs.Linked.{Element, no_link, links_of, links_at, link_at, height_at, element_of, element_at, Keeps, SetsLink}
+use Rattle.score_list.specs.Linked.{no_link, links_of, link_at, element_of, SetsLink}
 use Rattle.score_list.proofs.Places.{apart, there}
 
 other_head : (t : Towers) (level : ℕ) (link : Link) (l o : ℕ) → l ≢ level → link_at (record t { head = set t.head level link }) l o ≡ link_at t l o

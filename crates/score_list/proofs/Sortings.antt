@@ -1,5 +1,5 @@
 -- Sorted lists, and what an edit at a key's place makes of them.
-use Rattle.std.proofs.Common.{◌≡◌, ◌≢◌, ℕ, zero, suc, ◌+◌, ◌<◌, ◌≤◌, ℤ, Bool, true, false, int_lt, List, [], ◌∷◌, ◌++◌, length, take, drop, get_or, map, count_by, cond, Ordering, Less, Equal, Greater, Option, Some, None, Result, Ok, Err, OnOk, OnErr, ◌^◌, int_cmp, nat_cmp, is_lt, is_gt, IsSome, refl, sym, ap, ◌∙◌, subst, arith, ◌⊎◌, inl, inr}
+use Rattle.std.proofs.Common.{◌≡◌, ◌≢◌, ℕ, zero, suc, ◌+◌, ◌<◌, ℤ, Bool, true, false, int_lt, List, [], ◌∷◌, ◌++◌, length, take, drop, get_or, cond, Ordering, Less, Equal, Greater, Option, Some, None, Result, Ok, Err, OnOk, OnErr, ◌^◌, int_cmp, nat_cmp, is_lt, is_gt, IsSome, refl, sym, ap, ◌∙◌, subst, arith, inl, inr}
 use Rattle.std.specs.Ordering.{ordering_then, ordering_reverse}
 use Rattle.std.specs.Cmp.{IsTotalOrder}
 use Rattle.std.specs.Cmp.Lexicographic.{slice_cmp}
@@ -9,7 +9,7 @@ use Rattle.blocks.specs.declared.BlockRef.{BlockRef}
 use Rattle.blocks.specs.Blocks.{Blocks, bytes_at}
 use Rattle.score_list.specs.declared.towers.Towers.{Towers}
 use Rattle.std.proofs.lemmas.List.{get_or-map}
-use Rattle.score_list.specs.Linked.{Element, no_element, with_at, without_at, items, order, element_at, IsAt, IsLinked}
+use Rattle.score_list.specs.Linked.{Element, no_element, with_at, without_at, items, order, element_at, IsAt}
 use Rattle.score_list.specs.Sorted.{Key, key_of, key_cmp, AllBehind, IsSorted, Misses, is_below, place_of, HasAt, AllFrom, IsRising, AllAre, IsParted, EachIs, Located}
 use Rattle.score_list.proofs.Moved.{decide, never}
 use Rattle.score_list.proofs.Searching.{count_yes, count_out, length_of_map}

@@ -1,3 +1,4 @@
 pub mod Rows
 pub mod Linked
 pub mod Sorted
+pub mod Cursor

@@ -1,6 +1,6 @@
 -- One level of the towers: from which owner the links go where, and how many elements each passes. An owner is 0 for the
 -- head, or a tower's key plus one. A link is 0 where it ends the row.
-use Rattle.std.specs.Prelude.{◌≡◌, ◌≢◌, ℕ, zero, suc, ◌+◌, Bool, true, false, List, [], ◌∷◌, ◌++◌, ◌⊎◌}
+use Rattle.std.specs.Prelude.{◌≡◌, ◌≢◌, ℕ, suc, ◌+◌, Bool, true, false, List, [], ◌∷◌, ◌++◌, ◌⊎◌}
 
 -- an owner is none of these towers
 abbrev pub Lacks : ℕ → List ℕ → Type 0

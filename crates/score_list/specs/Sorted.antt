@@ -1,5 +1,5 @@
 -- The order of the elements: by score, then by the member's bytes in the blocks of a store.
-use Rattle.std.specs.Prelude.{◌≡◌, ◌≢◌, ℕ, ℤ, Bool, true, false, int_lt, List, [], ◌∷◌, ◌⊎◌, ◌+◌, ◌^◌, ◌<◌, Option, Some, None, IsSome, count_by, length, slice_index_or, slice_set, MatchBool, get_or}
+use Rattle.std.specs.Prelude.{◌≡◌, ◌≢◌, ℕ, ℤ, Bool, true, false, List, [], ◌∷◌, ◌⊎◌, ◌+◌, ◌^◌, ◌<◌, Some, IsSome, count_by, length, slice_index_or, MatchBool}
 use Rattle.std.specs.declared.cmp.Ordering.{Ordering}
 use Rattle.std.specs.declared.cmp.Ordering.TheVariants.{Less}
 use Rattle.std.specs.Ordering.{nat_cmp, int_cmp, ordering_then, is_lt, is_gt}
@@ -48,6 +48,11 @@ HasAt blocks key xs rank = (rank < length xs) × (key_of blocks (slice_index_or 
 -- the element with the key has left, or there was none
 abbrev pub Removes : Blocks → Key → List Element → Bool → List Element → Type 0
 Removes blocks key old removed new = MatchBool removed (HasAt blocks key old (place_of blocks key old) × (new ≡ without_at old (place_of blocks key old))) (Misses blocks key old × (new ≡ old))
+
+-- the second store holds the bytes of the member at the rank under the new reference, and those of the other members as the first does
+pub record Carries (before after : Blocks) (xs : List Element) (rank : ℕ) (new : BlockRef) : Type 0 where
+  pub moved : after new ≡ before (slice_index_or xs rank no_element).1
+  pub others : (n : ℕ) → n < length xs → n ≢ rank → after (slice_index_or xs n no_element).1 ≡ before (slice_index_or xs n no_element).1
 
 -- each score is at least this one
 abbrev pub AllFrom : ℤ → List Element → Type 0

@@ -1,6 +1,7 @@
 //! Lists of scores and members, sorted by score and then by the members' bytes.
 #![tactic(auto)]
 
+mod cursor;
 mod edits;
 mod probes;
 mod scores;
@@ -9,6 +10,7 @@ mod search;
 mod tests;
 mod towers;
 
+pub use cursor::Cursor;
 pub use scores::Scores;
 
 /// Want of memory.

@@ -1,11 +1,13 @@
 //! The list of scores and members.
 
-ghost use Rattle.std.specs.Prelude.{◌≡◌, ◌≢◌, ℕ, suc, ◌+◌, ◌<◌, ◌≤◌, length, List, [], Some, None, IfSome, IfNone, OnOk, OnErr, int_lt, count_by, slice_get, slice_set, slice_index_or, IsSome};
+ghost use Rattle.std.specs.Prelude.{◌≡◌, ◌≢◌, ℕ, suc, ◌+◌, ◌<◌, ◌≤◌, length, List, [], Some, None, IfSome, IfNone, MatchOption, OnOk, OnErr, int_lt, count_by, slice_get, slice_set, slice_index_or, IsSome};
 ghost use Rattle.blocks.specs.Blocks.{Blocks, bytes_at};
 ghost use Rattle.score_list.specs.Linked.{Element, no_element, with_at, without_at, renamed_at};
-ghost use Rattle.score_list.specs.Sorted.{IsSorted, Misses, place_of, HasAt, Removes, key_of};
+ghost use Rattle.score_list.specs.Sorted.{IsSorted, Misses, place_of, HasAt, Removes, Carries, key_of};
+ghost use Rattle.score_list.specs.Cursor.{IsCursor};
 
 use crate::Memory;
+use crate::cursor::Cursor;
 use crate::probes::{Least, Pair};
 use crate::towers::{LEVELS, Towers};
 use blocks::{BlockRef, BlockStore};
@@ -127,6 +129,21 @@ impl Scores {
         Some(self.towers.element(key))
     }
 
+    /// The cursor at a rank, from which a walk goes on by one link each. `None` comes exactly from the length on.
+    pub fn cursor(&self, rank: usize) -> Option<Cursor<'_>>
+        ensures { MatchOption result (length self.now ≤ rank) (λ cursor. IsCursor cursor self.now rank) }
+    {
+        if rank >= self.towers.len {
+            return None;
+        }
+        let key = self.towers.key_at(rank);
+        Some(Cursor {
+            towers: &self.towers,
+            rank,
+            key,
+        })
+    }
+
     /// How many scores are below this one: the rank of the first element with this score or a higher one.
     pub fn first_in_range(&self, least: i64) -> usize
         ensures { result ≡ count_by (λ e. int_lt e.0 least) self.now }
@@ -134,10 +151,12 @@ impl Scores {
         self.towers.find(&Least(least)).0
     }
 
-    /// Names the member at a rank by another block, which has the same bytes.
+    /// Names the member at a rank by another block, which has the same bytes. The list is sorted over any store that holds
+    /// them there and the other members as before.
     pub fn swap_ref(&mut self, rank: usize, new: BlockRef)
         requires { rank < length self.old }
-        ensures { self.new ≡ renamed_at self.old rank new }
+        ensures renamed { self.new ≡ renamed_at self.old rank new }
+        ensures sorted { (before after : Blocks) → IsSorted before self.old → Carries before after self.old rank new → IsSorted after self.new }
     {
         self.towers.set_member(rank, new);
     }

@@ -86,7 +86,8 @@ impl Towers {
     pub(crate) fn key_at(&self, rank: usize) -> usize
         requires linked { IsLinked self.now }
         requires rank { rank < length (order self.now) }
-        ensures { get_or (order self.now) rank 0 ≡ result }
+        ensures at { get_or (order self.now) rank 0 ≡ result }
+        ensures fits { result + 1 < 2 ^ 64 }
     {
         let mut place = START;
         let mut level = LEVELS;

@@ -81,6 +81,61 @@ fn compare(rt: &impl Abort, held: &Held, sorted: &[i64], score: i64) {
     assert_eq!(rt; held.rank(score), rank);
 }
 
+// A walk from a rank on meets just the scores from there, each at its rank.
+fn walk(rt: &impl Abort, scores: &Scores, sorted: &[i64], from: usize) {
+    let mut cursor = scores.cursor(from);
+    for (rank, score) in sorted.iter().enumerate().skip(from) {
+        cursor = match cursor {
+            None => None,
+            Some(at) => {
+                assert_eq!(rt; at.rank(), rank);
+                assert_eq!(rt; at.get().0, *score);
+                at.next()
+            }
+        };
+        assert_eq!(rt; cursor.is_some(), rank < sorted.len() - 1);
+    }
+    assert!(rt; cursor.is_none());
+}
+
+#[test]
+fn cursors_of_no_element_and_of_one(rt: HostRuntime) -> Result<(), Fail> {
+    let mut store = PlainStore::new(rt.alloc());
+    let member = put_block(&mut store, b"m")?;
+    let mut scores = Scores::new(rt.alloc(), 7);
+    assert!(rt; scores.cursor(0).is_none());
+    scores.insert(&store, 5, member)?;
+    assert!(rt; scores.cursor(1).is_none());
+    match scores.cursor(0) {
+        None => panic!(rt; "no cursor at the only rank"),
+        Some(first) => {
+            assert_eq!(rt; first.rank(), 0);
+            assert_eq!(rt; first.get(), (5, member));
+            assert!(rt; first.next().is_none());
+        }
+    }
+    Ok(())
+}
+
+#[test]
+fn walks_along_each_range(rt: HostRuntime) -> Result<(), Fail> {
+    let mut rng = Pcg32::new(12, 54);
+    let mut held = Held::new(rt.alloc())?;
+    let mut sorted = Vec::new(rt.alloc());
+    for _ in 0..60u32 {
+        for from in 0..sorted.len() + 1 {
+            walk(&rt, &held.scores, sorted.as_slice(), from);
+        }
+        let score = i64::from(rng.next_u32() % 900) - 450;
+        let place = sorted.as_slice().partition_point(|s| *s < score);
+        if held.insert(score)? && place <= sorted.len() {
+            sorted.insert(place, score)?;
+        }
+    }
+    assert!(rt; sorted.len() > 50);
+    Ok(())
+}
+
 #[test]
 fn agrees_with_a_sorted_vector(rt: HostRuntime) -> Result<(), Fail> {
     let mut rng = Pcg32::new(11, 54);

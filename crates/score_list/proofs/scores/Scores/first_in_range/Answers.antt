@@ -1,9 +1,6 @@
-use Rattle.std.proofs.Common.{◌≡◌, ◌≢◌, sym, ap, ◌∙◌, subst, arith, to_z, of_z, w64, Some, None}
-use Rattle.std.proofs.lemmas.Int.{to_z-of_z}
-use Rattle.blocks.specs.Blocks.{bytes_at}
-use Rattle.score_list.specs.Linked.{items, element_at}
-use Rattle.score_list.specs.Sorted.{IsSorted, Misses, IsRising, key_of, place_of, Located}
-use Rattle.score_list.proofs.Sortings.{sorted_parted, all_live, sorted_joined, sorted_rising, sorted_without, rising_parted, any_each, nowhere, not_there, is_there, live_there}
+use Rattle.std.proofs.Common.{to_z, of_z, w64}
+use Rattle.score_list.specs.Linked.{items}
+use Rattle.score_list.proofs.Sortings.{rising_parted, any_each}
 use Rattle.score_list.proofs.scores.Scores.first_in_range.Goals as goal
 
 pub find-requires-clause-parted : goal.find-requires-clause-parted

@@ -1,10 +1,8 @@
-use Rattle.std.proofs.Common.{◌≡◌, ◌≢◌, sym, ap, ◌∙◌, subst, refl, arith, to_z, of_z, w64, Some, None, IsSome, unwrap_or, []}
+use Rattle.std.proofs.Common.{sym, subst, w64}
 use Rattle.std.proofs.lemmas.Int.{to_z-of_z}
-use Rattle.blocks.specs.Blocks.{bytes_at}
-use Rattle.score_list.specs.Linked.{items, element_at, IsAt, Element}
-use Rattle.score_list.specs.Sorted.{IsSorted, Misses, IsRising, key_of, place_of, Located}
-use Rattle.score_list.proofs.Moved.{never}
-use Rattle.score_list.proofs.Sortings.{sorted_parted, all_live, sorted_joined, sorted_rising, sorted_without, nowhere, not_there, live_there, after_insert, removed_is}
+use Rattle.score_list.specs.Linked.{items}
+use Rattle.score_list.specs.Sorted.{IsSorted, Located}
+use Rattle.score_list.proofs.Sortings.{sorted_rising, sorted_without, removed_is}
 use Rattle.score_list.proofs.scores.Scores.remove.Goals as goal
 
 pub invariant_of-self : goal.invariant_of-self

@@ -1,10 +1,10 @@
-use Rattle.std.proofs.Common.{◌≡◌, ◌≢◌, ◌<◌, ◌+◌, ◌^◌, suc, ℕ, true, nat_lt, None, Some, length, map, refl, sym, ap, ◌∙◌, subst, lt-ltb, arith, vec_len, w64}
+use Rattle.std.proofs.Common.{◌≡◌, ◌≢◌, ◌<◌, ◌+◌, ◌^◌, suc, ℕ, nat_lt, None, Some, length, map, refl, sym, ap, ◌∙◌, subst, lt-ltb, arith, w64}
 use Rattle.std.proofs.lemmas.Int.{to_z-of_z}
 use Rattle.slab.specs.Slab.{get, Slab}
 use Rattle.score_list.specs.declared.towers.Tower.{Tower}
 use Rattle.score_list.specs.declared.towers.Towers.{Towers}
 use Rattle.score_list.specs.Rows.{Lacks}
-use Rattle.score_list.specs.Linked.{IsLinked, LinkedAs, Adds, Element, items, order, element_of, element_at, links_of, tall}
+use Rattle.score_list.specs.Linked.{IsLinked, LinkedAs, Adds, items, order, element_of, element_at, links_of}
 use Rattle.score_list.proofs.Joins.{lacks_vacant, linked_elsewhere, ordered_as, linked_is, elements_elsewhere}
 use Rattle.score_list.proofs.towers.Towers.add.Goals as goal
 

@@ -1,5 +1,5 @@
-use Rattle.std.proofs.Common.{◌≡◌, ◌<◌, ◌≤◌, ◌+◌, take, ap, subst, sym, arith}
-use Rattle.score_list.specs.Linked.{tall, next_at, span_at, order, StandsAt, Arrives}
+use Rattle.std.proofs.Common.{◌≡◌, take, ap, subst, sym, arith}
+use Rattle.score_list.specs.Linked.{tall, next_at, span_at, order}
 use Rattle.score_list.specs.Rows.{Stands}
 use Rattle.score_list.proofs.Places.{on, arrived, some_span}
 use Rattle.score_list.proofs.towers.Towers.advance.Goals as goal

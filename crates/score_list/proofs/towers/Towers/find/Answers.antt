@@ -1,8 +1,8 @@
-use Rattle.std.proofs.Common.{◌≡◌, ◌-◌, ◌+◌, ◌<◌, ◌≤◌, ◌⊎◌, inl, inr, nat_lt, ltb-true, ltb-false, suc, length, get_or, count_by, sym, ap, ◌∙◌, subst, arith}
+use Rattle.std.proofs.Common.{◌≡◌, ◌-◌, ◌<◌, ◌≤◌, inl, inr, nat_lt, ltb-true, ltb-false, length, get_or, count_by, ap, ◌∙◌, arith}
 use Rattle.std.proofs.lemmas.List.Sums.{count_by-le-length}
 use Rattle.score_list.specs.Linked.{order, items, element_at, next_at}
 use Rattle.score_list.proofs.Moved.{decide}
-use Rattle.score_list.proofs.Searching.{Descent, descent_begins, stands_lower, descends, descended, lowest_next, lowest_end, lowest_rank, length_of_map}
+use Rattle.score_list.proofs.Searching.{descent_begins, stands_lower, descends, descended, lowest_next, lowest_end, lowest_rank, length_of_map}
 use Rattle.score_list.proofs.towers.Towers.find.Goals as goal
 
 pub loop-level-init : goal.loop-level-init

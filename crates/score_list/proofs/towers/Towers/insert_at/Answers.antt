@@ -1,4 +1,4 @@
-use Rattle.std.proofs.Common.{◌≡◌, ◌<◌, ◌^◌, suc, sym, subst, arith, w64}
+use Rattle.std.proofs.Common.{suc, sym, subst, arith, w64}
 use Rattle.std.proofs.lemmas.Int.{to_z-of_z}
 use Rattle.score_list.specs.Rows.{Lacks}
 use Rattle.score_list.specs.Linked.{order, with_at, Adds}

@@ -1,6 +1,6 @@
-use Rattle.std.proofs.Common.{◌≡◌, ◌-◌, ◌+◌, ◌<◌, ◌≤◌, suc, length, get_or, sym, ap, ◌∙◌, subst, arith}
-use Rattle.score_list.specs.Linked.{order, next_at}
-use Rattle.score_list.proofs.Searching.{Descent, descent_begins, stands_lower, descends, descended, lowest_next}
+use Rattle.std.proofs.Common.{◌≡◌, ◌-◌, ap, arith}
+use Rattle.score_list.specs.Linked.{next_at}
+use Rattle.score_list.proofs.Searching.{descent_begins, stands_lower, descends, descended, lowest_next}
 use Rattle.score_list.proofs.towers.Towers.key_at.Goals as goal
 
 pub loop-level-init : goal.loop-level-init
@@ -17,7 +17,12 @@ overflow_sub-result c =
     let to : c.link.result.next ≡ next_at c.args.self.now 0 c.loop-level.place.owner = ap (λ l. l.next) c.link.ensures in
     omega (arith, to, lowest_next c.args.self.now c.requires.linked c.args.rank c.loop-level.place.owner c.loop-level.place.rank (descended c.args.self.now c.args.rank c.loop-level.level c.loop-level.place.owner c.loop-level.place.rank c.loop-level.invariant c.loop-level-test.false) c.requires.rank)
 
-pub returns : goal.returns
-returns c =
+pub returns-clause-at : goal.returns-clause-at
+returns-clause-at c =
+    let to : c.link.result.next ≡ next_at c.args.self.now 0 c.loop-level.place.owner = ap (λ l. l.next) c.link.ensures in
+    omega (arith, to, lowest_next c.args.self.now c.requires.linked c.args.rank c.loop-level.place.owner c.loop-level.place.rank (descended c.args.self.now c.args.rank c.loop-level.level c.loop-level.place.owner c.loop-level.place.rank c.loop-level.invariant c.loop-level-test.false) c.requires.rank)
+
+pub returns-clause-fits : goal.returns-clause-fits
+returns-clause-fits c =
     let to : c.link.result.next ≡ next_at c.args.self.now 0 c.loop-level.place.owner = ap (λ l. l.next) c.link.ensures in
     omega (arith, to, lowest_next c.args.self.now c.requires.linked c.args.rank c.loop-level.place.owner c.loop-level.place.rank (descended c.args.self.now c.args.rank c.loop-level.level c.loop-level.place.owner c.loop-level.place.rank c.loop-level.invariant c.loop-level-test.false) c.requires.rank)

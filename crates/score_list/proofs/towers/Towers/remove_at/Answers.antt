@@ -1,5 +1,4 @@
-use Rattle.std.proofs.Common.{◌≡◌, ◌≢◌, ◌<◌, ◌-◌, ℕ, suc, refl, sym, subst, arith, IsSome}
-use Rattle.slab.specs.Slab.{get}
+use Rattle.std.proofs.Common.{◌-◌, refl, arith}
 use Rattle.score_list.specs.Linked.{order, without_at}
 use Rattle.score_list.proofs.Threading.{all_kept}
 use Rattle.score_list.proofs.Joins.{linked_is, left_as, left_items, has_entry}

@@ -1,4 +1,4 @@
-use Rattle.std.proofs.Common.{◌≡◌, ◌<◌, ◌-◌, suc, length, subst, sym, ap, arith}
+use Rattle.std.proofs.Common.{◌≡◌, ◌<◌, ◌-◌, suc, length, subst, sym, arith}
 use Rattle.slab.specs.Slab.{get}
 use Rattle.score_list.specs.Linked.{links_at, links_of}
 use Rattle.score_list.proofs.Setting.{sets_tower}

@@ -11,10 +11,10 @@ pub returns-clause-linked : goal.returns-clause-linked
 returns-clause-linked c = renamed_linked c.args.self.now c.key_at-key.result c.in-Some.tower.now c.args.new (sym c.in-Some.ensures.value) c.requires.linked
 
 pub returns-clause-items : goal.returns-clause-items
-returns-clause-items c = renamed_items c.args.self.now c.key_at-key.result c.in-Some.tower.now c.args.new (sym c.in-Some.ensures.value) c.requires.linked c.args.rank c.requires.rank c.key_at-key.ensures
+returns-clause-items c = renamed_items c.args.self.now c.key_at-key.result c.in-Some.tower.now c.args.new (sym c.in-Some.ensures.value) c.requires.linked c.args.rank c.requires.rank c.key_at-key.ensures.at
 
 pub unreachable-requires : goal.unreachable-requires
 unreachable-requires c =
-    let some = has_entry c.args.self.now (order c.args.self.now) c.args.rank c.key_at-key.result c.requires.linked.based c.requires.rank c.key_at-key.ensures in
+    let some = has_entry c.args.self.now (order c.args.self.now) c.args.rank c.key_at-key.result c.requires.linked.based c.requires.rank c.key_at-key.ensures.at in
     let none : get c.args.self.now.slab c.key_at-key.result ≡ None = sym c.get_mut.ensures.value ∙ ap option_copied_mut c.in_default.is in
     never (is_some (get c.args.self.now.slab c.key_at-key.result)) some (ap is_some none)

@@ -1,8 +1,6 @@
-use Rattle.std.proofs.Common.{◌≡◌, ◌≢◌, ◌-◌, ◌+◌, ◌≤◌, ◌<◌, ◌^◌, suc, zero, length, subst, sym, ap, take, arith}
-use Rattle.score_list.specs.Linked.{order, without_at, span_at, tall, Unhangs}
-use Rattle.score_list.proofs.Moved.{reached_other}
-use Rattle.std.proofs.lemmas.List.{take-append-drop}
-use Rattle.score_list.proofs.Threading.{Editing, begun, some_level, ordered, head_is, this_level, stands_at, arrives, left_is, last_reaches, goes_past, span_fits, edited, reached_apart, unhung_row, span_there}
+use Rattle.std.proofs.Common.{◌-◌, ◌≤◌, length, subst, sym, arith}
+use Rattle.score_list.specs.Linked.{order, without_at, Unhangs}
+use Rattle.score_list.proofs.Threading.{begun, some_level, ordered, this_level, stands_at, arrives, left_is, last_reaches, goes_past, edited, unhung_row, span_there}
 use Rattle.score_list.proofs.towers.Towers.unthread.Goals as goal
 
 pub loop-level-init : goal.loop-level-init
