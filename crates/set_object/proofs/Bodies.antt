@@ -1,0 +1,106 @@
+-- What a set's body depends on, and a body that takes another's place.
+use Rattle.std.proofs.Common.{◌≡◌, ℕ, zero, suc, ◌+◌, ◌<◌, ◌≤◌, List, [], ◌∷◌, ◌++◌, map, length, Option, Some, None, unwrap_or, refl, sym, ap, ◌∙◌, subst, arith, flat_map}
+use Rattle.std.proofs.lemmas.List.{append-nil, length-map}
+use Rattle.std.specs.FinMap.{len, len-empty}
+use Rattle.std.specs.Ordering.{nat_cmp}
+use Rattle.std.specs.Cmp.Lexicographic.{slice_cmp}
+use Rattle.std.proofs.lemmas.Bool.{cond-true}
+use Rattle.blocks.specs.declared.BlockRef.{BlockRef}
+use Rattle.blocks.specs.Blocks.{Blocks, times, IsIn, bytes_at, Changes, Owned}
+use Rattle.blocks.proofs.Refs.{ref_eq-refl}
+use Rattle.blocks.proofs.Times.{times-append}
+use Rattle.blocks.proofs.Change.{one, live-once, Changes-beside, Changes-owned, Changes-both, Owned-others}
+use Rattle.int_text.specs.Decimal.{canonical}
+use Rattle.intset.specs.Intset.{numbers_of}
+use Rattle.object_codec.specs.declared.limits.Limits.{Limits}
+use Rattle.rehash_dict.specs.Table.{Element, item, at_item, table_len}
+use Rattle.rehash_dict.specs.Keyed.{hash_of}
+use Rattle.rehash_dict.specs.Grown.{Grown}
+use Rattle.rehash_dict.specs.MapOf.{key_refs, own_of}
+use Rattle.rehash_dict.proofs.Keys.{Keyed-frame}
+use Rattle.rehash_dict.proofs.MapOf.{len-map_of}
+use Rattle.set_object.specs.declared.members.Body.{Body}
+use Rattle.set_object.specs.declared.members.Body.TheVariants.{Empty, Numbers, Pack, Table}
+use Rattle.set_object.specs.declared.members.Members.{Members}
+use Rattle.set_object.specs.Strings.{Strings}
+use Rattle.set_object.specs.Members.{IsMembers, IsBody, IsNumbers, IsMemberPack, IsChanged, members, members_of, refs, refs_of, tables, tables_of, no_tables}
+use Rattle.set_object.proofs.Texts.{numbers_once}
+use Rattle.set_object.proofs.Hashing.{Dict, content_kept}
+
+self : (r : BlockRef) → one r r ≡ 1
+self r = cond-true _ _ _ (ref_eq-refl r)
+
+-- an element's key block is among those of its table
+pub key_in : (t : Dict) (at : ℕ) (e : Element (Unit {0})) → item t at ≡ Some e → IsIn e.key (key_refs t)
+key_in t at e found = in_list t.items at found
+  where
+    in_list : (items : List (Option (Element (Unit {0})))) (at : ℕ) → at_item items at ≡ Some e → 0 < times e.key (flat_map (own_of (λ (_ : Unit {0}). [])) items)
+    in_list [] at found = cc
+    in_list (x ∷ items) zero found = (let here : times e.key (own_of (λ (_ : Unit {0}). []) x) ≡ times e.key (e.key ∷ []) = ap (λ o. times e.key (own_of (λ (_ : Unit {0}). []) o)) found in omega (arith, here, self e.key, times-append e.key (own_of (λ (_ : Unit {0}). []) x) (flat_map (own_of (λ (_ : Unit {0}). [])) items)))
+    in_list (x ∷ items) (suc at) found = omega (arith, in_list items at found, times-append e.key (own_of (λ (_ : Unit {0}). []) x) (flat_map (own_of (λ (_ : Unit {0}). [])) items))
+
+module _ (a b : Blocks) (limits : Limits) (seed : ℕ) where
+  -- A body is the same where its blocks keep their bytes.
+  pub body_kept : (body : Body) → IsBody a limits seed body → ((r : BlockRef) → IsIn r (refs_of body) → b r ≡ a r)
+      → IsBody b limits seed body × (members_of b body ≡ members_of a body) × (tables_of b body ≡ tables_of a body)
+  body_kept Empty is same = (tt, refl, refl)
+  body_kept (Numbers packed) is same =
+      let bytes : bytes_at b packed.at ≡ bytes_at a packed.at = ap (λ o. unwrap_or o []) (same packed.at (omega (arith, self packed.at))) in
+      (subst (IsNumbers limits packed.len) (sym bytes) is, ap (λ bs. members_of (λ _. Some bs) (Numbers packed)) bytes, refl)
+  body_kept (Pack packed) is same =
+      let bytes : bytes_at b packed.at ≡ bytes_at a packed.at = ap (λ o. unwrap_or o []) (same packed.at (omega (arith, self packed.at))) in
+      (subst (IsMemberPack limits packed.len) (sym bytes) is, ap (λ bs. members_of (λ _. Some bs) (Pack packed)) bytes, refl)
+  body_kept (Table t) is same =
+      let keeps : (at : ℕ) (e : Element (Unit {0})) → item t at ≡ Some e → b e.key ≡ a e.key = λ at e found. same e.key (key_in t at e found) in
+      let k = Keyed-frame a b t is.keyed keeps in
+      (record { keyed = k.0; seed_is = is.seed_is }, content_kept a b t is.keyed keeps, k.1)
+
+abbrev pub body_len : Body → ℕ
+body_len Empty = 0
+body_len (Numbers packed) = packed.len
+body_len (Pack packed) = packed.len
+body_len (Table t) = table_len t
+
+-- the number of members
+pub len_of : (m : Blocks) (limits : Limits) (seed : ℕ) (body : Body) → IsBody m limits seed body → body_len body ≡ len (members_of m body)
+len_of m limits seed Empty is = sym (len-empty (slice_cmp nat_cmp) (Unit {0}))
+len_of m limits seed (Numbers packed) is =
+    let ns = numbers_of (bytes_at m packed.at) in
+    is.counted ∙ sym (length-map ns canonical) ∙ sym (numbers_once ns is.intset.rising is.fit)
+len_of m limits seed (Pack packed) is = is.counted ∙ sym is.once
+len_of m limits seed (Table t) is = sym (len-map_of m (λ v. v) t is.keyed)
+
+-- ---- another body was placed, and the blocks of the old one were given back
+
+module _ (a b c : Blocks) (old new : List BlockRef) (own : Owned old a) (p : Changes a b [] new) where
+  both_owned : Owned (new ++ old) b
+  both_owned = Changes-owned a b old (new ++ old) (Changes-beside a b [] new old (new ++ old) p own (λ r. times r old) (λ r. omega arith) (λ r. times-append r new old))
+
+  pub old_owned : Owned old b
+  old_owned r = omega (arith, both_owned r, times-append r new old)
+
+  pub new_kept : Changes b c old [] → (r : BlockRef) → IsIn r new → c r ≡ b r
+  new_kept q r isin = Owned-others b c old [] (new ++ old) both_owned q r (omega (arith, isin, times-append r new old)) (omega (arith, isin, both_owned r, times-append r new old, live-once b r))
+
+  pub replaced : Changes b c old [] → Changes a c old new
+  replaced q = subst (Changes a c old) (append-nil new) (Changes-both a b c [] new old [] own p q)
+
+pub body_changed : (a b c : Blocks) (m : Members) (body : Body) (set : Strings) → IsMembers a m → IsBody b m.limits m.seed body → Changes a b [] (refs_of body) → Changes b c (refs m) []
+    → members_of b body ≡ set → Grown (hash_of m.seed) (tables a m) (tables_of b body) → IsChanged a c m (record m { body = body }) set
+body_changed a b c m body set sound is p q members_are grown =
+    let kept = body_kept b c m.limits m.seed body is (new_kept a b c (refs m) (refs_of body) sound.owned p q) in
+    let changes = replaced a b c (refs m) (refs_of body) sound.owned p q in
+    record {
+      sound = record { limits = sound.limits; owned = Changes-owned a c (refs m) (refs_of body) changes; body = kept.0 };
+      members_are = kept.1 ∙ members_are;
+      changes = changes;
+      grown = subst (Grown (hash_of m.seed) (tables a m)) (sym kept.2) grown;
+      settings = record { limits = refl; seed = refl };
+    }
+
+-- a packed body has no table
+pub packed_tables : (m : Blocks) (body : Body) → ((t : Dict) → body ≡ Table t → ⊥) → tables_of m body ≡ no_tables
+packed_tables m Empty packed = refl
+packed_tables m (Numbers p) packed = refl
+packed_tables m (Pack p) packed = refl
+packed_tables m (Table t) packed = absurd (packed t refl)

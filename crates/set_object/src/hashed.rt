@@ -1,0 +1,125 @@
+// Members that are blocks of their own, in a dictionary.
+
+ghost use Rattle.std.specs.Prelude.{◌≡◌, [], IfOk, OnOk, OnErr, true, false};
+ghost use Rattle.std.specs.FinMap.{insert, remove};
+ghost use Rattle.blocks.specs.Blocks.{Changes, Owned, Served};
+ghost use Rattle.listpack.specs.Element.{element_text};
+ghost use Rattle.listpack.specs.Pack.{IsPack, texts};
+ghost use Rattle.rehash_dict.specs.Keyed.{Keyed, key_tables};
+ghost use Rattle.rehash_dict.specs.MapOf.{content, key_refs};
+ghost use Rattle.rehash_dict.specs.Tables.{IsSettled};
+ghost use Rattle.set_object.specs.Strings.{set_of, has, IsOnce};
+ghost use Rattle.set_object.specs.Hashed.{IsHashed, no_members};
+
+use blocks::{BlockStore, Memory, put_block};
+use itoa::Buffer;
+use listpack::Element;
+use rehash_dict::Dict;
+use std::alloc::Global;
+
+/// Gives back the blocks of all members.
+pub(crate) fn end_table<B: BlockStore>(store: &mut B, table: Dict<()>)
+    requires { Owned (key_refs table) (B.blocks store.old) }
+    ensures changes { Changes (B.blocks store.old) (B.blocks store.new) (key_refs table) [] }
+    ensures served { Served B.step store.old store.new }
+{
+    for at in 0..table.top() {
+        if table.is_entry(at) {
+            store.give_back(table.entry(at).0);
+        }
+    }
+}
+
+/// Places the block of a member that isn't there, and puts it into the dictionary. `Memory` leaves dictionary and blocks.
+pub(crate) fn hash_member<B: BlockStore>(
+    store: &mut B,
+    table: &mut Dict<()>,
+    member: &[u8],
+) -> Result<(), Memory>
+    requires keyed { Keyed (B.blocks store.old) table.old }
+    requires absent { has (content (B.blocks store.old) table.old) member.now ≡ false }
+    ensures hashed { OnOk result (IsHashed (B.blocks store.old) (B.blocks store.new) table.old table.new (insert (content (B.blocks store.old) table.old) member.now tt)) }
+    ensures served { Served B.step store.old store.new }
+    ensures err_table { OnErr result (table.new ≡ table.old) }
+    ensures err_blocks { OnErr result (B.blocks store.new ≡ B.blocks store.old) }
+{
+    let at = put_block(store, member)?;
+    match table.insert(store, at, ()) {
+        Ok(_) => Ok(()),
+        Err((_, error)) => {
+            store.give_back(at);
+            Err(error)
+        }
+    }
+}
+
+// The same of an element of a packed form.
+fn hash_element<B: BlockStore>(
+    store: &mut B,
+    table: &mut Dict<()>,
+    element: Element<'_>,
+) -> Result<(), Memory>
+    requires keyed { Keyed (B.blocks store.old) table.old }
+    requires absent { has (content (B.blocks store.old) table.old) (element_text element) ≡ false }
+    ensures hashed { OnOk result (IsHashed (B.blocks store.old) (B.blocks store.new) table.old table.new (insert (content (B.blocks store.old) table.old) (element_text element.entry) tt)) }
+    ensures served { Served B.step store.old store.new }
+    ensures err_table { OnErr result (table.new ≡ table.old) }
+    ensures err_blocks { OnErr result (B.blocks store.new ≡ B.blocks store.old) }
+{
+    match element {
+        Element::Text(part) => hash_member(store, table, part),
+        Element::Number(n) => hash_member(store, table, Buffer::new().format(n).as_bytes()),
+    }
+}
+
+/// A dictionary of the elements of a listpack, put in in their order. `Memory` leaves all blocks.
+pub(crate) fn hash_pack<B: BlockStore>(
+    alloc: Global,
+    seed: u64,
+    store: &mut B,
+    bytes: &[u8],
+) -> Result<Dict<()>, Memory>
+    requires pack { IsPack bytes.now }
+    requires once { IsOnce (texts bytes.now) }
+    ensures hashed { IfOk result (λ table. IsHashed (B.blocks store.old) (B.blocks store.new) (no_members seed) table (set_of (texts bytes.now))) }
+    ensures served { Served B.step store.old store.new }
+    ensures err_blocks { OnErr result (B.blocks store.new ≡ B.blocks store.old) }
+{
+    let pack = listpack::known(bytes);
+    let mut table = Dict::new(alloc, seed);
+    let mut next = pack.first();
+    for _ in 0..pack.len() {
+        match next {
+            Some(at) => {
+                if let Err(error) = hash_element(store, &mut table, pack.get(at)) {
+                    end_table(store, table);
+                    return Err(error);
+                }
+                next = pack.next(at);
+            }
+            None => unreachable!(),
+        }
+    }
+    Ok(table)
+}
+
+/// Takes a member that is there out of the dictionary, gives its block back, and shrinks the dictionary. `Memory` comes from the
+/// last of these alone, and leaves the member taken out.
+pub(crate) fn unhash_member<B: BlockStore>(
+    store: &mut B,
+    table: &mut Dict<()>,
+    member: &[u8],
+) -> Result<(), Memory>
+    requires keyed { Keyed (B.blocks store.old) table.old }
+    requires there { has (content (B.blocks store.old) table.old) member.now ≡ true }
+    ensures hashed { IsHashed (B.blocks store.old) (B.blocks store.new) table.old table.new (remove (content (B.blocks store.old) table.old) member.now) }
+    ensures served { Served B.step store.old store.new }
+    ensures settled { OnOk result (IsSettled (key_tables (B.blocks store.new) table.new)) }
+{
+    match table.remove(store, member) {
+        Some((at, ())) => store.give_back(at),
+        None => unreachable!(),
+    }
+    table.shrink()?;
+    Ok(())
+}

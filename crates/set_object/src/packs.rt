@@ -1,0 +1,171 @@
+// Members that are packed in the bytes of one block.
+
+ghost use Rattle.std.specs.Prelude.{◌≡◌, ◌++◌, ◌∷◌, [], ◌<◌, ◌^◌, ◌↔◌, IsTrue, IfSome, IfNone, IfOk, ◌≤◌, OnOk, length, MatchOption, slice_get, Some, false, true, is_some};
+ghost use Rattle.std.specs.FinMap.{remove};
+ghost use Rattle.std.specs.List.{All, Contains};
+ghost use lib.Signed.{mag};
+ghost use Rattle.intset.specs.Intset.{IsIntset, numbers_of};
+ghost use Rattle.int_text.specs.Decimal.{canonical, number_of};
+ghost use Rattle.listpack.specs.Pack.{IsPack, texts, spellings_of, told};
+ghost use Rattle.listpack.specs.Writing.{spelling, Fits};
+ghost use Rattle.listpack.specs.Edits.{IsEdited, one_more};
+ghost use Rattle.listpack.specs.Element.{element_text};
+ghost use Rattle.set_object.specs.Strings.{set_of, has, longest, IsOnce};
+ghost use Rattle.set_object.specs.Members.{number_texts, IsPackOf};
+
+use blocks::Memory;
+use int_text::read_i64;
+use itoa::Buffer;
+use listpack::Element;
+use std::alloc::Global;
+
+/// Whether a text is the canonical one of a signed number of 64 bits.
+pub(crate) fn is_number(text: &[u8]) -> bool
+    ensures { result ≡ is_some (number_of text.now) }
+{
+    match read_i64(text) {
+        Some(_) => true,
+        None => false,
+    }
+}
+
+// Whether a number is among those of an intset.
+fn has_number(bytes: &[u8], n: i64) -> bool
+    requires { IsIntset bytes.now (numbers_of bytes.now) }
+    ensures { IsTrue result ↔ Contains (numbers_of bytes.now) n }
+{
+    intset::known(bytes).contains(n)
+}
+
+/// Whether the numbers of an intset have a member.
+pub(crate) fn find_number(bytes: &[u8], member: &[u8]) -> bool
+    requires intset { IsIntset bytes.now (numbers_of bytes.now) }
+    requires fit { All (λ n. mag n < 2 ^ 63) (numbers_of bytes.now) }
+    ensures { result ≡ has (set_of (number_texts bytes.now)) member.now }
+{
+    match read_i64(member) {
+        Some(n) => has_number(bytes, n),
+        None => false,
+    }
+}
+
+// Whether an element has this text.
+fn is_text(element: Element<'_>, text: &[u8]) -> bool
+    ensures { IsTrue result ↔ (element_text element.entry ≡ text.now) }
+{
+    match element {
+        Element::Text(part) => part == text,
+        Element::Number(n) => Buffer::new().format(n).as_bytes() == text,
+    }
+}
+
+/// The index of an element of a listpack, by one pass over it.
+pub(crate) fn find_text(bytes: &[u8], text: &[u8]) -> Option<usize>
+    requires { IsPack bytes.now }
+    ensures found { IfSome result (λ i. slice_get (texts bytes.now) i ≡ Some text.now) }
+    ensures none { IfNone result (has (set_of (texts bytes.now)) text.now ≡ false) }
+{
+    let pack = listpack::known(bytes);
+    let mut next = pack.first();
+    for index in 0..pack.len() {
+        match next {
+            Some(at) => {
+                if is_text(pack.get(at), text) {
+                    return Some(index);
+                }
+                next = pack.next(at);
+            }
+            None => unreachable!(),
+        }
+    }
+    None
+}
+
+// The number of bytes of a number's text.
+fn text_len(n: i64) -> usize
+    ensures { result ≡ length (canonical n) }
+{
+    Buffer::new().format(n).len()
+}
+
+/// The length of the longest text of the numbers of an intset.
+pub(crate) fn longest_number(bytes: &[u8]) -> usize
+    requires intset { IsIntset bytes.now (numbers_of bytes.now) }
+    requires fit { All (λ n. mag n < 2 ^ 63) (numbers_of bytes.now) }
+    ensures { result ≡ longest (number_texts bytes.now) }
+{
+    let numbers = intset::known(bytes);
+    let mut most = 0;
+    for index in (0..numbers.len()).rev() {
+        if let Some(n) = numbers.at(index) {
+            most = text_len(n).max(most);
+        }
+    }
+    most
+}
+
+// Puts the text of a number behind the elements of a listpack.
+fn push_number(pack: &mut Vec<u8>, n: i64) -> Result<(), Memory>
+    requires packed { IsPack pack.old.items }
+    requires fits { Fits pack.old.items (canonical n) }
+    ensures entries { OnOk result (IsEdited pack.new.items (spellings_of pack.old.items ++ spelling (canonical n) ∷ []) (one_more (told pack.old.items))) }
+    ensures list { OnOk result (texts pack.new.items ≡ texts pack.old.items ++ canonical n ∷ []) }
+{
+    listpack::append(pack, Buffer::new().format(n).as_bytes())
+}
+
+/// A listpack of the texts of an intset's numbers.
+pub(crate) fn pack_numbers(alloc: Global, bytes: &[u8]) -> Result<Vec<u8>, Memory>
+    requires intset { IsIntset bytes.now (numbers_of bytes.now) }
+    requires few { length (numbers_of bytes.now) ≤ 65536 }
+    requires fit { All (λ n. mag n < 2 ^ 63) (numbers_of bytes.now) }
+    ensures { IfOk result (λ pack. IsPackOf (number_texts bytes.now) pack.items) }
+{
+    let numbers = intset::known(bytes);
+    let mut pack = listpack::empty(alloc)?;
+    for index in 0..numbers.len() {
+        if let Some(n) = numbers.at(index) {
+            push_number(&mut pack, n)?;
+        }
+    }
+    Ok(pack)
+}
+
+/// An intset of the numbers of one without a member that is among them.
+pub(crate) fn numbers_without(alloc: Global, bytes: &[u8], member: &[u8]) -> Result<Vec<u8>, Memory>
+    requires intset { IsIntset bytes.now (numbers_of bytes.now) }
+    requires few { length (numbers_of bytes.now) ≤ 65536 }
+    requires fit { All (λ n. mag n < 2 ^ 63) (numbers_of bytes.now) }
+    requires there { has (set_of (number_texts bytes.now)) member.now ≡ true }
+    ensures intset { IfOk result (λ set. IsIntset set.items (numbers_of set.items)) }
+    ensures fit { IfOk result (λ set. All (λ n. mag n < 2 ^ 63) (numbers_of set.items)) }
+    ensures left { IfOk result (λ set. set_of (number_texts set.items) ≡ remove (set_of (number_texts bytes.now)) member.now) }
+{
+    let mut set = Vec::from_slice(alloc, bytes)?;
+    match read_i64(member) {
+        Some(n) => {
+            intset::remove(&mut set, n);
+            Ok(set)
+        }
+        None => unreachable!(),
+    }
+}
+
+/// A listpack of the elements of one without a member that is among them.
+pub(crate) fn pack_without(alloc: Global, bytes: &[u8], member: &[u8]) -> Result<Vec<u8>, Memory>
+    requires pack { IsPackOf (texts bytes.now) bytes.now }
+    requires once { IsOnce (texts bytes.now) }
+    requires there { has (set_of (texts bytes.now)) member.now ≡ true }
+    ensures pack { IfOk result (λ pack. IsPackOf (texts pack.items) pack.items) }
+    ensures once { IfOk result (λ pack. IsOnce (texts pack.items)) }
+    ensures left { IfOk result (λ pack. set_of (texts pack.items) ≡ remove (set_of (texts bytes.now)) member.now) }
+{
+    let mut pack = Vec::from_slice(alloc, bytes)?;
+    match find_text(bytes, member) {
+        Some(index) => {
+            listpack::remove(&mut pack, index);
+            Ok(pack)
+        }
+        None => unreachable!(),
+    }
+}
