@@ -45,11 +45,7 @@ fn push_answers(answers: &mut Vec<u8>) -> Result<(), AllocError> {
 }
 
 // `GET` of each even key, and its value.
-fn push_gets(
-    alloc: Global,
-    stream: &mut Vec<u8>,
-    answers: &mut Vec<u8>,
-) -> Result<(), AllocError> {
+fn push_gets(alloc: Global, stream: &mut Vec<u8>, answers: &mut Vec<u8>) -> Result<(), AllocError> {
     for number in 0..KEYS / 2 {
         let even = number * 2;
         stream.extend_from_slice(format!(in alloc; "GET k{even:03}\n")?.as_bytes())?;
@@ -67,7 +63,9 @@ fn push_slabs(
     slabs: u64,
     used: u64,
 ) -> Result<(), AllocError> {
-    let table = format!(in alloc; "*2\r\n*3\r\n:8\r\n:1\r\n:{used}\r\n*3\r\n:1024\r\n:{slabs}\r\n:{used}\r\n")?;
+    let table = format!(in alloc;
+        "*2\r\n*3\r\n:8\r\n:1\r\n:{used}\r\n*3\r\n:1024\r\n:{slabs}\r\n:{used}\r\n"
+    )?;
     answers.extend_from_slice(table.as_bytes())
 }
 
