@@ -402,7 +402,7 @@ const SCANS: [Row; 46] = [
     Row("SCAN x FOO", "-InvalidCursor"),
 ];
 
-const CONNECTION: [Row; 47] = [
+const CONNECTION: [Row; 58] = [
     Row("PING", "Ping"),
     Row("ping Hello", "Ping Hello"),
     Row("PING ", "Ping "),
