@@ -24,4 +24,5 @@ pub mod Moved
 pub mod Settled
 pub mod Scans
 pub mod Turns
+pub mod Cursors
 pub mod Scanning

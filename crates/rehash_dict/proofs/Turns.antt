@@ -36,10 +36,10 @@ wide v start s l is order few = subst (λ x. IsWide x s l) (sym is) (record {
 pub le_bits : (i j : ℕ) → 2 ^ i ≤ 2 ^ j → i ≤ j
 le_bits i j h = elim (cases_lt j i) [ inl over ↦ absurd (omega (arith, pow_below j i over)) | inr fine ↦ fine ]
 
-is_lt : (n : ℕ) → 0 < n → nat_lt 0 n ≡ true
+pub is_lt : (n : ℕ) → 0 < n → nat_lt 0 n ≡ true
 is_lt n h = grind (arith, nat_tests)
 
-not_lt : (n : ℕ) → n ≤ 0 → nat_lt 0 n ≡ false
+pub not_lt : (n : ℕ) → n ≤ 0 → nat_lt 0 n ≡ false
 not_lt n h = grind (arith, nat_tests)
 
 module _ (older newer : List (List ℕ)) (v : ℕ) where

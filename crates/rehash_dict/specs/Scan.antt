@@ -47,6 +47,10 @@ module _ {X : Type 0} where
   abbrev pub larger_of : List (List X) → List (List X) → List (List X)
   larger_of older newer = if nat_lt 0 (length newer) && nat_lt (length newer) (length older) then older else newer
 
+  -- the buckets of the larger table that a move at a cursor gives, and its next cursor
+  abbrev pub walked_over : List (List X) → List (List X) → ℕ → List X × ℕ
+  walked_over older newer v = walk (larger_of older newer) (bits_of (length (smaller_of older newer))) (bits_of (length (larger_of older newer))) (length (larger_of older newer)) v
+
   -- The elements of one move at a cursor over the tables, and the next cursor: without a table nothing and 0.
   unfoldable pub scanned : List (List X) → List (List X) → ℕ → List X × ℕ
   scanned older newer v =

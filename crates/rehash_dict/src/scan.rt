@@ -2,6 +2,7 @@
 
 ghost use Rattle.std.specs.Prelude.{◌≡◌, ℕ, ◌+◌, ◌-◌, ◌*◌, ◌/◌, ◌%◌, ◌^◌, ◌<◌, ◌≤◌, ◌++◌, ◌∷◌, List, length, Option, Some, None, OnOk, OnErr, IfOk, IsTrue, ◌↔◌};
 ghost use Rattle.std.specs.Option.{option_copied};
+ghost use Rattle.rev_cursor.specs.Place.{next_of};
 ghost use Rattle.rev_cursor.specs.Span.{times};
 ghost use Rattle.rehash_dict.specs.declared.chains.Side.{Side};
 ghost use Rattle.rehash_dict.specs.Table.{Element, Table, item, at_item};
@@ -9,12 +10,12 @@ ghost use Rattle.rehash_dict.specs.Tables.{bucket};
 ghost use Rattle.rehash_dict.specs.Placed.{Stand, IsSize};
 ghost use Rattle.rehash_dict.specs.Sides.{side_rows};
 ghost use Rattle.rehash_dict.specs.Chains.{chain_left};
-ghost use Rattle.rehash_dict.specs.Scan.{bits_of, smaller_of, larger_of, first_block, last_block, scanned, turns_of, turn_at, turns_from, first_of, after_in, Extends};
+ghost use Rattle.rehash_dict.specs.Scan.{bits_of, smaller_of, larger_of, first_block, last_block, turn, walked_over, scanned, turns_of, turn_at, turns_from, first_of, after_in, Extends};
 
 use crate::Memory;
 use crate::chains::{Chain, Chains, Side, bucket_of};
 use crate::dict::Dict;
-use rev_cursor::{BucketScan, next, place};
+use rev_cursor::{BucketScan, place};
 
 /// The table with fewer buckets.
 fn smaller<V>(chains: &Chains<V>) -> Side
@@ -125,16 +126,77 @@ fn push_all<V>(chain: Chain<'_, V>, found: &mut Vec<usize>) -> Result<(), Memory
     Ok(())
 }
 
-/// Appends the items of a move.
-fn push_move<V>(chains: &Chains<V>, cursor: u64, found: &mut Vec<usize>) -> Result<(), Memory>
-    requires { Stand chains.now.items chains.now.older chains.now.newer }
-    ensures found { OnOk result (found.new.items ≡ found.old.items ++ turns_from chains.now.older chains.now.newer cursor (turns_of chains.now.older chains.now.newer cursor) 0) }
+/// The cursor behind the bucket of a cursor in a table of so many buckets: of the bits that tell the buckets apart the highest
+/// one that is 0 becomes 1, and those above it become 0. With bits reversed that is one more.
+fn behind(cursor: u64, buckets: usize) -> u64
+    requires size { IsSize buckets }
+    requires table { 0 < buckets }
+    ensures { result ≡ next_of cursor (bits_of buckets) }
+{
+    let zeros = buckets - 1 - bucket_of(cursor, buckets);
+    if zeros == 0 {
+        return 0;
+    }
+    let highest = 1usize << zeros.ilog2();
+    (2 * highest - 1 - (zeros - highest)) as u64
+}
+
+/// Appends the bucket of a cursor, and answers the cursor behind it.
+fn push_bucket<V>(
+    chains: &Chains<V>,
+    side: Side,
+    cursor: u64,
+    found: &mut Vec<usize>,
+) -> Result<u64, Memory>
+    requires stand { Stand chains.now.items chains.now.older chains.now.newer }
+    requires table { 0 < length (side_rows side chains.now) }
+    ensures found { OnOk result (found.new.items ≡ found.old.items ++ turn (side_rows side chains.now) (bits_of (length (side_rows side chains.now))) cursor) }
+    ensures next { IfOk result (λ next. next ≡ next_of cursor (bits_of (length (side_rows side chains.now)))) }
     ensures kept { Extends found.old.items found.new.items }
 {
-    for number in 0..turns(chains, cursor) {
-        push_all(turn(chains, cursor, number), found)?;
+    let buckets = chains.buckets(side);
+    push_all(chains.chain(side, bucket_of(cursor, buckets)), found)?;
+    Ok(behind(cursor, buckets))
+}
+
+/// Appends the buckets of the larger table that the elements of a cursor's bucket of the smaller one would be in, and answers
+/// the cursor behind them.
+fn push_larger<V>(chains: &Chains<V>, cursor: u64, found: &mut Vec<usize>) -> Result<u64, Memory>
+    requires stand { Stand chains.now.items chains.now.older chains.now.newer }
+    requires older { 0 < length chains.now.older }
+    requires newer { 0 < length chains.now.newer }
+    ensures found { OnOk result (found.new.items ≡ found.old.items ++ (walked_over chains.now.older chains.now.newer cursor).0) }
+    ensures next { IfOk result (λ next. next ≡ (walked_over chains.now.older chains.now.newer cursor).1) }
+    ensures kept { Extends found.old.items found.new.items }
+{
+    let side = larger(chains);
+    let buckets = chains.buckets(side);
+    let between = ((chains.buckets(smaller(chains)) - 1) ^ (buckets - 1)) as u64;
+    let mut next = cursor;
+    for _ in 0..buckets {
+        next = push_bucket(chains, side, next, found)?;
+        if next & between == 0 {
+            return Ok(next);
+        }
     }
-    Ok(())
+    Ok(next)
+}
+
+/// Appends the items of a move, and answers the cursor behind it.
+fn push_move<V>(chains: &Chains<V>, cursor: u64, found: &mut Vec<usize>) -> Result<u64, Memory>
+    requires { Stand chains.now.items chains.now.older chains.now.newer }
+    ensures found { OnOk result (found.new.items ≡ found.old.items ++ (scanned chains.now.older chains.now.newer cursor).0) }
+    ensures next { IfOk result (λ next. next ≡ (scanned chains.now.older chains.now.newer cursor).1) }
+    ensures kept { Extends found.old.items found.new.items }
+{
+    if chains.buckets(Side::Older) == 0 {
+        return Ok(0);
+    }
+    if chains.buckets(Side::Newer) == 0 {
+        return push_bucket(chains, Side::Older, cursor, found);
+    }
+    push_bucket(chains, smaller(chains), cursor, found)?;
+    push_larger(chains, cursor, found)
 }
 
 /// The first item of a move, from a turn on.
@@ -198,7 +260,7 @@ impl<V> Dict<V> {
         if chains.buckets(Side::Older) == 0 {
             return 0;
         }
-        next(cursor, bits(chains, smaller(chains)))
+        behind(cursor, chains.buckets(smaller(chains)))
     }
 }
 
@@ -214,10 +276,12 @@ impl<V> BucketScan for Dict<V> {
 
     fn scan_at(&self, cursor: u64, found: &mut Vec<usize>) -> Result<u64, Memory> {
         let before = found.len();
-        if let Err(error) = push_move(self.chains(), cursor, found) {
-            found.truncate(before);
-            return Err(error);
+        match push_move(self.chains(), cursor, found) {
+            Ok(next) => Ok(next),
+            Err(error) => {
+                found.truncate(before);
+                Err(error)
+            }
         }
-        Ok(self.scan_end(cursor))
     }
 }
