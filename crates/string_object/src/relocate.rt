@@ -9,19 +9,16 @@ ghost use Rattle.string_object.specs.Text.{text_bytes, text_refs, is_raw};
 use crate::Text;
 use blocks::{BlockRef, BlockStore, Moved, settle};
 
-// One block that is passed where it wants no move.
-fn passed_block<B: BlockStore>(store: &B, at: BlockRef) -> Option<Moved>
+// One block, where it wants no move.
+fn calm_block<B: BlockStore>(store: &B, at: BlockRef) -> Option<u32>
     requires { IsSome (B.blocks store.now at) }
-    ensures some { IfSome result (λ moved. (wants (B.heap store.now) at ≡ false) × (moved.next ≡ None) × (moved.used ≡ 1)) }
+    ensures some { IfSome result (λ count. (wants (B.heap store.now) at ≡ false) × (count ≡ 1)) }
     ensures none { IfNone result (wants (B.heap store.now) at ≡ true) }
 {
     if store.wants_move(at) {
         return None;
     }
-    Some(Moved {
-        next: None,
-        used: 1,
-    })
+    Some(1)
 }
 
 impl Text {
@@ -60,28 +57,17 @@ impl Text {
         Moved { next: None, used }
     }
 
-    /// What `relocate_part` answers where no block from the mark `from` on wants to move, so that nothing moves. `None` comes
-    /// exactly where one wants to.
-    pub fn passed<B: BlockStore>(&self, store: &B, from: u128) -> Option<Moved>
+    /// How many blocks the string has, where none of them wants to move. `None` comes exactly where one wants to.
+    pub fn calm_blocks<B: BlockStore>(&self, store: &B) -> Option<u32>
         requires owned { Owned (text_refs self.now) (B.blocks store.now) }
-        ensures calm { IfSome result (λ moved. from ≡ 0 → All (λ r. wants (B.heap store.now) r ≡ false) (text_refs self.now)) }
-        ensures next { IfSome result (λ moved. moved.next ≡ None) }
-        ensures used { IfSome result (λ moved. moved.used ≡ (if from == 0 then length (text_refs self.now) else 0)) }
-        ensures none { IfNone result ((from ≡ 0) × All (λ r. wants (B.heap store.now) r ≡ true) (text_refs self.now) × (length (text_refs self.now) ≡ 1)) }
+        ensures calm { IfSome result (λ count. All (λ r. wants (B.heap store.now) r ≡ false) (text_refs self.now)) }
+        ensures count { IfSome result (λ count. count ≡ length (text_refs self.now)) }
+        ensures none { IfNone result (All (λ r. wants (B.heap store.now) r ≡ true) (text_refs self.now) × (length (text_refs self.now) ≡ 1)) }
     {
-        if from > 0 {
-            return Some(Moved {
-                next: None,
-                used: 0,
-            });
-        }
         match *self {
-            Text::Number(_) => Some(Moved {
-                next: None,
-                used: 0,
-            }),
-            Text::Whole(at) => passed_block(store, at),
-            Text::Raw(at) => passed_block(store, at),
+            Text::Number(_) => Some(0),
+            Text::Whole(at) => calm_block(store, at),
+            Text::Raw(at) => calm_block(store, at),
         }
     }
 }
