@@ -16,5 +16,6 @@ pub mod Rehashing
 pub mod Shrinking
 pub mod Picking
 pub mod Renaming
+pub mod SoughtKeys
 pub mod Uses
 pub mod Serving

@@ -337,15 +337,16 @@ module _ {V : Type 0} (refs_of : V → List BlockRef) (value_of : Blocks → V �
   element_owned bases db at m e intact found r = omega (arith, named_in refs_of (table_at bases db) at e r found, table_owned refs_of value_of own bases db r, intact.owned r)
 
   -- its value's are passed from a mark on
-  pub looked_from : (marks : V → List ℕ) (bases : Bases V) (db at : ℕ) (m : Blocks) (heap : Heap) (e : Element V) (mark : Option ℕ) (from room : ℕ) (answer : Moved) → item (table_at bases db) at ≡ Some e → mark ≡ Some from
-      → PassesPart refs_of value_of marks m m heap heap e.value e.value from room answer → PassesElement refs_of marks heap bases bases db at mark room answer
-  looked_from marks bases db at m heap e mark from room answer found some part = subst (λ (o : Option ℕ). PassesElement refs_of marks heap bases bases db at o room answer) (sym some) (record {
+  pub looked_from : {E : Type 0} (marks : V → List ℕ) (encoding : V → E) (bases : Bases V) (db at : ℕ) (m : Blocks) (heap : Heap) (e : Element V) (mark : Option ℕ) (from room : ℕ) (answer : Moved) → item (table_at bases db) at ≡ Some e → mark ≡ Some from
+      → PassesPart refs_of value_of marks encoding m m heap heap e.value e.value from room answer → PassesElement refs_of marks encoding heap bases bases db at mark room answer
+  looked_from marks encoding bases db at m heap e mark from room answer found some part = subst (λ (o : Option ℕ). PassesElement refs_of marks encoding heap bases bases db at o room answer) (sym some) (record {
     was = e;
     now = e;
     replaces = record { found = found; stands = found; others = λ number other apart. refl };
     name_passed = λ none. cc;
     name_stays = λ some'. refl;
     same_marks = refl;
+    same_encoding = refl;
     passed = part.passed;
     bounded = record { few = omega (arith, part.bounded.few); within = part.bounded.within; on = part.bounded.on };
   })
@@ -456,20 +457,21 @@ module _ {V : Type 0} (refs_of : V → List BlockRef) (value_of : Blocks → V �
         ];
       }
 
-      pub value_passes : (marks : V → List ℕ) (heap later : Heap) (from room : ℕ) (answer : Moved) → PassesPart refs_of value_of marks m after heap later was value from room answer → PassesElement refs_of marks later old new db at (Some from) room answer
-      value_passes marks heap later from room answer part = record {
+      pub value_passes : {E : Type 0} (marks : V → List ℕ) (encoding : V → E) (heap later : Heap) (from room : ℕ) (answer : Moved) → PassesPart refs_of value_of marks encoding m after heap later was value from room answer → PassesElement refs_of marks encoding later old new db at (Some from) room answer
+      value_passes marks encoding heap later from room answer part = record {
         was = first;
         now = last;
         replaces = value_replaces;
         name_passed = λ none. cc;
         name_stays = λ some. refl;
         same_marks = part.same_marks;
+        same_encoding = part.same_encoding;
         passed = part.passed;
         bounded = record { few = omega (arith, part.bounded.few); within = part.bounded.within; on = part.bounded.on };
       }
 
 -- a key's block was passed, and then a part of its value
-module _ {V : Type 0} (refs_of : V → List BlockRef) (marks : V → List ℕ) (heap later : Heap) (old mid new : Bases V) (db at : ℕ) where
+module _ {V E : Type 0} (refs_of : V → List BlockRef) (marks : V → List ℕ) (encoding : V → E) (heap later : Heap) (old mid new : Bases V) (db at : ℕ) where
   replaces_then : (a b c d : Element V) → Replaces old mid db at a b → Replaces mid new db at c d → Replaces old new db at a d
   replaces_then a b c d p q = record {
     found = p.found;
@@ -484,15 +486,16 @@ module _ {V : Type 0} (refs_of : V → List BlockRef) (marks : V → List ℕ) (
       further None h = tt
       further (Some next) h = (h.0, omega (arith, h.1))
 
-  pub element_passes : (mark : Option ℕ) (room : ℕ) (answer : Moved) → mark ≡ None → 0 < room → PassesName heap old mid db at → PassesElement refs_of marks later mid new db at (Some 0) (room - 1) answer → Calmer heap later → PassesElement refs_of marks later old new db at mark room (record { next = answer.next; used = answer.used + 1 })
+  pub element_passes : (mark : Option ℕ) (room : ℕ) (answer : Moved) → mark ≡ None → 0 < room → PassesName heap old mid db at → PassesElement refs_of marks encoding later mid new db at (Some 0) (room - 1) answer → Calmer heap later → PassesElement refs_of marks encoding later old new db at mark room (record { next = answer.next; used = answer.used + 1 })
   element_passes mark room answer none some p q calmer =
-      subst (λ (o : Option ℕ). PassesElement refs_of marks later old new db at o room (record { next = answer.next; used = answer.used + 1 })) (sym none) (record {
+      subst (λ (o : Option ℕ). PassesElement refs_of marks encoding later old new db at o room (record { next = answer.next; used = answer.used + 1 })) (sym none) (record {
         was = p.was;
         now = q.now;
         replaces = replaces_then p.was p.now q.was q.now p.replaces q.replaces;
         name_passed = λ _. ap (wants later) (q.name_stays refl ∙ ap (λ (x : Element V). x.key) same) ∙ calmer.calm p.now.key p.calm;
         name_stays = λ some'. cc;
         same_marks = q.same_marks ∙ ap marks value;
+        same_encoding = q.same_encoding ∙ ap encoding value;
         passed = record {
           calm = q.passed.calm;
           stays = λ index mark there below. absurd (omega (arith, below));
@@ -507,12 +510,12 @@ module _ {V : Type 0} (refs_of : V → List BlockRef) (marks : V → List ℕ) (
       value = ap (λ (x : Element V). x.value) same ∙ p.same_value
 
 -- no block of a key wants to move, from its own on
-pub looked_at : {V : Type 0} (refs_of : V → List BlockRef) (value_of : Blocks → V → Value) (own : ReadsOwn refs_of value_of) (marks : V → List ℕ) (bases : Bases V) (db at : ℕ) (m : Blocks) (heap : Heap) (e : Element V) (mark : Option ℕ) (room : ℕ) (answer : Moved) → item (table_at bases db) at ≡ Some e → mark ≡ None → 0 < room → wants heap e.key ≡ false
-    → PassesPart refs_of value_of marks m m heap heap e.value e.value 0 (room - 1) answer → PassesElement refs_of marks heap bases bases db at mark room (record { next = answer.next; used = answer.used + 1 })
-looked_at refs_of value_of own marks bases db at m heap e mark room answer found none some calm part =
-    element_passes refs_of marks heap heap bases bases bases db at mark room answer none some
+pub looked_at : {V E : Type 0} (refs_of : V → List BlockRef) (value_of : Blocks → V → Value) (own : ReadsOwn refs_of value_of) (marks : V → List ℕ) (encoding : V → E) (bases : Bases V) (db at : ℕ) (m : Blocks) (heap : Heap) (e : Element V) (mark : Option ℕ) (room : ℕ) (answer : Moved) → item (table_at bases db) at ≡ Some e → mark ≡ None → 0 < room → wants heap e.key ≡ false
+    → PassesPart refs_of value_of marks encoding m m heap heap e.value e.value 0 (room - 1) answer → PassesElement refs_of marks encoding heap bases bases db at mark room (record { next = answer.next; used = answer.used + 1 })
+looked_at refs_of value_of own marks encoding bases db at m heap e mark room answer found none some calm part =
+    element_passes refs_of marks encoding heap heap bases bases bases db at mark room answer none some
     (record { was = e; now = e; replaces = record { found = found; stands = found; others = λ number other apart. refl }; same_value = refl; calm = calm })
-    (looked_from refs_of value_of own marks bases db at m heap e (Some 0) 0 (room - 1) answer found refl part)
+    (looked_from refs_of value_of own marks encoding bases db at m heap e (Some 0) 0 (room - 1) answer found refl part)
     (Calmer-same heap)
 
 pub some_so : {A : Type 0} {P Q : A → Type 0} (o : Option A) → ((a : A) → P a → Q a) → IfSome o P → IfSome o Q

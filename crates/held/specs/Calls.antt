@@ -1,9 +1,11 @@
 -- What the calls of a keyspace hand out.
-use Rattle.std.specs.Prelude.{◌≡◌, ◌⊎◌, ℕ, ◌+◌, ◌<◌, ◌^◌, List, Option, Some, IfSome, true}
+use Rattle.std.specs.Prelude.{◌≡◌, ◌⊎◌, ℕ, ◌+◌, ◌<◌, ◌^◌, List, Option, Some, IfSome, IfNone, true}
 use Rattle.blocks.specs.declared.BlockRef.{BlockRef}
 use Rattle.blocks.specs.Blocks.{Blocks, Owned, times}
-use Rattle.plain_world.specs.Worlds.{Entry, Value, look, put, live, in_time}
+use Rattle.plain_world.specs.Worlds.{World, Entry, Value, look, put, live, in_time}
+use Rattle.rehash_dict.specs.Keyed.{hash_of}
 use Rattle.held.specs.declared.keyspace.Lifted.{Lifted}
+use Rattle.held.specs.declared.seeking.Sought.{Sought}
 use Rattle.std.specs.FinMap.{get}
 use Rattle.expiry.specs.Timed.{Timed, moments, Grows, KeepsCursor}
 use Rattle.expiry.specs.Changes.{Clears}
@@ -20,9 +22,13 @@ module _ {V : Type 0} where
     pub bytes : blocks element.key ≡ Some key
     pub is : element.value ≡ value
 
+  -- whatever stands at the key of the database is so
+  abbrev pub AllAt : (V → Type 0) → Bases V → Blocks → ℕ → List ℕ → Type 0
+  AllAt Is bases blocks db key = (at : ℕ) (element : Element V) → item (table_at bases db) at ≡ Some element → blocks element.key ≡ Some key → Is element.value
+
   -- whatever stands at the key of the database is this value
   abbrev pub HasOnly : Bases V → Blocks → ℕ → List ℕ → V → Type 0
-  HasOnly bases blocks db key value = (at : ℕ) (element : Element V) → item (table_at bases db) at ≡ Some element → blocks element.key ≡ Some key → element.value ≡ value
+  HasOnly bases blocks db key value = AllAt (λ is. is ≡ value) bases blocks db key
 
   -- The value is what stands at the key of the database at the moment, and its blocks are live.
   pub record Found (refs_of : V → List BlockRef) (value_of : Blocks → V → Value) (bases : Bases V) (blocks : Blocks) (db : ℕ) (key : List ℕ) (moment : ℕ) (value : V) : Type 0 where
@@ -64,6 +70,12 @@ module _ {V : Type 0} where
     pub stands : Stands blocks (table_at bases db) at key
     pub in_time : in_time moment (get (moments blocks (deadlines_at bases db)) key) ≡ true
 
+  -- what a search for a key found: its hash, and its item number where it has an element, whether it is gone or not
+  pub record Seeks (bases : Bases V) (blocks : Blocks) (db : ℕ) (key : List ℕ) (sought : Sought) : Type 0 where
+    pub hashed : sought.hash ≡ hash_of (table_at bases db).seed key
+    pub stands : IfSome sought.item (λ at. Stands blocks (table_at bases db) at key)
+    pub lacks : IfNone sought.item (Lacks blocks (table_at bases db) key)
+
   -- the deadline of a key that is to join stands already, where it has one
   pub record Begins (old mid : Bases V) (blocks : Blocks) (db : ℕ) (name : BlockRef) (key : List ℕ) (deadline : Option ℕ) : Type 0 where
     pub changes : ChangesDeadlines old mid db
@@ -99,6 +111,11 @@ module _ {V : Type 0} where
     pub times : moments blocks (deadlines_at new db) ≡ moments blocks (deadlines_at old db)
     pub grown : Grows blocks (deadlines_at old db) (deadlines_at new db)
     pub cursor : KeepsCursor (deadlines_at old db) (deadlines_at new db)
+
+-- something stands at the key, with this deadline or without one
+pub record HasUntil (world : World) (key : List ℕ) (deadline : Option ℕ) : Type 0 where
+  pub value : Value
+  pub stands : look world key ≡ Some (record { value = value; deadline = deadline })
 
 -- a deadline is at most 2^63 - 1
 abbrev pub IsDeadline : Option ℕ → Type 0

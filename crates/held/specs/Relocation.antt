@@ -43,10 +43,11 @@ names_from None = 1
 names_from (Some mark) = 0
 
 module _ {V : Type 0} (refs_of : V → List BlockRef) (value_of : Blocks → V → Value) where
-  module _ (marks : V → List ℕ) (m after : Blocks) (heap later : Heap) where
-    -- A part of a value's blocks was passed. It means what it meant.
+  module _ (marks : V → List ℕ) {E : Type 0} (encoding : V → E) (m after : Blocks) (heap later : Heap) where
+    -- A part of a value's blocks was passed. It means what it meant, and is encoded as it was.
     pub record PassesPart (old new : V) (from room : ℕ) (answer : Moved) : Type 0 where
       pub means : value_of after new ≡ value_of m old
+      pub same_encoding : encoding new ≡ encoding old
       pub changes : Changes m after (refs_of old) (refs_of new)
       pub calmer : Calmer heap later
       pub same_marks : marks new ≡ marks old
@@ -81,7 +82,7 @@ module _ {V : Type 0} where
     pub same_value : now.value ≡ was.value
     pub calm : wants later now.key ≡ false
 
-module _ {V : Type 0} (refs_of : V → List BlockRef) (marks : V → List ℕ) (later : Heap) (old new : Bases V) where
+module _ {V E : Type 0} (refs_of : V → List BlockRef) (marks : V → List ℕ) (encoding : V → E) (later : Heap) (old new : Bases V) where
   -- A part of an element's blocks was passed: its key's block where there is no mark, and those of its value from the
   -- mark on.
   pub record PassesElement (db at : ℕ) (mark : Option ℕ) (room : ℕ) (answer : Moved) : Type 0 where
@@ -91,6 +92,7 @@ module _ {V : Type 0} (refs_of : V → List BlockRef) (marks : V → List ℕ) (
     pub name_passed : mark ≡ None → wants later now.key ≡ false
     pub name_stays : IsSome mark → now.key ≡ was.key
     pub same_marks : marks now.value ≡ marks was.value
+    pub same_encoding : encoding now.value ≡ encoding was.value
     pub passed : ArePassed later (refs_of was.value) (refs_of now.value) (marks now.value)
         (unwrap_or mark 0) answer.next
     -- how many blocks were passed, the key's own among them

@@ -131,6 +131,31 @@ impl<V: Drop> Databases<V> {
         self.bases[db].keys.find(store, key)
     }
 
+    // The hash of a key, under the seed of a database's keys.
+    pub(crate) fn hash(&self, db: usize, key: &[u8]) -> u64
+        requires { db < length self.now.bases }
+        ensures { result ≡ hash_of (table_at self.now db).seed key.now }
+    {
+        self.bases[db].keys.hash(key)
+    }
+
+    // The item number of a key whose hash is at hand.
+    pub(crate) fn find_hashed<B: BlockStore>(
+        &self,
+        store: &B,
+        db: usize,
+        hash: u64,
+        key: &[u8],
+    ) -> Option<usize>
+        requires db { db < length self.now.bases }
+        requires keyed { Keyed (B.blocks store.now) (table_at self.now db) }
+        requires hashed { hash ≡ hash_of (table_at self.now db).seed key.now }
+        ensures found { IfSome result (λ at. Stands (B.blocks store.now) (table_at self.now db) at key.now) }
+        ensures none { IfNone result (Lacks (B.blocks store.now) (table_at self.now db) key.now) }
+    {
+        self.bases[db].keys.find_hashed(store, hash, key)
+    }
+
     // The value of an item number.
     pub(crate) fn value(&self, db: usize, at: usize) -> &V
         requires db { db < length self.now.bases }
@@ -168,6 +193,29 @@ impl<V: Drop> Databases<V> {
             return None;
         }
         self.bases[db].deadlines.get(store, key)
+    }
+
+    // The same of a key whose hash is at hand.
+    pub(crate) fn deadline_hashed<B: BlockStore>(
+        &self,
+        store: &B,
+        db: usize,
+        hash: u64,
+        key: &[u8],
+    ) -> Option<u64>
+        requires db { db < length self.now.bases }
+        requires keyed { Keyed (B.blocks store.now) (deadlines_at self.now db).table }
+        requires hashed { hash ≡ hash_of (deadlines_at self.now db).table.seed key.now }
+        ensures value { get (moments (B.blocks store.now) (deadlines_at self.now db)) key.now ≡ result }
+        ensures found { IfSome result (λ deadline. HasDeadline (B.blocks store.now) (deadlines_at self.now db).table key.now deadline) }
+    {
+        if self.has_no_deadline(db) {
+            return None;
+        }
+        let table = self.bases[db].deadlines.table();
+        let at = table.find_hashed(store, hash, key)?;
+        let (_key, deadline) = table.entry(at);
+        Some(*deadline)
     }
 
     // A number above each item number of a database's deadlines.
@@ -329,26 +377,29 @@ impl<V: Drop> Databases<V> {
         self.bases[db].keys.swap_value(at, value)
     }
 
-    // Adds a key that is not there, and answers its item number.
-    pub(crate) fn insert<B: BlockStore>(
+    // Adds a key that is not there and whose hash is at hand, and answers its item number.
+    fn insert<B: BlockStore>(
         &mut self,
         store: &B,
         db: usize,
+        hash: u64,
         key: BlockRef,
         value: V,
     ) -> Result<usize, (V, Memory)>
         requires db { db < length self.old.bases }
         requires keyed { Keyed (B.blocks store.now) (table_at self.old db) }
         requires live { IsSome (B.blocks store.now key) }
+        requires hashed { hash ≡ hash_of (table_at self.old db).seed (bytes_at (B.blocks store.now) key) }
         requires lacks { Lacks (B.blocks store.now) (table_at self.old db) (bytes_at (B.blocks store.now) key) }
         ensures changes { ChangesTable self.old self.new db }
-        ensures adds { IfOk result (λ at. Adds (table_at self.old db) (table_at self.new db) at (record { key = key; hash = hash_of (table_at self.old db).seed (bytes_at (B.blocks store.now) key); value = value })) }
+        ensures adds { IfOk result (λ at. Adds (table_at self.old db) (table_at self.new db) at (record { key = key; hash = hash; value = value })) }
         ensures keyed { Keyed (B.blocks store.now) (table_at self.new db) }
         ensures grown { TableGrows (B.blocks store.now) (table_at self.old db) (table_at self.new db) }
         ensures err { OnErr result (self.new ≡ self.old) }
         ensures value_returned { IfErr result (λ e. e.0 ≡ value) }
     {
-        self.bases[db].keys.insert(store, key, value)
+        let _ = store;
+        self.bases[db].keys.insert_hashed(hash, key, value)
     }
 
     // Gives a key that is to join its deadline, where it has one. `Memory` leaves all.
@@ -375,11 +426,13 @@ impl<V: Drop> Databases<V> {
         }
     }
 
-    // Adds a key that is not there, with its deadline. Where memory is refused the keys stay, and so does each deadline.
-    pub(crate) fn insert_timed<B: BlockStore>(
+    // Adds a key that is not there and whose hash is at hand, with its deadline. Where memory is refused the keys stay, and so does
+    // each deadline.
+    pub(crate) fn insert_hashed<B: BlockStore>(
         &mut self,
         store: &B,
         db: usize,
+        hash: u64,
         name: BlockRef,
         key: &[u8],
         value: V,
@@ -388,6 +441,7 @@ impl<V: Drop> Databases<V> {
         requires db { db < length self.old.bases }
         requires keyed { Keyed (B.blocks store.now) (table_at self.old db) }
         requires timed { IsTimed (B.blocks store.now) (table_at self.old db) (deadlines_at self.old db) }
+        requires hashed { hash ≡ hash_of (table_at self.old db).seed key.now }
         requires named { B.blocks store.now name ≡ Some key.now }
         requires lacks { Lacks (B.blocks store.now) (table_at self.old db) key.now }
         requires latest { IsDeadline deadline }
@@ -398,7 +452,7 @@ impl<V: Drop> Databases<V> {
         if let Err(error) = self.set_new(store, db, name, key, deadline) {
             return Err((value, error));
         }
-        match self.insert(store, db, name, value) {
+        match self.insert(store, db, hash, name, value) {
             Ok(_at) => Ok(()),
             Err((value, error)) => {
                 self.clear_deadline(store, db, key);

@@ -1,4 +1,4 @@
-ghost use Rattle.std.specs.Prelude.{◌≡◌, ℕ, ◌≤◌, List, [], length, IfSome};
+ghost use Rattle.std.specs.Prelude.{◌≡◌, ℕ, ◌≤◌, List, [], length, None, IfSome};
 ghost use Rattle.blocks.specs.declared.BlockRef.{BlockRef};
 ghost use Rattle.blocks.specs.Blocks.{Blocks, Changes, Owned, Served};
 ghost use Rattle.plain_world.specs.Worlds.{Value};
@@ -14,6 +14,12 @@ pub trait Held: Drop {
 
     /// The mark of each of these, in the same order.
     ghost marks: { Self → List ℕ };
+
+    /// What tells how a value is encoded.
+    ghost Encoding: { Type 0 };
+
+    /// How it is encoded.
+    ghost encoding: { Self → Encoding };
 
     /// What it means over the blocks of a store.
     ghost value_of: { Blocks → Self → Value };
@@ -36,14 +42,14 @@ pub trait Held: Drop {
     fn relocate_part<B: BlockStore>(&mut self, store: &mut B, from: u128, room: u32) -> Moved
         requires owned { Owned (refs_of self.old) (B.blocks store.old) }
         requires room { 32 ≤ room }
-        ensures { PassesPart refs_of value_of marks (B.blocks store.old) (B.blocks store.new) (B.heap store.old) (B.heap store.new) self.old self.new from room result };
+        ensures { PassesPart refs_of value_of marks encoding (B.blocks store.old) (B.blocks store.new) (B.heap store.old) (B.heap store.new) self.old self.new from room result };
 
-    /// What `relocate_part` answers where no block that it would pass wants to move, so that nothing moves; it only looks.
-    /// `None` where one may want to.
-    fn passed<B: BlockStore>(&self, store: &B, from: u128, room: u32) -> Option<Moved>
+    /// How many blocks it has, where none of them wants to move and they are at most `room`: a call of `relocate_part` would pass
+    /// just these. `None` comes where it may be otherwise.
+    fn calm_blocks<B: BlockStore>(&self, store: &B, room: u32) -> Option<u32>
         requires owned { Owned (refs_of self.now) (B.blocks store.now) }
         requires room { 32 ≤ room }
-        ensures { IfSome result (λ moved. PassesPart refs_of value_of marks (B.blocks store.now) (B.blocks store.now) (B.heap store.now) (B.heap store.now) self.now self.now from room moved) };
+        ensures { IfSome result (λ count. PassesPart refs_of value_of marks encoding (B.blocks store.now) (B.blocks store.now) (B.heap store.now) (B.heap store.now) self.now self.now 0 room (record { next = None; used = count })) };
 
     /// Each of its references has a mark.
     ghost marked: { (value : Self) → length (marks value) ≡ length (refs_of value) };

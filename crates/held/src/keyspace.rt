@@ -136,7 +136,7 @@ impl<V: Held, B: BlockStore> Keyspace<V, B> {
         ensures none { IfNone result (look (live (means V.value_of db self.now.bases (B.blocks self.now.store)) moment) key.now ≡ None) }
     {
         let at = self.find(db, key, moment)?;
-        Some(self.bases.value(db, at))
+        Some(self.value_at(db, at))
     }
 
     // The item number of a key that is there at the moment.
@@ -146,12 +146,7 @@ impl<V: Held, B: BlockStore> Keyspace<V, B> {
         ensures found { IfSome result (λ at. StandsAt self.now.bases (B.blocks self.now.store) db key.now moment at) }
         ensures none { IfNone result (look (live (means V.value_of db self.now.bases (B.blocks self.now.store)) moment) key.now ≡ None) }
     {
-        let at = self.bases.find(&self.store, db, key)?;
-        let deadline = self.bases.deadline(&self.store, db, key);
-        if !is_in_time(moment, deadline) {
-            return None;
-        }
-        Some(at)
+        self.seek_at(db, key, moment).there
     }
 
     /// The deadline of a key in milliseconds, whether it is past or not. `None` comes exactly where the key isn't there, or
@@ -213,11 +208,8 @@ impl<V: Held, B: BlockStore> Keyspace<V, B> {
         ensures settings { SameSettings self.old.bases self.new.bases }
         ensures within { Within V.refs_of (no_key db) self.old.bases self.new.bases (B.blocks self.old.store) (B.blocks self.old.store) }
     {
-        let Some(at) = self.bases.find(&self.store, db, key) else {
-            return Ok(false);
-        };
-        self.retime(db, at, key, to)?;
-        Ok(true)
+        let sought = self.seek(db, key);
+        self.set_sought(db, key, sought, to)
     }
 
     /// Takes out the value that stands at a key at the moment, in milliseconds; `vacant`, which owns no block,
@@ -234,8 +226,7 @@ impl<V: Held, B: BlockStore> Keyspace<V, B> {
         ensures within { Within V.refs_of (one_key db key.now) self.old.bases self.new.bases (B.blocks self.old.store) (B.blocks self.old.store) }
     {
         let item = self.find(db, key, moment)?;
-        let value = self.bases.swap_value(db, item, V::zero());
-        Some(Lifted { db, item, value })
+        Some(self.lift_at(db, item))
     }
 
     /// Puts a lifted value back into its place, in which `vacant` still stands.
@@ -279,13 +270,8 @@ impl<V: Held, B: BlockStore> Keyspace<V, B> {
         ensures settings { SameSettings self.old.bases self.new.bases }
         ensures within { Within V.refs_of (one_key db key.now) self.old.bases self.new.bases (B.blocks self.old.store) (B.blocks self.new.store) }
     {
-        match self.place(db, key, value, deadline) {
-            Ok(()) => Ok(()),
-            Err(value) => {
-                value.release(&mut self.store);
-                Err(AllocError)
-            }
-        }
+        let sought = self.seek(db, key);
+        self.put_sought(db, key, sought, value, deadline)
     }
 
     /// Removes a key with all its blocks, without memory. The answer is whether it was there.

@@ -9,7 +9,9 @@ mod keyspace;
 mod moving;
 mod rehash;
 mod relocate;
+mod seeking;
 
 pub use databases::{Base, Databases};
 pub use held::Held;
 pub use keyspace::{Keyspace, Lifted};
+pub use seeking::{Sought, SoughtAt};

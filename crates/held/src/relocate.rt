@@ -54,7 +54,7 @@ impl<V: Held, B: BlockStore> Keyspace<V, B> {
         requires room { 32 ≤ room }
         requires intact { IsIntact V.refs_of self.old.bases (B.blocks self.old.store) [] }
         ensures relocates { Relocates V.refs_of V.value_of self.old.bases self.new.bases (B.blocks self.old.store) (B.blocks self.new.store) }
-        ensures passes { PassesElement V.refs_of V.marks (B.heap self.new.store) self.old.bases self.new.bases db at (Some from) room result }
+        ensures passes { PassesElement V.refs_of V.marks V.encoding (B.heap self.new.store) self.old.bases self.new.bases db at (Some from) room result }
         ensures calmer { Calmer (B.heap self.old.store) (B.heap self.new.store) }
     {
         let mut value = self.bases.swap_value(db, at, V::zero());
@@ -63,49 +63,23 @@ impl<V: Held, B: BlockStore> Keyspace<V, B> {
         moved
     }
 
-    // What is passed of one key's blocks where none of them wants to move: it only looks. `None` where one may want to.
-    fn passed_part(&self, db: usize, at: usize, mark: Option<u128>, room: u32) -> Option<Moved>
+    /// How many blocks a key has, its own and those of its value, where none of them wants to move and they are at most `room`: a
+    /// call of `relocate_key_part` without a mark would pass just these. `None` comes where it may be otherwise.
+    pub fn calm_blocks(&self, db: usize, at: usize, room: u32) -> Option<u32>
         requires db { db < 16 }
         requires element { IsSome (item (table_at self.now.bases db) at) }
         requires room { 33 ≤ room }
         requires intact { IsIntact V.refs_of self.now.bases (B.blocks self.now.store) [] }
-        ensures { IfSome result (λ moved. PassesElement V.refs_of V.marks (B.heap self.now.store) self.now.bases self.now.bases db at mark room moved) }
+        ensures { IfSome result (λ count. PassesElement V.refs_of V.marks V.encoding (B.heap self.now.store) self.now.bases self.now.bases db at None room (record { next = None; used = count })) }
     {
         let (name, value) = self.bases.table(db).entry(at);
-        let Some(from) = mark else {
-            if self.store.wants_move(name) {
-                return None;
-            }
-            return match value.passed(&self.store, 0, room - 1) {
-                None => None,
-                Some(moved) => Some(Moved {
-                    next: moved.next,
-                    used: moved.used + 1,
-                }),
-            };
-        };
-        value.passed(&self.store, from, room)
-    }
-
-    // Passes a part of one key's blocks, of which some may move.
-    fn move_part(&mut self, db: usize, at: usize, mark: Option<u128>, room: u32) -> Moved
-        requires db { db < 16 }
-        requires element { IsSome (item (table_at self.old.bases db) at) }
-        requires room { 33 ≤ room }
-        requires intact { IsIntact V.refs_of self.old.bases (B.blocks self.old.store) [] }
-        ensures relocates { Relocates V.refs_of V.value_of self.old.bases self.new.bases (B.blocks self.old.store) (B.blocks self.new.store) }
-        ensures passes { PassesElement V.refs_of V.marks (B.heap self.new.store) self.old.bases self.new.bases db at mark room result }
-        ensures calmer { Calmer (B.heap self.old.store) (B.heap self.new.store) }
-    {
-        let Some(from) = mark else {
-            self.pass_name(db, at);
-            let moved = self.pass_value(db, at, 0, room - 1);
-            return Moved {
-                next: moved.next,
-                used: moved.used + 1,
-            };
-        };
-        self.pass_value(db, at, from, room)
+        if self.store.wants_move(name) {
+            return None;
+        }
+        match value.calm_blocks(&self.store, room - 1) {
+            None => None,
+            Some(count) => Some(count + 1),
+        }
     }
 
     /// Goes through the blocks of one key, at most `room` of them and of vacant places, and moves each that wants it: the key's
@@ -125,12 +99,17 @@ impl<V: Held, B: BlockStore> Keyspace<V, B> {
         requires intact { IsIntact V.refs_of self.old.bases (B.blocks self.old.store) [] }
         ensures relocates { Relocates V.refs_of V.value_of self.old.bases self.new.bases (B.blocks self.old.store) (B.blocks self.new.store) }
         ensures sound { (out : List BlockRef) → SoundBeside V.refs_of self.old.bases (B.blocks self.old.store) out → SoundBeside V.refs_of self.new.bases (B.blocks self.new.store) out }
-        ensures passes { PassesElement V.refs_of V.marks (B.heap self.new.store) self.old.bases self.new.bases db at mark room result }
+        ensures passes { PassesElement V.refs_of V.marks V.encoding (B.heap self.new.store) self.old.bases self.new.bases db at mark room result }
         ensures calmer { Calmer (B.heap self.old.store) (B.heap self.new.store) }
     {
-        if let Some(moved) = self.passed_part(db, at, mark, room) {
-            return moved;
-        }
-        self.move_part(db, at, mark, room)
+        let Some(from) = mark else {
+            self.pass_name(db, at);
+            let moved = self.pass_value(db, at, 0, room - 1);
+            return Moved {
+                next: moved.next,
+                used: moved.used + 1,
+            };
+        };
+        self.pass_value(db, at, from, room)
     }
 }

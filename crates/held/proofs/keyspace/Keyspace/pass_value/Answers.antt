@@ -25,4 +25,4 @@ returns-clause-passes g c =
     c.swap_value-zero.new.self (g.B.BlockStore.blocks c.relocate_part-moved.new.store) c.relocate_part-moved.new.self c.swap_value-zero.result c.swap_value-zero.ensures.changes c.swap_value-zero.ensures.swaps
     (c.swap_value-zero.ensures.keyed (g.B.BlockStore.blocks c.relocate_part-moved.new.store)) (c.swap_value-value.ensures.tables (g.B.BlockStore.blocks c.args.self.now.store)) (c.swap_value-zero.ensures.tables (g.B.BlockStore.blocks c.relocate_part-moved.new.store))
     c.relocate_part-moved.ensures.changes c.relocate_part-moved.ensures.means
-    g.V.Held.marks (g.B.BlockStore.heap c.args.self.now.store) (g.B.BlockStore.heap c.relocate_part-moved.new.store) c.args.from c.args.room c.relocate_part-moved.result c.relocate_part-moved.ensures
+    g.V.Held.marks g.V.Held.encoding (g.B.BlockStore.heap c.args.self.now.store) (g.B.BlockStore.heap c.relocate_part-moved.new.store) c.args.from c.args.room c.relocate_part-moved.result c.relocate_part-moved.ensures

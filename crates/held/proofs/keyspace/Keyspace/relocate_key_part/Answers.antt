@@ -1,9 +1,17 @@
-use Rattle.blocks.proofs.Sweeps.{Calmer-same}
-use Rattle.held.proofs.Relocating.{relocates_none}
+use Rattle.std.proofs.Common.{arith}
+use Rattle.blocks.proofs.Sweeps.{Calmer-next}
+use Rattle.held.proofs.Relocating.{relocates_then, element_passes}
 use Rattle.held.proofs.keyspace.Keyspace.relocate_key_part.Goals as goal
 
-pub returns-in-Some-clause-relocates : goal.returns-in-Some-clause-relocates
-returns-in-Some-clause-relocates g c = relocates_none g.V.Held.refs_of g.V.Held.value_of g.met.V.Held.reads_own c.args.self.now.bases (g.B.BlockStore.blocks c.args.self.now.store) c.requires.intact
+pub returns-in_default-clause-relocates : goal.returns-in_default-clause-relocates
+returns-in_default-clause-relocates g c =
+    relocates_then g.V.Held.refs_of g.V.Held.value_of g.met.V.Held.reads_own c.args.self.now.bases c.pass_name.new.self.bases c.pass_value-moved.new.self.bases (g.B.BlockStore.blocks c.args.self.now.store) (g.B.BlockStore.blocks c.pass_name.new.self.store) (g.B.BlockStore.blocks c.pass_value-moved.new.self.store)
+    c.pass_name.ensures.relocates c.pass_value-moved.ensures.relocates
 
-pub returns-in-Some-clause-calmer : goal.returns-in-Some-clause-calmer
-returns-in-Some-clause-calmer g c = Calmer-same (g.B.BlockStore.heap c.args.self.now.store)
+pub returns-in_default-clause-passes : goal.returns-in_default-clause-passes
+returns-in_default-clause-passes g c =
+    element_passes g.V.Held.refs_of g.V.Held.marks g.V.Held.encoding (g.B.BlockStore.heap c.pass_name.new.self.store) (g.B.BlockStore.heap c.pass_value-moved.new.self.store) c.args.self.now.bases c.pass_name.new.self.bases c.pass_value-moved.new.self.bases c.args.db c.args.at
+    c.args.mark c.args.room c.pass_value-moved.result c.in_default.is (omega (arith, c.requires.room)) c.pass_name.ensures.passes c.pass_value-moved.ensures.passes c.pass_value-moved.ensures.calmer
+
+pub returns-in_default-clause-calmer : goal.returns-in_default-clause-calmer
+returns-in_default-clause-calmer g c = Calmer-next (g.B.BlockStore.heap c.args.self.now.store) (g.B.BlockStore.heap c.pass_name.new.self.store) (g.B.BlockStore.heap c.pass_value-moved.new.self.store) c.pass_name.ensures.calmer c.pass_value-moved.ensures.calmer

@@ -1,6 +1,6 @@
 use Rattle.std.proofs.Common.{rules}
 use Rattle.held.proofs.Joining.{joins_is, keeps_is, keeps_same}
-use Rattle.held.proofs.databases.Databases.insert_timed.Goals as goal
+use Rattle.held.proofs.databases.Databases.insert_hashed.Goals as goal
 
 pub returns-in-Ok-clause-joins : goal.returns-in-Ok-clause-joins
 returns-in-Ok-clause-joins g c =
