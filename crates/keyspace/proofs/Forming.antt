@@ -6,7 +6,7 @@ use Rattle.std.specs.Cmp.Lexicographic.{slice_cmp}
 use Rattle.blocks.specs.Blocks.{Blocks, bytes_at}
 use Rattle.rehash_dict.proofs.Keys.{live_bytes}
 use Rattle.plain_world.specs.Worlds.{World, new_world}
-use Rattle.held.specs.Calls.{HasValue, HasOnly}
+use Rattle.held.specs.Calls.{HasValue, AllAt, HasOnly}
 use Rattle.held.specs.Written as held
 use Rattle.held.proofs.Calls.{look_stands}
 use Rattle.held.proofs.Timing.{some_none}
@@ -19,7 +19,7 @@ use Rattle.keyspace.specs.Sound.{IsArranged}
 use Rattle.keyspace.specs.Scopes.{Scope, one_key, Within}
 use Rattle.keyspace.specs.declared.value.Value.TheVariants.{Text}
 use Rattle.keyspace.specs.Values.{value_of, value_refs, value_own, IsWhole, IsLike}
-use Rattle.keyspace.specs.Forms.{AreWhole, Form, Unwritten, Whole, AsAt, HasForm, Forms, Formed, AllAt}
+use Rattle.keyspace.specs.Forms.{AreWhole, Form, Unwritten, Whole, AsAt, HasForm, Forms, Formed}
 
 -- what was whole stays so, and so is what is written
 whole_on : (old new : Bases) (m after : Blocks) → held.Written value_refs IsWhole old new m after → AreWhole old → AreWhole new
@@ -78,7 +78,7 @@ unformed blocks form keyspace result = formed_ok blocks form keyspace keyspace r
 
 -- a value is encoded like itself
 pub like_itself : (value : Value) → IsLike value value
-like_itself (Text text) = refl
+like_itself value = refl
 
 -- the value that stood at a key moves
 pub formed_moved : (db : ℕ) (key : List ℕ) (old new : Bases) (m after : Blocks) → held.Written value_refs (HasValue old m db key) old new m after → Forms (AsAt db key) old new m after

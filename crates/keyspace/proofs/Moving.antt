@@ -17,11 +17,11 @@ use Rattle.blocks.proofs.Sums.{count_cons}
 use Rattle.plain_world.specs.Worlds.{Str}
 use Rattle.string_object.specs.declared.text.Text as string
 use Rattle.string_object.specs.declared.text.Text.TheVariants.{Number, Whole, Raw}
-use Rattle.string_object.specs.Text.{text_bytes, text_refs}
+use Rattle.string_object.specs.Text.{text_bytes, text_refs, is_raw}
 use Rattle.held.specs.Relocation.{is_before, is_passed, PassesPart}
 use Rattle.keyspace.specs.declared.value.Value.{Value}
 use Rattle.keyspace.specs.declared.value.Value.TheVariants.{Text}
-use Rattle.keyspace.specs.Values.{value_of, value_refs, value_marks}
+use Rattle.keyspace.specs.Values.{value_of, value_refs, value_marks, OfText, encoding_of}
 
 abbrev first_marks : List BlockRef → List ℕ
 first_marks refs = map (λ at. 0) refs
@@ -74,11 +74,12 @@ begins_first : (from : ℕ) (next : Option ℕ) → is_passed from next 0 ≡ tr
 begins_first zero next passed = refl
 begins_first (suc n) next passed = (let both : false ≡ true = sym (above_first n next) ∙ passed in cc)
 
-pub text_passes : (m after : Blocks) (heap later : Heap) (old new : string.Text) (from room : ℕ) (answer : Moved) → text_bytes after new ≡ text_bytes m old → Changes m after (text_refs old) (text_refs new) → Calmer heap later → length (text_refs new) ≡ length (text_refs old)
+pub text_passes : (m after : Blocks) (heap later : Heap) (old new : string.Text) (from room : ℕ) (answer : Moved) → text_bytes after new ≡ text_bytes m old → is_raw new ≡ is_raw old → Changes m after (text_refs old) (text_refs new) → Calmer heap later → length (text_refs new) ≡ length (text_refs old)
     → (from ≡ 0 → All (λ r. wants later r ≡ false) (text_refs new)) → (0 < from → new ≡ old) → answer.next ≡ None → answer.used ≡ cond (eqb from 0) (length (text_refs old)) 0 → 32 ≤ room
-    → PassesPart value_refs value_of value_marks m after heap later (Text old) (Text new) from room answer
-text_passes m after heap later old new from room answer bytes changes calmer many passed stays next used wide = record {
+    → PassesPart value_refs value_of value_marks encoding_of m after heap later (Text old) (Text new) from room answer
+text_passes m after heap later old new from room answer bytes raw changes calmer many passed stays next used wide = record {
   means = ap Str bytes;
+  same_encoding = ap OfText raw;
   changes = changes;
   calmer = calmer;
   same_marks = as_many (text_refs new) (text_refs old) many;
@@ -96,9 +97,9 @@ text_passes m after heap later old new from room answer bytes changes calmer man
 }
 
 -- the same where nothing moves
-pub text_passed : (m : Blocks) (heap : Heap) (value : Value) (text : string.Text) (from room : ℕ) (o : Option Moved) → value ≡ Text text → Owned (value_refs value) m → IfSome o (λ moved. from ≡ 0 → All (λ r. wants heap r ≡ false) (text_refs text)) → IfSome o (λ moved. moved.next ≡ None)
-    → IfSome o (λ moved. moved.used ≡ cond (eqb from 0) (length (text_refs text)) 0) → 32 ≤ room → IfSome o (λ moved. PassesPart value_refs value_of value_marks m m heap heap value value from room moved)
-text_passed m heap value text from room None is owned calm next used wide = tt
-text_passed m heap value text from room (Some moved) is owned calm next used wide =
-    subst (λ v. PassesPart value_refs value_of value_marks m m heap heap v v from room moved) (sym is)
-    (text_passes m m heap heap text text from room moved refl (Changes-same m (text_refs text) (subst (λ v. Owned (value_refs v) m) is owned)) (Calmer-same heap) refl calm (λ above. refl) next used wide)
+pub text_calm : (m : Blocks) (heap : Heap) (value : Value) (text : string.Text) (room : ℕ) (o : Option ℕ) → value ≡ Text text → Owned (value_refs value) m → IfSome o (λ count. All (λ r. wants heap r ≡ false) (text_refs text))
+    → IfSome o (λ count. count ≡ length (text_refs text)) → 32 ≤ room → IfSome o (λ count. PassesPart value_refs value_of value_marks encoding_of m m heap heap value value 0 room (record { next = None; used = count }))
+text_calm m heap value text room None is owned calm count wide = tt
+text_calm m heap value text room (Some n) is owned calm count wide =
+    subst (λ v. PassesPart value_refs value_of value_marks encoding_of m m heap heap v v 0 room (record { next = None; used = n })) (sym is)
+    (text_passes m m heap heap text text 0 room (record { next = None; used = n }) refl refl (Changes-same m (text_refs text) (subst (λ v. Owned (value_refs v) m) is owned)) (Calmer-same heap) refl (λ first. calm) (λ above. refl) refl count wide)

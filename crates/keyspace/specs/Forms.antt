@@ -42,10 +42,6 @@ Forms form old new m after = held.Written value_refs (HasForm form old m) old ne
 abbrev pub Formed : {S : Type 0} → (S → Blocks) → Form → Keyspace S → Keyspace S → Type 0
 Formed blocks form old new = Forms form old.bases new.bases (blocks old.store) (blocks new.store)
 
--- whatever stands at a key of a database is so
-abbrev pub AllAt : (Value → Type 0) → Bases → Blocks → ℕ → List ℕ → Type 0
-AllAt Is bases m db key = (at : ℕ) (element : Element Value) → item (table_at bases db) at ≡ Some element → m element.key ≡ Some key → Is element.value
-
 -- APPEND to a key that is there and SETRANGE change a part; all others that write a string write it whole
 abbrev pub string_form : World → StringCommand → Form
 string_form world (strings.Set key value options) = Whole

@@ -8,3 +8,4 @@ pub mod Calls
 pub mod Forms
 pub mod Shown
 pub mod Commands
+pub mod Seeking

@@ -84,7 +84,7 @@ connection_scope db connection.MemorySlabs = untouched
 connection_scope db (connection.DebugRehash n) = untouched
 connection_scope db (connection.DebugDefrag n) = untouched
 
--- What a command but DEBUG REHASH may change, where this database is selected. A key that it removes, or whose deadline it
+-- What a command but DEBUG may change, where this database is selected. A key that it removes, or whose deadline it
 -- changes, it doesn't write.
 abbrev pub scope_of : ℕ → Command → Scope
 scope_of db (Strings command) = string_scope db command

@@ -1,5 +1,5 @@
 -- What a value over the blocks of a store means, and the blocks that it owns: a line for each type of value.
-use Rattle.std.specs.Prelude.{◌≡◌, ℕ, List, [], length, map, pos, true, false}
+use Rattle.std.specs.Prelude.{◌≡◌, ℕ, Bool, List, [], length, map, pos, true, false}
 use Rattle.std.proofs.Common.{refl, ap}
 use Rattle.std.proofs.lemmas.List.{length-map}
 use Rattle.blocks.specs.declared.BlockRef.{BlockRef}
@@ -34,6 +34,13 @@ value_marked (Text text) = length-map (text_refs text) (λ at. 0)
 abbrev pub IsEncodedAs : Blocks → Value → List ℕ → Type 0
 IsEncodedAs blocks (Text text) name = (own : Name) × IsNameOf (text_bytes blocks text) (is_raw text) own × (name ≡ name_text own)
 
+-- how a value is encoded beside what it means: for a string, whether it was made raw by a change of a part
+pub data Encoding : Type 0 where
+  OfText : Bool → Encoding
+
+abbrev pub encoding_of : Value → Encoding
+encoding_of (Text text) = OfText (is_raw text)
+
 -- it is encoded as one written whole: no part of it was changed
 abbrev pub IsWhole : Value → Type 0
 IsWhole (Text text) = is_raw text ≡ false
@@ -44,7 +51,7 @@ IsRaw (Text text) = is_raw text ≡ true
 
 -- both are encoded alike, where they mean the same
 abbrev pub IsLike : Value → Value → Type 0
-IsLike (Text text) (Text other) = is_raw other ≡ is_raw text
+IsLike value other = encoding_of other ≡ encoding_of value
 
 -- what stands in the place of a value that was taken out: the string of the number 0
 abbrev pub vacant : Value

@@ -1,15 +1,25 @@
 //! The deadlines of keys that are there at a moment.
 
 ghost use Rattle.std.specs.Prelude.{◌≡◌, ◌<◌, Some, true, IfOk, OnOk, is_some};
-ghost use Rattle.held.specs.Calls.{IsDeadline};
+ghost use Rattle.held.specs.Calls.{IsDeadline, Seeks};
 ghost use Rattle.plain_world.specs.Worlds.{Entry, look, put, in_time, deadline_of};
 ghost use Rattle.plain_model.specs.Deadlines as model;
 ghost use Rattle.keyspace.specs.Scopes.{no_key};
 ghost use Rattle.keyspace.specs.Commands.{Ready, Held, sight};
+ghost use Rattle.keyspace.specs.Seeking.{Sees};
 
 use crate::Keyspace;
 use blocks::BlockStore;
+use held::{Sought, SoughtAt};
 use plain_model::{Ctx, Memory};
+
+/// Seeks a key for a command.
+pub fn seek<B: BlockStore>(keyspace: &Keyspace<B>, at: &Ctx, key: &[u8]) -> SoughtAt
+    requires ready { Ready B.blocks keyspace.now at.now }
+    ensures { Sees B.blocks keyspace.now at.now key.now result }
+{
+    keyspace.seek_at(at.db, key, at.moment)
+}
 
 /// The deadline in milliseconds of a key that is there at the moment. `None` where it has none, or isn't there.
 pub fn deadline_at<B: BlockStore>(keyspace: &Keyspace<B>, at: &Ctx, key: &[u8]) -> Option<u64>
@@ -33,15 +43,17 @@ fn retime<B: BlockStore>(
     keyspace: &mut Keyspace<B>,
     at: &Ctx,
     key: &[u8],
+    sought: Sought,
     to: Option<u64>,
 ) -> Result<(), Memory>
     requires ready { Ready B.blocks keyspace.old at.now }
+    requires seeks { Seeks keyspace.old.bases (B.blocks keyspace.old.store) at.now.db key.now sought }
     requires latest { IsDeadline to }
     requires late { in_time at.now.moment to ≡ true }
     ensures world { OnOk result ((entry : Entry) → look (sight B.blocks keyspace.old at.now) key.now ≡ Some entry → sight B.blocks keyspace.new at.now ≡ put (sight B.blocks keyspace.old at.now) key.now (record { value = entry.value; deadline = to })) }
     ensures held { Held B.blocks B.step (no_key at.now.db) keyspace.old keyspace.new }
 {
-    match keyspace.set_deadline(at.db, key, to) {
+    match keyspace.set_sought(at.db, key, sought, to) {
         Ok(_) => Ok(()),
         Err(error) => Err(error),
     }
@@ -59,14 +71,33 @@ pub fn expire<B: BlockStore>(
     ensures world { OnOk result (sight B.blocks keyspace.new at.now ≡ model.expire (sight B.blocks keyspace.old at.now) at.now.moment key.now due (look (sight B.blocks keyspace.old at.now) key.now)) }
     ensures held { Held B.blocks B.step (no_key at.now.db) keyspace.old keyspace.new }
 {
-    let Some(_) = keyspace.look(at.db, key, at.moment) else {
-        return Ok(());
-    };
-    if i128::from(at.moment) < i128::from(due) {
-        return retime(keyspace, at, key, Some(due as u64));
+    let found = seek(keyspace, at, key);
+    expire_sought(keyspace, at, key, found, due)
+}
+
+/// The same of a key that was sought for the command.
+pub fn expire_sought<B: BlockStore>(
+    keyspace: &mut Keyspace<B>,
+    at: &Ctx,
+    key: &[u8],
+    found: SoughtAt,
+    due: i64,
+) -> Result<(), Memory>
+    requires ready { Ready B.blocks keyspace.old at.now }
+    requires sees { Sees B.blocks keyspace.old at.now key.now found }
+    ensures world { OnOk result (sight B.blocks keyspace.new at.now ≡ model.expire (sight B.blocks keyspace.old at.now) at.now.moment key.now due (look (sight B.blocks keyspace.old at.now) key.now)) }
+    ensures held { Held B.blocks B.step (no_key at.now.db) keyspace.old keyspace.new }
+{
+    match found.there {
+        None => Ok(()),
+        Some(_) => {
+            if i128::from(at.moment) < i128::from(due) {
+                return retime(keyspace, at, key, found.sought, Some(due as u64));
+            }
+            let _ = keyspace.drop_key(at.db, key);
+            Ok(())
+        }
     }
-    let _ = keyspace.drop_key(at.db, key);
-    Ok(())
 }
 
 /// What stands at a key has no deadline any more. The answer is whether it had one.
@@ -80,11 +111,15 @@ pub fn persist<B: BlockStore>(
     ensures world { OnOk result (sight B.blocks keyspace.new at.now ≡ model.persist (sight B.blocks keyspace.old at.now) key.now (look (sight B.blocks keyspace.old at.now) key.now)) }
     ensures held { Held B.blocks B.step (no_key at.now.db) keyspace.old keyspace.new }
 {
-    match deadline_at(keyspace, at, key) {
+    let found = seek(keyspace, at, key);
+    match found.there {
         None => Ok(false),
-        Some(_) => match retime(keyspace, at, key, None) {
-            Ok(()) => Ok(true),
-            Err(error) => Err(error),
+        Some(_) => match found.deadline {
+            None => Ok(false),
+            Some(_) => match retime(keyspace, at, key, found.sought, None) {
+                Ok(()) => Ok(true),
+                Err(error) => Err(error),
+            },
         },
     }
 }

@@ -12,6 +12,10 @@ impl Held for Value {
 
     ghost marks = { values.value_marks };
 
+    ghost Encoding = { values.Encoding };
+
+    ghost encoding = { values.encoding_of };
+
     ghost value_of = { values.value_of };
 
     ghost vacant = { values.vacant };
@@ -40,8 +44,8 @@ impl Held for Value {
         moved
     }
 
-    fn passed<B: BlockStore>(&self, store: &B, from: u128, room: u32) -> Option<Moved> {
+    fn calm_blocks<B: BlockStore>(&self, store: &B, room: u32) -> Option<u32> {
         let _ = room;
-        self.as_text().passed(store, from)
+        self.as_text().calm_blocks(store)
     }
 }

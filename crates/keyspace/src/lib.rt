@@ -7,7 +7,8 @@ mod kind;
 mod tests;
 mod value;
 
-pub use deadlines::{deadline_at, expire, persist};
+pub use deadlines::{deadline_at, expire, expire_sought, persist, seek};
+pub use held::{Sought, SoughtAt};
 pub use value::Value;
 
 /// A store, and the databases over it.

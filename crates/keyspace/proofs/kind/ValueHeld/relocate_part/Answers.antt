@@ -2,7 +2,7 @@ use Rattle.std.proofs.Common.{◌≡◌, subst, sym, ◌∙◌}
 use Rattle.blocks.specs.Blocks.{Owned}
 use Rattle.held.specs.Relocation.{PassesPart}
 use Rattle.keyspace.specs.declared.value.Value.TheVariants.{Text}
-use Rattle.keyspace.specs.Values.{value_refs, value_of, value_marks}
+use Rattle.keyspace.specs.Values.{value_refs, value_of, value_marks, encoding_of}
 use Rattle.keyspace.proofs.Moving.{text_passes}
 use Rattle.keyspace.proofs.kind.ValueHeld.relocate_part.Goals as goal
 
@@ -13,6 +13,6 @@ pub returns : goal.returns
 returns g c =
     let e = c.relocate_part-moved.ensures in
     let is : Text c.into_text-text.result ≡ c.args.self.now = sym c.into_text-text.ensures ∙ c.replace.ensures.value in
-    subst (λ v. PassesPart value_refs value_of value_marks (g.B.BlockStore.blocks c.args.store.now) (g.B.BlockStore.blocks c.relocate_part-moved.new.store) (g.B.BlockStore.heap c.args.store.now) (g.B.BlockStore.heap c.relocate_part-moved.new.store) v (Text c.relocate_part-moved.new.self) c.args.from c.args.room c.relocate_part-moved.result) is
+    subst (λ v. PassesPart value_refs value_of value_marks encoding_of (g.B.BlockStore.blocks c.args.store.now) (g.B.BlockStore.blocks c.relocate_part-moved.new.store) (g.B.BlockStore.heap c.args.store.now) (g.B.BlockStore.heap c.relocate_part-moved.new.store) v (Text c.relocate_part-moved.new.self) c.args.from c.args.room c.relocate_part-moved.result) is
     (text_passes (g.B.BlockStore.blocks c.args.store.now) (g.B.BlockStore.blocks c.relocate_part-moved.new.store) (g.B.BlockStore.heap c.args.store.now) (g.B.BlockStore.heap c.relocate_part-moved.new.store) c.into_text-text.result c.relocate_part-moved.new.self c.args.from c.args.room c.relocate_part-moved.result
-    e.bytes e.changes e.calmer e.blocks e.passed e.stays e.next e.used c.requires.room)
+    e.bytes e.raw e.changes e.calmer e.blocks e.passed e.stays e.next e.used c.requires.room)

@@ -1,0 +1,16 @@
+use Rattle.std.proofs.Common.{[], rules}
+use Rattle.keyspace.specs.Databases.{means}
+use Rattle.keyspace.specs.Scopes.{no_key}
+use Rattle.keyspace.proofs.Running.{same_held}
+use Rattle.keyspace.proofs.Seen.{expire_now}
+use Rattle.keyspace.proofs.deadlines.expire_sought.Goals as goal
+
+pub returns-in-None-clause-held : goal.returns-in-None-clause-held
+returns-in-None-clause-held g c = same_held g.B.BlockStore.blocks g.B.BlockStore.step (no_key c.args.at.now.db) c.args.keyspace.now c.requires.ready.sound
+
+pub returns-else-from-clause-world : goal.returns-else-from-clause-world
+returns-else-from-clause-world g c =
+    expire_now (means c.args.at.now.db c.args.keyspace.now.bases (g.B.BlockStore.blocks c.args.keyspace.now.store)) (means c.args.at.now.db c.drop_key.new.self.bases (g.B.BlockStore.blocks c.drop_key.new.self.store)) c.args.at.now.moment c.args.key.now c.args.due _ (rw c.in-Some.is at c.requires.sees.until).stands (search rules) c.drop_key.ensures.means
+
+pub returns-else-from-clause-held : goal.returns-else-from-clause-held
+returns-else-from-clause-held g c = record { sound = c.drop_key.ensures.sound [] c.requires.ready.sound; served = c.drop_key.ensures.served; settings = c.drop_key.ensures.settings; within = c.drop_key.ensures.within }
