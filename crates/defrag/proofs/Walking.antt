@@ -10,6 +10,7 @@ use Rattle.blocks.specs.Blocks.{Blocks, times, IsIn}
 use Rattle.blocks.specs.Slabs.{Heap, wants, per_slab, used_of, needed, Calmer}
 use Rattle.blocks.proofs.Refs.{cases_ref}
 use Rattle.blocks.proofs.Change.{one, cases_in, live-Some, Changes-same}
+use Rattle.blocks.proofs.Sweeps.{Calmer-same}
 use Rattle.blocks.proofs.Times.{times-append}
 use Rattle.rehash_dict.specs.Table.{at_item}
 use Rattle.held.specs.declared.databases.Base.{Base}
@@ -82,7 +83,7 @@ module _ {V : Type 0} (refs_of : V → List BlockRef) (marks : V → List ℕ) w
       back r (of_mark e found before) = absurd before
 
   -- the walk passes a part of a key's blocks
-  module _ (marked : (value : V) → length (marks value) ≡ length (refs_of value)) (old new : Bases V) (heap later : Heap) (walk : Walk) (room : ℕ) (answer : Moved) (p : PassesElement refs_of marks later old new walk.database walk.item walk.mark room answer) where
+  module _ {E : Type 0} (encoding : V → E) (marked : (value : V) → length (marks value) ≡ length (refs_of value)) (old new : Bases V) (heap later : Heap) (walk : Walk) (room : ℕ) (answer : Moved) (p : PassesElement refs_of marks encoding later old new walk.database walk.item walk.mark room answer) where
     pub leg_inside : Leg (shape marks old) walk answer.used (behind walk answer.next)
     leg_inside = inside (marks p.was.value) answer.next (ap (shape_of marks) p.replaces.found) (first answer.next p.bounded.on)
         (let same = ap (λ ms. count_by (is_passed (unwrap_or walk.mark 0) answer.next) ms) p.same_marks in omega (arith, p.bounded.few, same)) refl
@@ -173,6 +174,30 @@ module _ {V : Type 0} (refs_of : V → List BlockRef) (marks : V → List ℕ) w
           ]
           calm r (of_mark e found before) = absurd before
 
+  -- no block of a key wants to move, and the walk goes past it from its start
+  module _ {E : Type 0} (encoding : V → E) (marked : (value : V) → length (marks value) ≡ length (refs_of value)) (bases : Bases V) (heap : Heap) (walk : Walk) (room count : ℕ) (start : walk.mark ≡ None)
+      (p : PassesElement refs_of marks encoding heap bases bases walk.database walk.item None room (record { next = None; used = count })) where
+    abbrev next : Walk
+    next = record { database = walk.database; item = walk.item + 1; mark = walk.mark }
+
+    abbrev passed : Moved
+    passed = record { next = None; used = count }
+
+    is_behind : behind walk None ≡ next
+    is_behind = λ i. record { database = walk.database; item = walk.item + 1; mark = (sym start) i }
+
+    here_passes : PassesElement refs_of marks encoding heap bases bases walk.database walk.item walk.mark room passed
+    here_passes = subst (λ o. PassesElement refs_of marks encoding heap bases bases walk.database walk.item o room passed) (sym start) p
+
+    pub calm_swept : IsSwept refs_of marks bases heap walk → IsSwept refs_of marks bases heap next
+    calm_swept s = subst (IsSwept refs_of marks bases heap) is_behind (swept_over encoding marked bases bases heap heap walk room passed here_passes (Calmer-same heap) s refl)
+
+    pub calm_leg : Leg (shape marks bases) walk count next
+    calm_leg = subst (Leg (shape marks bases) walk count) is_behind (leg_inside encoding marked bases bases heap heap walk room passed here_passes)
+
+    pub calm_some : (0 < count) × (count ≤ room)
+    calm_some = (omega (arith, p.bounded.few), p.bounded.within)
+
   -- ---- where all databases are passed, all blocks are
 
   table_in : (r : BlockRef) (items : List (Option (Element V))) → 0 < times r (flat_map (own_of refs_of) items) → (at : ℕ) × (e : Element V) × (at_item items at ≡ Some e) × IsIn r (e.key ∷ refs_of e.value)
@@ -210,8 +235,9 @@ module _ {V : Type 0} (refs_of : V → List BlockRef) (marks : V → List ℕ) w
   leg_same old mid from to units same (ended none one' is) = ended (λ at over. sym (same from.database at) ∙ none at over) one' is
   leg_same old mid from to units same (inside all next has lt few is) = inside all next (sym (same from.database from.item) ∙ has) lt few is
 
-  pub shapes_then : (a b c : Bases V) → SameShapes marks a b → SameShapes marks b c → SameShapes marks a c
-  shapes_then a b c p q number at = q number at ∙ p number at
+-- what is told of the values stays over two moves
+pub shapes_then : {V A : Type 0} (told : V → A) (a b c : Bases V) → SameShapes told a b → SameShapes told b c → SameShapes told a c
+shapes_then told a b c p q number at = q number at ∙ p number at
 
 -- no element stands from its table's top on
 pub none_above : {V : Type 0} (t u : Table V) (top from : ℕ) → t ≡ u → ((at : ℕ) → IsSome (item t at) → at < top) → top ≤ from → (at : ℕ) → from ≤ at → item u at ≡ None
@@ -233,6 +259,21 @@ module _ {V : Type 0} (refs_of : V → List BlockRef) (value_of : Blocks → V �
     deadlines = λ number. refl;
     cursors = λ number. refl;
   }
+
+-- ---- several legs
+
+pub way_then : (shapes : Shapes) (first mid last : Walk) (some more : ℕ) → Way shapes first some mid → Way shapes mid more last → Way shapes first (some + more) last
+way_then shapes first mid _ some _ way here = subst (λ n. Way shapes first n mid) (omega arith) way
+way_then shapes first mid last some _ way (further sum units at last' rest leg) =
+    subst (λ n. Way shapes first n last) (omega arith) (further (some + sum) units at last (way_then shapes first mid at some sum way rest) leg)
+
+pub way_same : {V : Type 0} (refs_of : V → List BlockRef) (marks : V → List ℕ) (old mid : Bases V) (first last : Walk) (units : ℕ) → SameShapes marks old mid → Way (shape marks mid) first units last → Way (shape marks old) first units last
+way_same refs_of marks old mid first _ _ same here = here
+way_same refs_of marks old mid first _ _ same (further sum units at last way leg) = further sum units at last (way_same refs_of marks old mid first at sum same way) (leg_same refs_of marks old mid at last units same leg)
+
+-- one leg alone
+pub way_of : (shapes : Shapes) (first last : Walk) (units : ℕ) → Leg shapes first units last → Way shapes first units last
+way_of shapes first last units leg = subst (λ n. Way shapes first n last) (omega arith) (further 0 units first last here leg)
 
 -- ---- a walk never comes back
 

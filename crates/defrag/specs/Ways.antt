@@ -12,15 +12,16 @@ use Rattle.defrag.specs.declared.walk.Visit.TheVariants.{More}
 abbrev pub Shapes : Type 0
 Shapes = ℕ → ℕ → Option (List ℕ)
 
-module _ {V : Type 0} (marks : V → List ℕ) where
-  abbrev pub shape_of : Option (Element V) → Option (List ℕ)
+-- what is told of the values, by the number of a database and an item number, or that the number is vacant
+module _ {V A : Type 0} (told : V → A) where
+  abbrev pub shape_of : Option (Element V) → Option A
   shape_of None = None
-  shape_of (Some e) = Some (marks e.value)
+  shape_of (Some e) = Some (told e.value)
 
-  abbrev pub shape : Bases V → Shapes
+  abbrev pub shape : Bases V → ℕ → ℕ → Option A
   shape bases number at = shape_of (item (table_at bases number) at)
 
-  -- moves leave which item numbers are vacant, and the marks of all values
+  -- Which item numbers are vacant stays, and what is told of all values.
   abbrev pub SameShapes : Bases V → Bases V → Type 0
   SameShapes old new = (number at : ℕ) → shape new number at ≡ shape old number at
 

@@ -1,4 +1,4 @@
-ghost use Rattle.std.specs.Prelude.{◌≡◌, ℕ, ◌+◌, ◌-◌, ◌*◌, ◌<◌, ◌≤◌, ◌↔◌, List, [], None, is_some, if◌then◌else◌, IsTrue, MatchBool};
+ghost use Rattle.std.specs.Prelude.{◌≡◌, ℕ, ◌+◌, ◌-◌, ◌*◌, ◌^◌, ◌<◌, ◌≤◌, ◌↔◌, List, [], None, is_some, IsSome, if◌then◌else◌, IsTrue, MatchBool};
 ghost use Rattle.blocks.specs.declared.BlockRef.{BlockRef};
 ghost use Rattle.blocks.specs.Slabs.{Begun, Calmer, slabs_of, needed};
 ghost use Rattle.held.specs.Databases.{table_at};
@@ -6,7 +6,7 @@ ghost use Rattle.held.specs.Sound.{IsIntact, Sound, SoundBeside};
 ghost use Rattle.held.specs.Table.{item};
 ghost use Rattle.held.specs.Relocation.{Relocates};
 ghost use Rattle.defrag.specs.Swept.{IsSwept};
-ghost use Rattle.defrag.specs.Ways.{shape, SameShapes, Leg, Goes, IsForward, MayGo, MustStop};
+ghost use Rattle.defrag.specs.Ways.{shape, SameShapes, Leg, Way, Goes, IsForward, MayGo, MustStop};
 
 use blocks::BlockStore;
 use held::{Held, Keyspace};
@@ -66,15 +66,79 @@ impl Walk {
         left >= KEY_ROOM || !keyspace.table(self.database).is_entry(self.item)
     }
 
-    // Passes what stands at the walk's place: a part of a key's blocks, an item number that is vacant, or the end of a database.
+    // Passes keys of which no block wants to move, from the start of one on, while the units that are left are enough for any key.
     // The answer is how many units that took.
-    fn pass<V: Held, B: BlockStore>(&mut self, keyspace: &mut Keyspace<V, B>, left: u32) -> u32
-        requires may { MayGo keyspace.old.bases self.old left }
+    fn pass_calm<V: Held, B: BlockStore>(&mut self, keyspace: &Keyspace<V, B>, room: u32) -> u32
+        requires database { self.old.database < 16 }
+        requires start { self.old.mark ≡ None }
+        requires intact { IsIntact V.refs_of keyspace.now.bases (B.blocks keyspace.now.store) [] }
+        ensures swept { IsSwept V.refs_of V.marks keyspace.now.bases (B.heap keyspace.now.store) self.old → IsSwept V.refs_of V.marks keyspace.now.bases (B.heap keyspace.now.store) self.new }
+        ensures way { Way (shape V.marks keyspace.now.bases) self.old result self.new }
+        ensures few { result ≤ room }
+        ensures database { self.new.database ≡ self.old.database }
+        ensures start { self.new.mark ≡ None }
+        ensures none { result ≡ 0 → self.new ≡ self.old }
+    {
+        let table = keyspace.table(self.database);
+        // an element's item number is below the top, so that there is a next one
+        let _top = table.top();
+        let mut left = room;
+        'keys: while left >= KEY_ROOM && table.is_entry(self.item) {
+            match keyspace.calm_blocks(self.database, self.item, left) {
+                None => break,
+                Some(count) => {
+                    self.item += 1;
+                    left -= count;
+                }
+            }
+        }
+        room - left
+    }
+
+    // Passes a part of the blocks of the key at the walk's place, of which some may move. The answer is how many units that took.
+    fn pass_part<V: Held, B: BlockStore>(
+        &mut self,
+        keyspace: &mut Keyspace<V, B>,
+        left: u32,
+    ) -> u32
+        requires database { self.old.database < 16 }
+        requires element { IsSome (item (table_at keyspace.old.bases self.old.database) self.old.item) }
+        requires next { self.old.item + 1 < 2 ^ 64 }
+        requires room { 33 ≤ left }
         requires intact { IsIntact V.refs_of keyspace.old.bases (B.blocks keyspace.old.store) [] }
         ensures relocates { Relocates V.refs_of V.value_of keyspace.old.bases keyspace.new.bases (B.blocks keyspace.old.store) (B.blocks keyspace.new.store) }
         ensures swept { IsSwept V.refs_of V.marks keyspace.old.bases (B.heap keyspace.old.store) self.old → IsSwept V.refs_of V.marks keyspace.new.bases (B.heap keyspace.new.store) self.new }
         ensures leg { Leg (shape V.marks keyspace.old.bases) self.old result self.new }
         ensures shapes { SameShapes V.marks keyspace.old.bases keyspace.new.bases }
+        ensures encodings { SameShapes V.encoding keyspace.old.bases keyspace.new.bases }
+        ensures few { result ≤ left }
+        ensures smaller { 2 * (left - result) + (if is_some self.new.mark then 1 else 0) < 2 * left + (if is_some self.old.mark then 1 else 0) }
+        ensures inside { self.new.database ≡ self.old.database }
+    {
+        let moved = keyspace.relocate_key_part(self.database, self.item, self.mark, left);
+        match moved.next {
+            None => {
+                self.item += 1;
+                self.mark = None;
+                moved.used
+            }
+            Some(next) => {
+                self.mark = Some(next);
+                moved.used
+            }
+        }
+    }
+
+    // Passes what stands at the walk's place: keys of which no block wants to move, a part of a key's blocks, an item number that is
+    // vacant, or the end of a database. The answer is how many units that took.
+    fn pass<V: Held, B: BlockStore>(&mut self, keyspace: &mut Keyspace<V, B>, left: u32) -> u32
+        requires may { MayGo keyspace.old.bases self.old left }
+        requires intact { IsIntact V.refs_of keyspace.old.bases (B.blocks keyspace.old.store) [] }
+        ensures relocates { Relocates V.refs_of V.value_of keyspace.old.bases keyspace.new.bases (B.blocks keyspace.old.store) (B.blocks keyspace.new.store) }
+        ensures swept { IsSwept V.refs_of V.marks keyspace.old.bases (B.heap keyspace.old.store) self.old → IsSwept V.refs_of V.marks keyspace.new.bases (B.heap keyspace.new.store) self.new }
+        ensures way { Way (shape V.marks keyspace.old.bases) self.old result self.new }
+        ensures shapes { SameShapes V.marks keyspace.old.bases keyspace.new.bases }
+        ensures encodings { SameShapes V.encoding keyspace.old.bases keyspace.new.bases }
         ensures few { result ≤ left }
         ensures smaller { 2 * (left - result) + (if is_some self.new.mark then 1 else 0) < 2 * left + (if is_some self.old.mark then 1 else 0) }
         ensures inside { self.new.database ≤ 16 }
@@ -91,18 +155,14 @@ impl Walk {
             self.mark = None;
             return 1;
         }
-        let moved = keyspace.relocate_key_part(self.database, self.item, self.mark, left);
-        match moved.next {
-            None => {
-                self.item += 1;
-                self.mark = None;
-                moved.used
-            }
-            Some(next) => {
-                self.mark = Some(next);
-                moved.used
-            }
+        if self.mark.is_some() {
+            return self.pass_part(keyspace, left);
         }
+        let calm = self.pass_calm(keyspace, left);
+        if calm > 0 {
+            return calm;
+        }
+        self.pass_part(keyspace, left)
     }
 
     /// Goes on with the pass until 64 units are used, or fewer than 33 are left where a key is to be begun or continued, or all
@@ -118,6 +178,7 @@ impl Walk {
         ensures more { result ≡ Visit.More ↔ (self.new.database < 16) }
         ensures done { result ≡ Visit.Done ↔ (self.new.database ≡ 16) }
         ensures forward { IsForward self.old self.new }
+        ensures encodings { SameShapes V.encoding keyspace.old.bases keyspace.new.bases }
         ensures goes { Goes (shape V.marks keyspace.old.bases) self.old self.new result }
         ensures swept { result ≡ Visit.More → IsSwept V.refs_of V.marks keyspace.old.bases (B.heap keyspace.old.store) self.old → IsSwept V.refs_of V.marks keyspace.new.bases (B.heap keyspace.new.store) self.new }
         ensures least { result ≡ Visit.Done → Sound V.refs_of keyspace.old.bases (B.blocks keyspace.old.store) → IsSwept V.refs_of V.marks keyspace.old.bases (B.heap keyspace.old.store) self.old → (class : ℕ) → class < 36 → slabs_of (B.heap keyspace.new.store) class ≡ needed (B.heap keyspace.new.store) class }

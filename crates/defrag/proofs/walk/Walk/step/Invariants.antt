@@ -8,6 +8,7 @@ abbrev pub invariant-legs : goal.invariant-legs
 invariant-legs g l = record {
   relocates : Relocates g.V.Held.refs_of g.V.Held.value_of l.initial.keyspace.bases l.keyspace.bases (g.B.BlockStore.blocks l.initial.keyspace.store) (g.B.BlockStore.blocks l.keyspace.store);
   shapes : SameShapes g.V.Held.marks l.initial.keyspace.bases l.keyspace.bases;
+  encodings : SameShapes g.V.Held.encoding l.initial.keyspace.bases l.keyspace.bases;
   swept : IsSwept g.V.Held.refs_of g.V.Held.marks l.initial.keyspace.bases (g.B.BlockStore.heap l.initial.keyspace.store) l.initial.self → IsSwept g.V.Held.refs_of g.V.Held.marks l.keyspace.bases (g.B.BlockStore.heap l.keyspace.store) l.self;
   way : Way (shape g.V.Held.marks l.initial.keyspace.bases) l.initial.self (64 - l.left) l.self;
   few : l.left ≤ 64;
