@@ -34,7 +34,10 @@ use Rattle.std.proofs.lemmas.Bool.{le-leb, ne_eqb}
 use Rattle.int_text.specs.Decimal.{canonical, Reads}
 use Rattle.plain_model.proofs.Asked.{meant_fits}
 use Rattle.plain_model.specs.Meant.{IsAsked}
-use Rattle.std.specs.Prelude.{is_some}
+use Rattle.std.specs.Prelude.{is_some, IfSome}
+use Rattle.held.specs.Calls.{StandsAt}
+use Rattle.keyspace.specs.declared.value.Value as kinds
+use Rattle.keyspace.specs.Calls.{Found}
 use Rattle.int_text.proofs.NumberOf.{reads_number_of, fits_to, no_fit}
 use Rattle.plain_model.specs.Outcomes.{Outcome, tells, refused}
 use Rattle.plain_model.specs.StringSteps.{or_empty, append, set_range, change, written_over, plain, counted as count_to, count, count_on, number_at, set, set_outcome, set_for, allows, ok}
@@ -210,6 +213,17 @@ number_put at bases new m later key n (Err e) none h = tt
 -- the string that was there is a number now, and keeps its deadline
 pub number_lowered : {A E : Type 0} (old new : World) (key text : List ℕ) (n : ℤ) (result : Result A E) (deadline : Option ℕ) → look old key ≡ Some (record { value = Str text; deadline = deadline }) → Becomes old key (λ _. canonical n) new → OnOk result (new ≡ change old key (canonical n))
 number_lowered old new key text n result deadline stands becomes = on_ok result (becomes text (record { deadline = deadline; stands = stands }))
+
+-- where a key was found there is one
+pub item_there : (bases : Bases) (m : Blocks) (db moment : ℕ) (key : List ℕ) (there : Option ℕ) → IfSome there (λ at. StandsAt bases m db key moment at) → IfSome there (λ at. (own : List ℕ) × StandsAt bases m db own moment at)
+item_there bases m db moment key None h = tt
+item_there bases m db moment key (Some at) h = (key, h)
+
+-- a value that is a string stands at a key
+pub found_text : (bases : Bases) (m : Blocks) (at : Ctx) (key : List ℕ) (value : kinds.Value) (text : Text) → value ≡ kinds.TheVariants.Text text → Found bases m at.db key at.moment value → FoundText (seen at bases m) m key text
+found_text bases m at key value text is found =
+    let own = subst (Found bases m at.db key at.moment) is found in
+    record { deadline = own.deadline; stands = own.stands; owned = own.owned }
 
 -- the number at a key, from the text there
 pub number_read : (world : World) (blocks : Blocks) (key : List ℕ) (text : Text) (answer : Option ℤ) → FoundText world blocks key text → Reads (text_bytes blocks text) answer → NumberAt world key answer

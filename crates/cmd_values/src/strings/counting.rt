@@ -1,6 +1,6 @@
 //! Commands that count on a string that is a number.
 
-ghost use Rattle.std.specs.Prelude.{◌≡◌, ◌<◌, List, ℕ, ℤ, [], ◌∷◌, None, IfOk, OnOk};
+ghost use Rattle.std.specs.Prelude.{◌≡◌, ◌<◌, List, ℕ, ℤ, [], ◌∷◌, None, IfOk, IfSome, IfNone, OnOk};
 ghost use Rattle.plain_world.specs.Worlds.{look};
 ghost use Rattle.int_text.specs.Decimal.{canonical};
 ghost use Rattle.plain_model.specs.StringSteps.{change};
@@ -9,25 +9,30 @@ ghost use Rattle.plain_model.specs.declared.command.StringCommand.TheVariants as
 ghost use Rattle.keyspace.specs.Scopes.{one_key};
 ghost use Rattle.keyspace.specs.Forms.{Whole, Formed};
 ghost use Rattle.keyspace.specs.Commands.{Ready, Held, Kept, sight};
+ghost use Rattle.keyspace.specs.Seeking.{Sees};
+ghost use Rattle.held.specs.Calls.{Seeks, StandsAt};
 ghost use Rattle.cmd_values.specs.Found.{Gives, NumberAt};
 
-use crate::strings::look::text_at;
 use blocks::BlockStore;
-use keyspace::{Keyspace, Lifted, Value};
+use keyspace::{Keyspace, Lifted, Sought, SoughtAt, Value, seek};
 use plain_model::{Ctx, Memory, Refusal, Reply};
 use string_object::Text;
 
-// The number that the string at a key is, 0 where there is none.
-fn number_at<B: BlockStore>(keyspace: &Keyspace<B>, at: &Ctx, key: &[u8]) -> Option<i64>
+// The number that the string of an item number is, 0 where there is none.
+fn number_at<B: BlockStore>(keyspace: &Keyspace<B>, at: &Ctx, there: Option<usize>) -> Option<i64>
     requires ready { Ready B.blocks keyspace.now at.now }
-    ensures { NumberAt (sight B.blocks keyspace.now at.now) key.now result }
+    requires there { IfSome there (λ item. (key : List ℕ) × StandsAt keyspace.now.bases (B.blocks keyspace.now.store) at.now.db key at.now.moment item) }
+    ensures { (key : List ℕ) → IfSome there (λ item. StandsAt keyspace.now.bases (B.blocks keyspace.now.store) at.now.db key at.now.moment item) → IfNone there (look (sight B.blocks keyspace.now at.now) key ≡ None) → NumberAt (sight B.blocks keyspace.now at.now) key result }
 {
-    match text_at(keyspace, at, key) {
+    match there {
         None => Some(0),
-        Some(text) => match text.number(&keyspace.store) {
-            Some(n) => Some(n),
-            None => None,
-        },
+        Some(item) => {
+            let text = keyspace.value_at(at.db, item).as_text();
+            match text.number(&keyspace.store) {
+                Some(n) => Some(n),
+                None => None,
+            }
+        }
     }
 }
 
@@ -36,15 +41,17 @@ fn put_number<B: BlockStore>(
     keyspace: &mut Keyspace<B>,
     at: &Ctx,
     key: &[u8],
+    sought: Sought,
     n: i64,
 ) -> Result<(), Memory>
     requires ready { Ready B.blocks keyspace.old at.now }
+    requires seeks { Seeks keyspace.old.bases (B.blocks keyspace.old.store) at.now.db key.now sought }
     requires none { look (sight B.blocks keyspace.old at.now) key.now ≡ None }
     ensures world { OnOk result (sight B.blocks keyspace.new at.now ≡ change (sight B.blocks keyspace.old at.now) key.now (canonical n)) }
     ensures held { Held B.blocks B.step (one_key at.now.db key.now) keyspace.old keyspace.new }
     ensures forms { OnOk result (Formed B.blocks Whole keyspace.old keyspace.new) }
 {
-    keyspace.put(at.db, key, Value::Text(Text::Number(n)), None)
+    keyspace.put_sought(at.db, key, sought, Value::Text(Text::Number(n)), None)
 }
 
 // Lets the text of a number stand at a key, with the deadline that is there, and answers the number.
@@ -52,21 +59,24 @@ fn write_number<B: BlockStore>(
     keyspace: &mut Keyspace<B>,
     at: &Ctx,
     key: &[u8],
+    found: SoughtAt,
     n: i64,
 ) -> Result<Reply, Memory>
     requires ready { Ready B.blocks keyspace.old at.now }
+    requires sees { Sees B.blocks keyspace.old at.now key.now found }
     ensures reply { IfOk result (λ reply. reply ≡ parts.Number n ∷ []) }
     ensures world { OnOk result (sight B.blocks keyspace.new at.now ≡ change (sight B.blocks keyspace.old at.now) key.now (canonical n)) }
     ensures held { Held B.blocks B.step (one_key at.now.db key.now) keyspace.old keyspace.new }
     ensures forms { IfOk result (λ reply. Formed B.blocks Whole keyspace.old keyspace.new) }
 {
     let alloc = keyspace.alloc();
-    match keyspace.lift(at.db, key, at.moment) {
+    match found.there {
         None => {
-            put_number(keyspace, at, key, n)?;
+            put_number(keyspace, at, key, found.sought, n)?;
             Reply::number(alloc, n)
         }
-        Some(lifted) => {
+        Some(there) => {
+            let lifted = keyspace.lift_at(at.db, there);
             let Lifted { db, item, value } = lifted;
             let mut text = value.into_text();
             text.set_number(&mut keyspace.store, n);
@@ -90,11 +100,12 @@ pub fn incrby<B: BlockStore>(
     ensures kept { Kept B.blocks B.step (one_key at.now.db key.now) keyspace.old keyspace.new result }
     ensures forms { IfOk result (λ reply. Formed B.blocks Whole keyspace.old keyspace.new) }
 {
-    match number_at(keyspace, at, key) {
+    let found = seek(keyspace, at, key);
+    match number_at(keyspace, at, found.there) {
         None => Reply::refused(keyspace.alloc(), Refusal::NotAnInteger),
         Some(n) => match n.checked_add(by) {
             None => Reply::refused(keyspace.alloc(), Refusal::Overflow),
-            Some(next) => write_number(keyspace, at, key, next),
+            Some(next) => write_number(keyspace, at, key, found, next),
         },
     }
 }
@@ -112,11 +123,12 @@ pub fn decrby<B: BlockStore>(
     ensures kept { Kept B.blocks B.step (one_key at.now.db key.now) keyspace.old keyspace.new result }
     ensures forms { IfOk result (λ reply. Formed B.blocks Whole keyspace.old keyspace.new) }
 {
-    match number_at(keyspace, at, key) {
+    let found = seek(keyspace, at, key);
+    match number_at(keyspace, at, found.there) {
         None => Reply::refused(keyspace.alloc(), Refusal::NotAnInteger),
         Some(n) => match n.checked_sub(by) {
             None => Reply::refused(keyspace.alloc(), Refusal::Overflow),
-            Some(next) => write_number(keyspace, at, key, next),
+            Some(next) => write_number(keyspace, at, key, found, next),
         },
     }
 }
