@@ -9,9 +9,9 @@ ghost use Rattle.keyspace.specs.Scopes.{no_key};
 ghost use Rattle.keyspace.specs.Commands.{Ready, Held, Kept, sight};
 ghost use Rattle.cmd_keys.specs.Found.{Gives};
 
-use crate::keys::look::{count_reply, is_there};
+use crate::keys::look::count_reply;
 use blocks::BlockStore;
-use keyspace::{Keyspace, deadline_at};
+use keyspace::{Keyspace, expire_sought, seek};
 use plain_model::{Ctx, ExpireOptions, Memory, Refusal, Reply, Time, TimeOrigin, TimeUnit};
 
 // Whether the options permit a new deadline. No deadline is the latest of all.
@@ -44,14 +44,17 @@ fn expire_by<B: BlockStore>(
     match time.due(at.moment) {
         None => Reply::refused(alloc, Refusal::InvalidExpireTime),
         Some(due) => {
-            if !is_there(keyspace, at, key) {
-                return count_reply(alloc, 0);
+            let found = seek(keyspace, at, key);
+            match found.there {
+                None => count_reply(alloc, 0),
+                Some(_) => {
+                    if !permits(options, found.deadline, due) {
+                        return count_reply(alloc, 0);
+                    }
+                    expire_sought(keyspace, at, key, found, due)?;
+                    count_reply(alloc, 1)
+                }
             }
-            if !permits(options, deadline_at(keyspace, at, key), due) {
-                return count_reply(alloc, 0);
-            }
-            keyspace::expire(keyspace, at, key, due)?;
-            count_reply(alloc, 1)
         }
     }
 }

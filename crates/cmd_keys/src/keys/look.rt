@@ -7,7 +7,7 @@ ghost use Rattle.keyspace.specs.Commands.{Ready, sight};
 ghost use Rattle.cmd_keys.specs.Found.{IsDeadlineAt, IsAhead, told_without};
 
 use blocks::BlockStore;
-use keyspace::Keyspace;
+use keyspace::{Keyspace, seek};
 use plain_model::{Ctx, Memory, Reply};
 use std::alloc::Global;
 
@@ -38,12 +38,13 @@ pub fn deadline_at<B: BlockStore>(
     ensures is { IsDeadlineAt (sight B.blocks keyspace.now at.now) key.now result }
     ensures ahead { IfOk result (λ deadline. IsAhead at.now.moment deadline) }
 {
-    if !is_there(keyspace, at, key) {
-        return Err(Timeless::NoKey);
-    }
-    match keyspace.deadline(at.db, key) {
-        None => Err(Timeless::NoDeadline),
-        Some(deadline) => Ok(deadline),
+    let found = seek(keyspace, at, key);
+    match found.there {
+        None => Err(Timeless::NoKey),
+        Some(_) => match found.deadline {
+            None => Err(Timeless::NoDeadline),
+            Some(deadline) => Ok(deadline),
+        },
     }
 }
 

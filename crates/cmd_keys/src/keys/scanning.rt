@@ -97,7 +97,7 @@ fn passing_of<B: BlockStore>(
     requires ready { Ready B.blocks keyspace.now at.now }
     ensures { IfOk result (λ names. Sifted (PassesAt keyspace.now.bases (B.blocks keyspace.now.store) at.now (keys_sought at.now.db options.now)) items.now names.items) }
 {
-    let mut names = Vec::new(keyspace.alloc());
+    let mut names = Vec::with_capacity(keyspace.alloc(), items.len())?;
     for item in items {
         push_passing(keyspace, at, options, *item, &mut names)?;
     }
