@@ -4,7 +4,7 @@ use Rattle.outside.specs.declared.pacing.Plan.{Plan}
 use Rattle.blocks.specs.Blocks.{Blocks, Served}
 use Rattle.blocks.specs.Slabs.{Heap}
 use Rattle.std.specs.Prelude.{◌↔◌}
-use Rattle.defrag.specs.Ways.{shape, Goes}
+use Rattle.defrag.specs.Ways.{shape, SameShapes, Goes}
 use Rattle.defrag.specs.declared.walk.Visit.{Visit}
 use Rattle.defrag.specs.declared.walk.Visit.TheVariants.{More, Done}
 use Rattle.defrag.specs.declared.walk.Walk.{Walk}
@@ -14,7 +14,7 @@ use Rattle.held.specs.Rehash.{Rehashed}
 use Rattle.plain_world.specs.Worlds.{live}
 use Rattle.keyspace.specs.Databases.{Bases, Keyspace, SameSettings, means}
 use Rattle.keyspace.specs.Sound.{Sound}
-use Rattle.keyspace.specs.Values.{value_of, value_refs, value_marks}
+use Rattle.keyspace.specs.Values.{value_of, value_refs, value_marks, encoding_of}
 use Rattle.keyspace.proofs.Calls.{settings_then}
 use Rattle.redis_core.specs.Walking.{left_open, IsSweptTo, HasLeastSlabs, Opens, WalksOn, Packs}
 use Rattle.redis_core.specs.Background.{DoesPlan, EngineRests}
@@ -34,16 +34,17 @@ module _ {S : Type 0} (blocks : S → Blocks) (heap : S → Heap) (old mid new :
   walked_settings r = subst (λ (b : Bases). SameSettings b new.bases) bases r.settings
 
   -- one step of the walk
-  pub walked : Sound old.bases (blocks old.store) → Relocates value_refs value_of mid.bases new.bases (blocks mid.store) (blocks new.store) → Goes (shape value_marks mid.bases) from to visit → (visit ≡ Done) ↔ (to.database ≡ 16)
+  pub walked : Sound old.bases (blocks old.store) → Relocates value_refs value_of mid.bases new.bases (blocks mid.store) (blocks new.store) → SameShapes encoding_of mid.bases new.bases → Goes (shape value_marks mid.bases) from to visit → (visit ≡ Done) ↔ (to.database ≡ 16)
       → (visit ≡ More → IsSweptTo blocks heap mid from → IsSweptTo blocks heap new to) → (visit ≡ Done → Sound mid.bases (blocks mid.store) → IsSweptTo blocks heap mid from → HasLeastSlabs blocks heap new)
       → (after : Option Walk) → after ≡ left_open visit to → WalksOn blocks heap old new before after
-  walked sound r goes ended swept least after left = record {
+  walked sound r encodings goes ended swept least after left = record {
     mid = mid;
     from = from;
     to = to;
     visit = visit;
     opens = opens;
     relocates = r;
+    encodings = encodings;
     goes = goes;
     ended = ended;
     left = left;

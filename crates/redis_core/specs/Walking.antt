@@ -3,7 +3,7 @@ use Rattle.std.specs.Prelude.{◌≡◌, ◌↔◌, ℕ, ◌+◌, ◌<◌, Bool,
 use Rattle.blocks.specs.Blocks.{Blocks}
 use Rattle.blocks.specs.Slabs.{Heap, Begun, slabs_of, needed}
 use Rattle.defrag.specs.Swept.{IsSwept}
-use Rattle.defrag.specs.Ways.{shape, Goes}
+use Rattle.defrag.specs.Ways.{shape, SameShapes, Goes}
 use Rattle.defrag.specs.declared.walk.Visit.{Visit}
 use Rattle.defrag.specs.declared.walk.Visit.TheVariants.{More, Done}
 use Rattle.defrag.specs.declared.walk.Walk.{Walk}
@@ -17,7 +17,7 @@ use Rattle.plain_model.specs.declared.connection.ConnectionCommand.{ConnectionCo
 use Rattle.plain_model.specs.declared.connection.ConnectionCommand.TheVariants as connection
 use Rattle.keyspace.specs.Databases.{Keyspace}
 use Rattle.keyspace.specs.Shown.{ListsSlabs}
-use Rattle.keyspace.specs.Values.{value_of, value_refs, value_marks}
+use Rattle.keyspace.specs.Values.{value_of, value_refs, value_marks, encoding_of}
 
 -- a walk that is open stands in a database
 abbrev pub IsOpen : Option Walk → Type 0
@@ -56,7 +56,8 @@ module _ {S : Type 0} (blocks : S → Blocks) (heap : S → Heap) where
     new_walk : mid.bases ≡ old.bases → blocks mid.store ≡ blocks old.store → Begun (heap old.store) (heap mid.store)
         → IsSweptTo mid first_place → Opens old mid None first_place
 
-  -- One step of the walk moves blocks, and leaves the walk further on, or none where it came through all databases.
+  -- One step of the walk moves blocks, which leaves how values are encoded, and leaves the walk further on, or none where it came
+  -- through all databases.
   pub record WalksOn (old new : Keyspace S) (before after : Option Walk) : Type 0 where
     pub mid : Keyspace S
     pub from : Walk
@@ -64,6 +65,7 @@ module _ {S : Type 0} (blocks : S → Blocks) (heap : S → Heap) where
     pub visit : Visit
     pub opens : Opens old mid before from
     pub relocates : Relocates value_refs value_of mid.bases new.bases (blocks mid.store) (blocks new.store)
+    pub encodings : SameShapes encoding_of mid.bases new.bases
     pub goes : Goes (shape value_marks mid.bases) from to visit
     pub ended : (visit ≡ Done) ↔ (to.database ≡ 16)
     pub left : after ≡ left_open visit to

@@ -154,13 +154,14 @@ impl<B: BlockStore> Engine<B> {
     /// where that is later. A request that is refused changes no database and no block, and selects none; QUIT ends the run.
     /// Where no walk is open, a DEBUG DEFRAG that answers 1 leaves the least number of slabs.
     ///
-    /// `Memory` where memory was refused in this call or an earlier one.
+    /// `Memory` where memory was refused in this call or an earlier one; then the open walk, or that none is open, stays.
     pub fn execute(&mut self, request: &Request<'_>, moment: u64) -> Result<Done, Memory>
         ensures executes { IfOk result (λ done. Executes B.blocks B.heap B.step moment self.old request.now done.reply self.new) }
         ensures quit { IfOk result (λ done. done.quit ≡ quits request.now) }
         ensures moment { self.new.last ≡ max self.old.last moment }
         ensures spent { self.new.is_spent ≡ is_err result }
         ensures spent_before { self.old.is_spent ≡ true → (is_err result ≡ true) × Stays self.old self.new }
+        ensures walk { is_err result ≡ true → self.new.walk ≡ self.old.walk }
         ensures keeps { Keeps B.blocks self.old self.new }
         ensures served { AsksNoMoves (meant request.now) → Served B.step self.old.store self.new.store }
         ensures least { self.old.walk ≡ None → IfOk result (λ done. EndsPass (meant request.now) done.reply → HasLeastSlabs B.blocks B.heap (keyspace_of self.new)) }
