@@ -1,5 +1,5 @@
 -- What a set's body depends on, and a body that takes another's place.
-use Rattle.std.proofs.Common.{◌≡◌, ℕ, zero, suc, ◌+◌, ◌<◌, ◌≤◌, List, [], ◌∷◌, ◌++◌, map, length, Option, Some, None, unwrap_or, refl, sym, ap, ◌∙◌, subst, arith, flat_map}
+use Rattle.std.proofs.Common.{◌≡◌, ℕ, zero, suc, ◌≤◌, List, [], ◌∷◌, ◌++◌, Option, Some, unwrap_or, refl, sym, ap, ◌∙◌, subst, arith, flat_map}
 use Rattle.std.proofs.lemmas.List.{append-nil, length-map}
 use Rattle.std.specs.FinMap.{len, len-empty}
 use Rattle.std.specs.Ordering.{nat_cmp}
@@ -23,21 +23,24 @@ use Rattle.set_object.specs.declared.members.Body.{Body}
 use Rattle.set_object.specs.declared.members.Body.TheVariants.{Empty, Numbers, Pack, Table}
 use Rattle.set_object.specs.declared.members.Members.{Members}
 use Rattle.set_object.specs.Strings.{Strings}
-use Rattle.set_object.specs.Members.{IsMembers, IsBody, IsNumbers, IsMemberPack, IsChanged, members, members_of, refs, refs_of, tables, tables_of, no_tables}
+use Rattle.set_object.specs.Members.{IsMembers, IsBody, IsNumbers, IsMemberPack, IsChanged, members_of, refs, refs_of, tables, tables_of, no_tables}
 use Rattle.set_object.proofs.Texts.{numbers_once}
 use Rattle.set_object.proofs.Hashing.{Dict, content_kept}
 
-self : (r : BlockRef) → one r r ≡ 1
+pub self : (r : BlockRef) → one r r ≡ 1
 self r = cond-true _ _ _ (ref_eq-refl r)
 
 -- an element's key block is among those of its table
-pub key_in : (t : Dict) (at : ℕ) (e : Element (Unit {0})) → item t at ≡ Some e → IsIn e.key (key_refs t)
-key_in t at e found = in_list t.items at found
+pub key_within : (t : Dict) (at : ℕ) (e : Element (Unit {0})) → item t at ≡ Some e → (r : BlockRef) → times r (e.key ∷ []) ≤ times r (key_refs t)
+key_within t at e found r = in_list t.items at found
   where
-    in_list : (items : List (Option (Element (Unit {0})))) (at : ℕ) → at_item items at ≡ Some e → 0 < times e.key (flat_map (own_of (λ (_ : Unit {0}). [])) items)
+    in_list : (items : List (Option (Element (Unit {0})))) (at : ℕ) → at_item items at ≡ Some e → times r (e.key ∷ []) ≤ times r (flat_map (own_of (λ (_ : Unit {0}). [])) items)
     in_list [] at found = cc
-    in_list (x ∷ items) zero found = (let here : times e.key (own_of (λ (_ : Unit {0}). []) x) ≡ times e.key (e.key ∷ []) = ap (λ o. times e.key (own_of (λ (_ : Unit {0}). []) o)) found in omega (arith, here, self e.key, times-append e.key (own_of (λ (_ : Unit {0}). []) x) (flat_map (own_of (λ (_ : Unit {0}). [])) items)))
-    in_list (x ∷ items) (suc at) found = omega (arith, in_list items at found, times-append e.key (own_of (λ (_ : Unit {0}). []) x) (flat_map (own_of (λ (_ : Unit {0}). [])) items))
+    in_list (x ∷ items) zero found = (let here : times r (own_of (λ (_ : Unit {0}). []) x) ≡ times r (e.key ∷ []) = ap (λ o. times r (own_of (λ (_ : Unit {0}). []) o)) found in omega (arith, here, times-append r (own_of (λ (_ : Unit {0}). []) x) (flat_map (own_of (λ (_ : Unit {0}). [])) items)))
+    in_list (x ∷ items) (suc at) found = omega (arith, in_list items at found, times-append r (own_of (λ (_ : Unit {0}). []) x) (flat_map (own_of (λ (_ : Unit {0}). [])) items))
+
+pub names_key : (t : Dict) (at : ℕ) (e : Element (Unit {0})) → item t at ≡ Some e → IsIn e.key (key_refs t)
+names_key t at e found = omega (arith, key_within t at e found e.key, self e.key)
 
 module _ (a b : Blocks) (limits : Limits) (seed : ℕ) where
   -- A body is the same where its blocks keep their bytes.
@@ -51,7 +54,7 @@ module _ (a b : Blocks) (limits : Limits) (seed : ℕ) where
       let bytes : bytes_at b packed.at ≡ bytes_at a packed.at = ap (λ o. unwrap_or o []) (same packed.at (omega (arith, self packed.at))) in
       (subst (IsMemberPack limits packed.len) (sym bytes) is, ap (λ bs. members_of (λ _. Some bs) (Pack packed)) bytes, refl)
   body_kept (Table t) is same =
-      let keeps : (at : ℕ) (e : Element (Unit {0})) → item t at ≡ Some e → b e.key ≡ a e.key = λ at e found. same e.key (key_in t at e found) in
+      let keeps : (at : ℕ) (e : Element (Unit {0})) → item t at ≡ Some e → b e.key ≡ a e.key = λ at e found. same e.key (names_key t at e found) in
       let k = Keyed-frame a b t is.keyed keeps in
       (record { keyed = k.0; seed_is = is.seed_is }, content_kept a b t is.keyed keeps, k.1)
 
@@ -75,9 +78,6 @@ len_of m limits seed (Table t) is = sym (len-map_of m (λ v. v) t is.keyed)
 module _ (a b c : Blocks) (old new : List BlockRef) (own : Owned old a) (p : Changes a b [] new) where
   both_owned : Owned (new ++ old) b
   both_owned = Changes-owned a b old (new ++ old) (Changes-beside a b [] new old (new ++ old) p own (λ r. times r old) (λ r. omega arith) (λ r. times-append r new old))
-
-  pub old_owned : Owned old b
-  old_owned r = omega (arith, both_owned r, times-append r new old)
 
   pub new_kept : Changes b c old [] → (r : BlockRef) → IsIn r new → c r ≡ b r
   new_kept q r isin = Owned-others b c old [] (new ++ old) both_owned q r (omega (arith, isin, times-append r new old)) (omega (arith, isin, both_owned r, times-append r new old, live-once b r))

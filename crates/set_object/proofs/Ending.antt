@@ -1,12 +1,12 @@
 -- The blocks of a dictionary's members are given back, from the first item number on.
-use Rattle.std.proofs.Common.{◌≡◌, ◌≢◌, ℕ, zero, suc, ◌+◌, ◌≤◌, ◌<◌, ◌↔◌, Bool, false, List, [], ◌∷◌, drop, flat_map, Option, Some, None, IsSome, refl, sym, ap, ◌∙◌, subst, arith}
+use Rattle.std.proofs.Common.{◌≡◌, ℕ, zero, suc, ◌+◌, ◌<◌, Bool, false, List, [], ◌∷◌, drop, flat_map, Option, Some, None, IsSome, refl, sym, ap, ◌∙◌, subst, arith}
 use Rattle.std.specs.Prelude.{IsTrue}
 use Rattle.blocks.specs.declared.BlockRef.{BlockRef}
 use Rattle.blocks.specs.Blocks.{Blocks, times, with_block, Changes, Owned}
 use Rattle.std.proofs.lemmas.Bool.{cond-true}
 use Rattle.blocks.proofs.Refs.{ref_eq-refl}
 use Rattle.blocks.proofs.Times.{times-append}
-use Rattle.blocks.proofs.Change.{one, live-is, live-once, Changes-same, Changes-then, Changes-counted, Changes-beside, Changes-owned, Counts-ended}
+use Rattle.blocks.proofs.Change.{one, live-is, Changes-same, Changes-then, Changes-counted, Changes-beside, Changes-owned, Counts-ended}
 use Rattle.rehash_dict.specs.Table.{Element, at_item, item}
 use Rattle.rehash_dict.specs.Steps.{Holds}
 use Rattle.rehash_dict.specs.MapOf.{own_of, key_refs}

@@ -1,5 +1,5 @@
 -- Which form a set has after a member was put in.
-use Rattle.std.proofs.Common.{◌≡◌, ℕ, zero, suc, ◌+◌, ◌<◌, ◌≤◌, max, Bool, true, false, cond, List, [], ◌∷◌, length, is_some, refl, sym, ap, ◌∙◌, subst, arith, inl, inr}
+use Rattle.std.proofs.Common.{◌≡◌, ℕ, ◌+◌, ◌≤◌, max, Bool, true, false, cond, List, [], ◌∷◌, length, is_some, refl, sym, ap, ◌∙◌, subst, arith, inl, inr}
 use Rattle.std.specs.Prelude.{◌&&◌, ◌||◌}
 use Rattle.std.specs.List.{list_any}
 use Rattle.std.proofs.lemmas.Bool.{cond-true, cond-false, cases_Bool, and_parts, and_from}
@@ -12,7 +12,7 @@ use Rattle.object_codec.specs.declared.form.Form.{Form}
 use Rattle.object_codec.specs.declared.form.Form.TheVariants.{Intset, Listpack, Hashtable, Skiplist, Quicklist, Stream}
 use Rattle.object_codec.specs.Forms.{FitsSet, IsLeast, IsLeastFrom, rank}
 use Rattle.set_object.specs.Strings.{Strings, set_of, has, IsOnce, are_numbers, longest, FitsMembers, IsRisen}
-use Rattle.set_object.proofs.Sets.{tied, tied-true, tied-same, among, has_among, has_put, has_empty, len_put}
+use Rattle.set_object.proofs.Sets.{two_ways, tied, tied-true, tied-same, among, has_among, has_put, has_empty, len_put}
 
 -- the keys of a set are its strings
 pub keys_among : (m : Strings) (q : List ℕ) → has m q ≡ among q (keys m)
@@ -25,9 +25,6 @@ keys_among m q = contains_key-keys m q ∙ same (keys m)
         by_test : (t a b : Bool) → a ≡ b → (t || a) ≡ cond t true b
         by_test true a b h = refl
         by_test false a b h = h
-
-two_ways : (b : Bool) → b ≡ true → b ≡ false → ⊥
-two_ways b h k = cc
 
 same_bools : (a b : Bool) → (a ≡ true → b ≡ true) → (b ≡ true → a ≡ true) → a ≡ b
 same_bools true b there back = sym (there refl)
@@ -76,7 +73,7 @@ module _ (xs ys : List (List ℕ)) (same : (q : List ℕ) → among q xs ≡ amo
 keys_none : (q : List ℕ) → among q (keys (empty {X = Unit {0}} {R = slice_cmp nat_cmp})) ≡ among q []
 keys_none q = sym (keys_among (empty {X = Unit {0}} {R = slice_cmp nat_cmp}) q) ∙ has_empty q
 
-least_zero : (F : Form → Type 0) → F Intset → IsLeast F Intset
+pub least_zero : (F : Form → Type 0) → F Intset → IsLeast F Intset
 least_zero F fits = record { fitting = fits; least = λ other h. omega arith }
 
 pub new_least : (limits : Limits) → IsLeast (FitsMembers limits (empty {X = Unit {0}} {R = slice_cmp nat_cmp})) Intset
@@ -97,9 +94,6 @@ module _ (limits : Limits) (set : Strings) (xs : List (List ℕ)) (x : List ℕ)
 
 numbers_rise : (F : Form → Type 0) (f : Form) → IsLeast F f → IsLeastFrom Intset F f
 numbers_rise F f h = record { fitting = h.fitting; from_old = omega arith; least = λ other fits from. h.least other fits }
-
-pub table_stays : (limits : Limits) (set : Strings) → IsRisen limits Hashtable set Hashtable
-table_stays limits set = record { fitting = tt; from_old = omega arith; least = λ other fits from. from }
 
 module _ (limits : Limits) (numbers : Bool) (count l long : ℕ) (shorter : l ≤ limits.set_value → long ≤ limits.set_value) (longer : long ≤ limits.set_value → l ≤ limits.set_value) where
   pack_rises : (f : Form) → IsLeast (FitsSet limits false count l) f → IsLeastFrom Listpack (FitsSet limits numbers count long) f

@@ -1,18 +1,18 @@
 -- A dictionary of member blocks, into which a member is put, and out of which one is taken.
-use Rattle.std.proofs.Common.{◌≡◌, ◌≢◌, ℕ, ◌+◌, true, false, List, [], ◌∷◌, Option, Some, None, IsSome, is_some, unwrap_or, flat_map, refl, sym, ap, ◌∙◌, subst, arith, inl, inr}
+use Rattle.std.proofs.Common.{◌≡◌, ◌≢◌, ℕ, ◌+◌, true, false, List, [], ◌∷◌, Some, None, IsSome, is_some, unwrap_or, flat_map, refl, sym, ap, ◌∙◌, subst, arith, inl, inr}
 use Rattle.std.specs.FinMap.{insert, remove, empty}
 use Rattle.blocks.specs.declared.BlockRef.{BlockRef}
-use Rattle.blocks.specs.Blocks.{Blocks, ref_eq, times, with_block, bytes_at, Changes, Owned, no_step}
+use Rattle.blocks.specs.Blocks.{Blocks, ref_eq, times, with_block, bytes_at, Changes}
 use Rattle.blocks.proofs.Refs.{apart_live, with_block-other, cases_ref}
 use Rattle.blocks.proofs.Change.{one, Changes-beside, Changes-counted, Changes-then, Changes-same, Counts-ended}
-use Rattle.rehash_dict.specs.Table.{Element, Table, item, Updates}
+use Rattle.rehash_dict.specs.Table.{Element, Table, item}
 use Rattle.rehash_dict.specs.Keyed.{Keyed, Lacks, hash_of, key_tables}
 use Rattle.rehash_dict.specs.Steps.{Adds, Removes}
 use Rattle.rehash_dict.specs.Grown.{Grown}
-use Rattle.rehash_dict.specs.MapOf.{content, map_of, key_refs, refs_of, own_of}
-use Rattle.rehash_dict.proofs.Keys.{Keyed-frame, live_bytes}
+use Rattle.rehash_dict.specs.MapOf.{content, key_refs, own_of}
+use Rattle.rehash_dict.proofs.Keys.{Keyed-frame}
 use Rattle.rehash_dict.proofs.Fresh.{Keyed-fresh, Lacks-placed, placed_bytes}
-use Rattle.rehash_dict.proofs.MapOf.{cases_key, map_of-stands, map_of-frame, map_of-items, refs_changed, key_refs-owned}
+use Rattle.rehash_dict.proofs.MapOf.{cases_key, map_of-stands, map_of-frame, refs_changed, key_refs-owned}
 use Rattle.rehash_dict.proofs.Growing.{Grown-then, Grown-same}
 use Rattle.set_object.specs.Strings.{Strings, has, set_of}
 use Rattle.set_object.specs.Hashed.{IsHashed, no_members}

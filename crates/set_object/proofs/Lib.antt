@@ -7,3 +7,10 @@ pub mod Bodies
 pub mod Forms
 pub mod Packing
 pub mod Placing
+pub mod Listed
+pub mod Ranks
+pub mod Moving
+pub mod Spans
+pub mod Settling
+pub mod Copies
+pub mod Depends

@@ -1,14 +1,13 @@
 -- Listpacks that the writer makes of members, and how long they are.
-use Rattle.std.proofs.Common.{◌≡◌, ℕ, suc, ◌+◌, ◌*◌, ◌/◌, ◌%◌, ◌<◌, ◌≤◌, ◌^◌, Bool, true, false, cond, List, [], ◌∷◌, ◌++◌, length, map, take, drop, Option, Some, None, flat_map, refl, ap, ◌∙◌, sym, subst, arith, inl, inr, length-append}
-use Rattle.std.specs.Prelude.{ℤ, nat_lt}
+use Rattle.std.proofs.Common.{◌≡◌, ℕ, suc, ◌*◌, ◌≤◌, List, [], ◌∷◌, ◌++◌, length, map, Some, None, flat_map, ap, ◌∙◌, sym, arith, inl, inr, length-append}
+use Rattle.std.specs.Prelude.{ℤ}
 use Rattle.std.specs.List.{All, remove as removed}
-use Rattle.std.proofs.lemmas.List.{map-append, take-map, drop-map}
+use Rattle.std.proofs.lemmas.List.{map-append}
 use Rattle.std.proofs.lemmas.Bool.Decides.{nat_tests}
 use Rattle.std.proofs.lemmas.List.Elements.{All-head, All-tail}
-use Rattle.int_text.specs.Decimal.{number_of}
 use Rattle.listpack.specs.Entry.{back_length, text_of}
-use Rattle.listpack.specs.Pack.{IsPack, texts, spellings_of}
-use Rattle.listpack.specs.Writing.{spelling, spelling_by, number_spelling, text_head, entry, Fits}
+use Rattle.listpack.specs.Pack.{texts, spellings_of}
+use Rattle.listpack.specs.Writing.{spelling, number_spelling, text_head, entry, Fits}
 use Rattle.listpack.specs.Edits.{IsEdited}
 use Rattle.listpack.proofs.Writings.{number_cases, spelling_as}
 use Rattle.quicklist.specs.Nodes.{pack_len}

@@ -1,5 +1,5 @@
 -- Bodies that are placed for a set with one more member.
-use Rattle.std.proofs.Common.{◌≡◌, ◌≢◌, ℕ, suc, ◌+◌, ◌<◌, ◌≤◌, ◌^◌, Bool, true, false, List, [], ◌∷◌, ◌++◌, map, take, drop, length, cond, Result, Ok, Err, Option, Some, None, unwrap_or, max, is_some, refl, sym, ap, ◌∙◌, subst, arith, inl, inr, length-append}
+use Rattle.std.proofs.Common.{◌≡◌, ◌≢◌, ℕ, ◌+◌, ◌<◌, ◌≤◌, ◌^◌, Bool, true, false, List, [], ◌∷◌, ◌++◌, map, take, drop, length, cond, Result, Ok, Err, Some, unwrap_or, max, is_some, refl, sym, ap, ◌∙◌, subst, arith, inl, inr, length-append}
 use Rattle.std.specs.Prelude.{ℤ}
 use Rattle.std.specs.Prelude.{int_lt, IfOk}
 use Rattle.std.specs.List.{Contains}
@@ -18,7 +18,6 @@ use Rattle.intset.specs.Intset.{IsIntset, numbers_of, with_number}
 use Rattle.listpack.specs.Pack.{texts}
 use Rattle.listpack.specs.Writing.{Fits}
 use Rattle.object_codec.specs.declared.limits.Limits.{Limits}
-use Rattle.object_codec.specs.Limits.{AreInRange}
 use Rattle.object_codec.specs.declared.form.Form.{Form}
 use Rattle.object_codec.specs.declared.form.Form.TheVariants.{Intset, Listpack, Hashtable, Skiplist, Quicklist, Stream}
 use Rattle.rehash_dict.proofs.Fresh.{placed_bytes}
@@ -27,23 +26,17 @@ use Rattle.rehash_dict.specs.Keyed.{hash_of}
 use Rattle.set_object.specs.declared.members.Body.{Body}
 use Rattle.set_object.specs.declared.members.Body.TheVariants.{Empty, Numbers, Pack, Table}
 use Rattle.set_object.specs.declared.members.Members.{Members}
-use Rattle.set_object.specs.Strings.{Strings, set_of, has, IsOnce, longest, are_numbers, IsRisen}
-use Rattle.set_object.specs.Members.{IsMembers, IsBody, IsPackOf, IsNumberList, IsMemberPack, IsNumbers, IsPlacedBody, members, members_of, packed_list, number_texts, form_of, form_of_body, no_tables}
+use Rattle.set_object.specs.Strings.{Strings, set_of, has, IsOnce, longest, IsRisen}
+use Rattle.set_object.specs.Members.{IsMembers, IsBody, IsPackOf, IsNumberList, IsMemberPack, IsNumbers, IsPlacedBody, members, members_of, listed_of, number_texts, form_of, form_of_body, no_tables}
 use Rattle.set_object.proofs.Sets.{tied, among, has_among, has_put, tied-same, set_nil, set_push, set_inserted, once_push, once_nil, len_put, has_empty}
 use Rattle.set_object.proofs.Texts.{numbers_once, texts_numbers, stands_text}
-use Rattle.set_object.proofs.Packing.{pack_pushed, pack_fits}
-use Rattle.set_object.proofs.Forms.{keys_among, longest_each, numbers_each, risen_numbers, risen_pack, table_stays}
+use Rattle.set_object.proofs.Packing.{pack_fits}
+use Rattle.set_object.proofs.Forms.{keys_among, longest_each, numbers_each, least_zero, risen_numbers, risen_pack}
 use Rattle.set_object.specs.Hashed.{IsHashed, no_members}
 use Rattle.set_object.proofs.Hashing.{Dict}
+use Rattle.set_object.proofs.Listed.{listed_is}
 use Rattle.set_object.specs.declared.members.Packed.{Packed}
 use Rattle.object_codec.specs.Forms.{rank, FitsSet, IsLeast}
-
--- a packed form's members are those of its list, in which none stands twice
-pub packed_is : (m : Blocks) (limits : Limits) (seed : ℕ) (body : Body) → IsBody m limits seed body → form_of_body body ≢ Hashtable → (members_of m body ≡ set_of (packed_list m body)) × IsOnce (packed_list m body)
-packed_is m limits seed Empty is packed = (sym set_nil, once_nil)
-packed_is m limits seed (Numbers p) is packed = (refl, numbers_once (numbers_of (bytes_at m p.at)) is.intset.rising is.fit)
-packed_is m limits seed (Pack p) is packed = (refl, is.once)
-packed_is m limits seed (Table t) is packed = absurd (packed refl)
 
 pub all_short : (xs : List (List ℕ)) (v : ℕ) → ((q : List ℕ) → among q xs ≡ true → length q ≤ v) → All (λ (x : List ℕ). length x ≤ v) xs
 all_short [] v each = All-nil (λ (x : List ℕ). length x ≤ v)
@@ -60,13 +53,13 @@ module _ (m n : Blocks) (at : BlockRef) (bytes : List ℕ) (placed : n ≡ with_
 
 module _ (m n : Blocks) (self : Members) (x : List ℕ) (sound : IsMembers m self) (packed : form_of self ≢ Hashtable) (lacks : has (members m self) x ≡ false) where
   abbrev list : List (List ℕ)
-  list = packed_list m self.body
+  list = listed_of m self.body
 
   members_list : members m self ≡ set_of list
-  members_list = (packed_is m self.limits self.seed self.body sound.body packed).0
+  members_list = (listed_is m self.limits self.seed self.body sound.body).0
 
   list_once : IsOnce list
-  list_once = (packed_is m self.limits self.seed self.body sound.body packed).1
+  list_once = (listed_is m self.limits self.seed self.body sound.body).1
 
   list_len : len (members m self) ≡ length list
   list_len = ap len members_list ∙ list_once
@@ -174,14 +167,8 @@ module _ (m : Blocks) (limits : Limits) (seed : ℕ) (body : Body) (x : List ℕ
       subst (λ (b : Body). IsRisen limits (form_of_body b) (insert (members_of m b) x tt) f) (sym is)
       (risen_numbers limits empty [] x (sym set_nil) once_nil (has_empty x) number 1 (length x) f by_text refl refl (omega arith) h)
 
-  pub numbers_risen : (p : Packed) (number : Bool) (most : ℕ) → body ≡ Numbers p → IsBody m limits seed body → number ≡ is_some (number_of x) → most ≡ max (longest (number_texts (bytes_at m p.at))) (length x)
-      → IsLeast (FitsSet limits number (p.len + 1) most) f → IsRisen limits (form_of_body body) (insert (members_of m body) x tt) f
-  numbers_risen p number most is sound by_text most_is h =
-      let s : IsNumbers limits p.len (bytes_at m p.at) = subst (IsBody m limits seed) is sound in
-      let xs = number_texts (bytes_at m p.at) in
-      subst (λ (b : Body). IsRisen limits (form_of_body b) (insert (members_of m b) x tt) f) (sym is)
-      (risen_numbers limits (set_of xs) xs x refl (numbers_once (numbers_of (bytes_at m p.at)) s.intset.rising s.fit) (ap (λ (b : Body). has (members_of m b) x) (sym is) ∙ lacks) number (p.len + 1) most f by_text
-      (texts_numbers (numbers_of (bytes_at m p.at)) s.fit) (omega (arith, s.counted, length-map (numbers_of (bytes_at m p.at)) canonical)) (omega (arith, most_is)) h)
+  pub numbers_risen : (p : Packed) → body ≡ Numbers p → IsRisen limits Intset (insert (set_of (number_texts (bytes_at m p.at))) x tt) f → IsRisen limits (form_of_body body) (insert (members_of m body) x tt) f
+  numbers_risen p is risen = subst (λ (b : Body). IsRisen limits (form_of_body b) (insert (members_of m b) x tt) f) (sym is) risen
 
   pub pack_risen : (p : Packed) → body ≡ Pack p → IsBody m limits seed body → IsLeast (FitsSet limits false (p.len + 1) (length x)) f → IsRisen limits (form_of_body body) (insert (members_of m body) x tt) f
   pack_risen p is sound h =
@@ -190,10 +177,18 @@ module _ (m : Blocks) (limits : Limits) (seed : ℕ) (body : Body) (x : List ℕ
       subst (λ (b : Body). IsRisen limits (form_of_body b) (insert (members_of m b) x tt) f) (sym is)
       (risen_pack limits (set_of xs) xs x refl s.once (ap (λ (b : Body). has (members_of m b) x) (sym is) ∙ lacks) (p.len + 1) f (omega (arith, s.counted)) (longest_within xs limits.set_value s.short) h)
 
-  pub table_risen : (t : Dict) → body ≡ Table t → f ≡ Hashtable → IsRisen limits (form_of_body body) (insert (members_of m body) x tt) f
-  table_risen t is same =
-      subst (λ (b : Body). IsRisen limits (form_of_body b) (insert (members_of m b) x tt) f) (sym is)
-      (subst (λ g. IsRisen limits Hashtable (insert (members_of m (Table t)) x tt) g) (sym same) (table_stays limits (insert (members_of m (Table t)) x tt)))
+-- the numbers of an intset, and one more
+module _ (limits : Limits) (len : ℕ) (bytes x : List ℕ) (s : IsNumbers limits len bytes) (lacks : has (set_of (number_texts bytes)) x ≡ false) (number : Bool) (by_text : number ≡ is_some (number_of x)) where
+  pub numbers_more : (most : ℕ) (f : Form) → most ≡ max (longest (number_texts bytes)) (length x) → IsLeast (FitsSet limits number (len + 1) most) f → IsRisen limits Intset (insert (set_of (number_texts bytes)) x tt) f
+  numbers_more most f most_is h =
+      let xs = number_texts bytes in
+      risen_numbers limits (set_of xs) xs x refl (numbers_once (numbers_of bytes) s.intset.rising s.fit) lacks number (len + 1) most f by_text
+      (texts_numbers (numbers_of bytes) s.fit) (omega (arith, s.counted, length-map (numbers_of bytes) canonical)) (omega (arith, most_is)) h
+
+  pub numbers_stay : number ≡ true → len < limits.set_intset → IsRisen limits Intset (insert (set_of (number_texts bytes)) x tt) Intset
+  numbers_stay is few =
+      let most : ℕ = max (longest (number_texts bytes)) (length x) in
+      numbers_more most Intset refl (least_zero (FitsSet limits number (len + 1) most) (is, omega (arith, few)))
 
 -- a dictionary of the members
 pub table_placed : (m n : Blocks) (self : Members) (t : Dict) (set : Strings) → IsHashed m n (no_members self.seed) t set → IsPlacedBody m n self (Table t) set
@@ -205,12 +200,12 @@ table_placed m n self t set h = record {
 }
 
 -- a number that the set lacks is put into its intset
-pub add_new : {E : Type 0} (m : Blocks) (self : Members) (k : ℤ) (old : List ℕ) (r : Result Bool E) (b : Bool) → IsMembers m self → form_of self ≢ Hashtable → has (members m self) (canonical k) ≡ false → IsNumberList (packed_list m self.body) old
+pub add_new : {E : Type 0} (m : Blocks) (self : Members) (k : ℤ) (old : List ℕ) (r : Result Bool E) (b : Bool) → IsMembers m self → form_of self ≢ Hashtable → has (members m self) (canonical k) ≡ false → IsNumberList (listed_of m self.body) old
     → r ≡ Ok b → (r ≡ Ok false → Contains (numbers_of old) k) → r ≡ Ok true
 add_new m self k old r true sound packed lacks list is there = is
 add_new m self k old r false sound packed lacks list is there =
     let found : has (members m self) (canonical k) ≡ true =
-    ap (λ s. has s (canonical k)) ((packed_is m self.limits self.seed self.body sound.body packed).0 ∙ ap set_of (sym list.texts_are)) ∙ has_among (number_texts old) (canonical k) ∙ stands_text (numbers_of old) k (there is) in
+    ap (λ s. has s (canonical k)) ((listed_is m self.limits self.seed self.body sound.body).0 ∙ ap set_of (sym list.texts_are)) ∙ has_among (number_texts old) (canonical k) ∙ stands_text (numbers_of old) k (there is) in
     absurd (both (has (members m self) (canonical k)) found lacks)
   where
     both : (b : Bool) → b ≡ true → b ≡ false → ⊥

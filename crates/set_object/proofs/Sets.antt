@@ -1,7 +1,7 @@
 -- Sets of strings, and the lists that they are made of.
-use Rattle.std.proofs.Common.{◌≡◌, ◌≢◌, ◌⊎◌, inl, inr, ℕ, zero, suc, ◌+◌, ◌-◌, ◌<◌, ◌≤◌, Bool, true, false, cond, List, [], ◌∷◌, ◌++◌, map, length, take, drop, Option, Some, None, is_some, refl, sym, ap, ◌∙◌, subst, arith, max, length-append, get_or}
-use Rattle.std.specs.Prelude.{IsTrue, slice_get, IfSome, IfNone}
-use Rattle.std.specs.List.{insert as inserted, remove as removed, All}
+use Rattle.std.proofs.Common.{◌≡◌, ◌≢◌, inl, inr, ℕ, zero, suc, ◌+◌, ◌-◌, ◌<◌, ◌≤◌, Bool, true, false, cond, List, [], ◌∷◌, ◌++◌, map, length, take, drop, Option, Some, None, is_some, refl, sym, ap, ◌∙◌, arith, length-append, get_or}
+use Rattle.std.specs.Prelude.{slice_get, IfSome, IfNone}
+use Rattle.std.specs.List.{insert as inserted, remove as removed}
 use Rattle.std.proofs.lemmas.Bool.{cond-true, cond-false, cases_Bool}
 use Rattle.std.proofs.lemmas.List.{take-append-drop, take_more}
 use Rattle.std.specs.declared.cmp.Ordering.{Ordering}
@@ -9,8 +9,12 @@ use Rattle.std.specs.declared.cmp.Ordering.TheVariants.{Less, Equal, Greater}
 use Rattle.std.specs.Ordering.{nat_cmp, eq_by_cmp, is_eq}
 use Rattle.std.specs.Cmp.{eq_by_cmp_equiv}
 use Rattle.std.specs.Cmp.Lexicographic.{slice_cmp, nat_list_cmp_total}
-use Rattle.std.specs.FinMap.{FinMap, empty, from_entries, find, get, insert, remove, get-empty, get-from_entries, get-insert, get-remove, len, len-insert, len-remove, len-empty, empty_of_len, same_map, slice_cmp-IsAntisymmetric, nat_cmp-IsAntisymmetric}
+use Rattle.std.specs.FinMap.{empty, find, get, insert, remove, get-empty, get-from_entries, get-insert, get-remove, len, len-insert, len-remove, len-empty, empty_of_len, same_map, slice_cmp-IsAntisymmetric, nat_cmp-IsAntisymmetric}
 use Rattle.set_object.specs.Strings.{Strings, set_of, has, IsOnce}
+
+-- a test has one answer
+pub two_ways : (b : Bool) → b ≡ true → b ≡ false → ⊥
+two_ways b h k = cc
 
 -- both are the same bytes
 abbrev pub tied : List ℕ → List ℕ → Bool
@@ -73,13 +77,6 @@ has_taken m x q = ap is_some (get-remove nat_list_cmp_total m x q) ∙ none (tie
     none : (t : Bool) (o : Option (Unit {0})) → is_some (cond t None o) ≡ cond t false (is_some o)
     none true o = refl
     none false o = refl
-
--- what isn't there can't be taken out
-pub taken_absent : (m : Strings) (x : List ℕ) → has m x ≡ false → remove m x ≡ m
-taken_absent m x lacks = sets_alike _ _ (λ q. has_taken m x q ∙ elim (cases_Bool (tied q x)) [
-  | inl same ↦ cond-true _ _ _ same ∙ sym (ap (has m) (tied-true q x same) ∙ lacks)
-  | inr other ↦ cond-false _ _ _ other
-])
 
 pub len_put : (m : Strings) (x : List ℕ) → has m x ≡ false → len (insert m x tt) ≡ len m + 1
 len_put m x lacks = len-insert nat_list_cmp_total m x tt ∙ cond-false _ _ _ lacks
@@ -186,9 +183,6 @@ among-removed q (y ∷ xs) (suc i) x once is =
       | inr f ↦ ap (cond (tied q y) true) (rest ∙ cond-false _ _ _ f) ∙ sym (cond-false _ _ _ f)
     ]
   where
-    two_ways : (b : Bool) → b ≡ true → b ≡ false → ⊥
-    two_ways b h k = cc
-
     stands : (xs : List (List ℕ)) (i : ℕ) (x : List ℕ) → slice_get xs i ≡ Some x → among x xs ≡ true
     stands [] i x h = cc
     stands (y ∷ xs) zero x h = cond-true _ _ _ (tied-same x y (let e : x ≡ y = cc in e))
@@ -196,9 +190,6 @@ among-removed q (y ∷ xs) (suc i) x once is =
 
 pub set_removed : (xs : List (List ℕ)) (i : ℕ) (x : List ℕ) → IsOnce xs → slice_get xs i ≡ Some x → set_of (removed xs i) ≡ remove (set_of xs) x
 set_removed xs i x once is = taken_is xs (removed xs i) x (λ q. among-removed q xs i x once is)
-
-two_ways : (b : Bool) → b ≡ true → b ≡ false → ⊥
-two_ways b h k = cc
 
 pub stands_at : (xs : List (List ℕ)) (i : ℕ) → i < length xs → among (get_or xs i []) xs ≡ true
 stands_at [] i h = absurd (omega arith)

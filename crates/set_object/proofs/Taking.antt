@@ -1,21 +1,20 @@
 -- A member that is taken out of a packed set.
-use Rattle.std.proofs.Common.{◌≡◌, ◌≢◌, ℕ, zero, suc, ◌+◌, ◌<◌, ◌≤◌, ◌^◌, Bool, true, false, cond, List, [], ◌∷◌, map, length, Some, Result, Ok, Err, refl, sym, ap, ◌∙◌, subst, arith, inl, inr, slice_get}
+use Rattle.std.proofs.Common.{◌≡◌, ◌≢◌, ℕ, zero, suc, ◌+◌, ◌<◌, ◌^◌, Bool, true, false, cond, List, [], ◌∷◌, map, length, Some, Result, Ok, Err, refl, sym, ap, ◌∙◌, subst, arith, inl, inr, slice_get}
 use Rattle.std.specs.Prelude.{ℤ, IfOk}
-use Rattle.std.specs.Ordering.{int_eq, nat_cmp}
-use Rattle.std.specs.Cmp.Lexicographic.{slice_cmp}
-use Rattle.std.specs.List.{All, remove as removed}
-use Rattle.std.specs.FinMap.{remove, len, empty, empty_of_len}
+use Rattle.std.specs.Ordering.{int_eq}
+use Rattle.std.specs.List.{remove as removed}
+use Rattle.std.specs.FinMap.{remove, len, empty_of_len}
 use Rattle.std.proofs.lemmas.Int.{ints}
 use Rattle.std.proofs.lemmas.Bool.{cases_Bool}
 use Rattle.std.proofs.lemmas.Fmt.{signed_decimal_injective}
 use Rattle.std.proofs.lemmas.List.{length-map}
-use Rattle.std.proofs.lemmas.List.Elements.{All-head, All-tail, All-filter}
+use Rattle.std.proofs.lemmas.List.Elements.{All-head, All-tail}
 use lib.Signed.{mag}
 use Rattle.blocks.specs.declared.BlockRef.{BlockRef}
 use Rattle.blocks.specs.Blocks.{Blocks, bytes_at, with_block, Changes}
 use Rattle.blocks.proofs.Change.{Changes-same}
 use Rattle.int_text.specs.Decimal.{canonical}
-use Rattle.intset.specs.Intset.{IsIntset, numbers_of, without_number}
+use Rattle.intset.specs.Intset.{numbers_of, without_number}
 use Rattle.listpack.specs.Pack.{texts}
 use Rattle.object_codec.specs.declared.form.Form.{Form}
 use Rattle.object_codec.specs.declared.form.Form.TheVariants.{Intset, Listpack, Hashtable, Skiplist, Quicklist, Stream}
@@ -27,8 +26,8 @@ use Rattle.set_object.specs.declared.members.Body.{Body}
 use Rattle.set_object.specs.declared.members.Body.TheVariants.{Empty, Numbers, Pack, Table}
 use Rattle.set_object.specs.declared.members.Members.{Members}
 use Rattle.set_object.specs.Strings.{Strings, set_of, has, IsOnce}
-use Rattle.set_object.specs.Members.{IsMembers, IsBody, IsPackOf, IsMemberPack, IsNumbers, IsPlacedBody, form_of_body, members, members_of, number_texts, form_left, tables_of, no_tables}
-use Rattle.set_object.proofs.Sets.{tied, has_empty, tied-true, among, has_among, has_taken, stands_get, taken_is, set_removed, len_taken}
+use Rattle.set_object.specs.Members.{IsMembers, IsBody, IsMemberPack, IsNumbers, AreNumbersOf, ArePackedOf, AreBytesOf, IsPacked, repacked, IsPlacedBody, form_of_body, members, members_of, number_texts, form_left, tables_of, no_tables}
+use Rattle.set_object.proofs.Sets.{two_ways, tied, has_empty, tied-true, among, has_among, has_taken, stands_get, taken_is, set_removed, len_taken}
 use Rattle.set_object.proofs.Hashing.{Dict}
 use Rattle.set_object.proofs.Texts.{AreFit, numbers_once}
 use Rattle.set_object.proofs.Placing.{all_short, block_is, longest_within}
@@ -42,9 +41,6 @@ int_same x n h = grind (arith, ints)
 
 int_self : (n : ℤ) → int_eq n n ≡ true
 int_self n = grind (arith, ints)
-
-pub two_ways : (b : Bool) → b ≡ true → b ≡ false → ⊥
-two_ways b h k = cc
 
 gone : (t u a : Bool) → t ≡ u → cond t false a ≡ cond t false (cond u true a)
 gone true u a same = refl
@@ -94,58 +90,80 @@ texts_once xs i x once is =
 
 -- ---- the block of a packed set without a member was placed
 
-module _ (m n : Blocks) (self : Members) (p : Packed) (x : List ℕ) (sound : IsMembers m self) (there : has (members m self) x ≡ true) where
-  pub packed_len : p.len ≡ body_len self.body → p.len ≡ len (remove (members m self) x) + 1
-  packed_len is = is ∙ len_of m self.limits self.seed self.body sound.body ∙ sym (len_taken (members m self) x there)
+module _ (m n : Blocks) (self : Members) (x : List ℕ) (sound : IsMembers m self) (there : has (members m self) x ≡ true) (at : BlockRef) (size : ℕ) (bytes : List ℕ) (placed : n ≡ with_block m at (Some bytes)) (changes : Changes m n [] (at ∷ [])) (less : size + 1 ≡ body_len self.body) where
+  abbrev left : Strings
+  left = remove (members m self) x
 
-  module _ (at : BlockRef) (size : ℕ) (bytes : List ℕ) (placed : n ≡ with_block m at (Some bytes)) (changes : Changes m n [] (at ∷ [])) (less : size + 1 ≡ p.len) where
-    same_bytes : bytes_at n at ≡ bytes
-    same_bytes = block_is m n at bytes placed
+  left_len : len left ≡ size
+  left_len = omega (arith, less, len_of m self.limits self.seed self.body sound.body, len_taken (members m self) x there)
 
-    pub numbers_fewer : self.body ≡ Numbers p → IsIntset bytes (numbers_of bytes) → AreFit (numbers_of bytes) → set_of (number_texts bytes) ≡ remove (set_of (number_texts (bytes_at m p.at))) x
-        → IsPlacedBody m n self (Numbers (record { at = at; len = size })) (remove (members m self) x)
-    numbers_fewer is intset fit left =
-        let old : IsNumbers self.limits p.len (bytes_at m p.at) = subst (IsBody m self.limits self.seed) is sound.body in
-        let members_left : set_of (number_texts bytes) ≡ remove (members m self) x = left ∙ ap (λ b. remove (members_of m b) x) (sym is) in
-        let whole : IsNumbers self.limits size bytes = record {
-          intset = intset;
-          counted = omega (arith, less, packed_len (ap body_len (sym is)), ap len members_left, numbers_once (numbers_of bytes) intset.rising fit, length-map (numbers_of bytes) canonical);
-          few = omega (arith, less, old.few);
-          fit = fit;
-        } in
-        record {
-          sound = subst (IsNumbers self.limits size) (sym same_bytes) whole;
-          members_are = ap (λ bs. set_of (number_texts bs)) same_bytes ∙ members_left;
-          changes = changes;
-          grown = Grown-same (hash_of self.seed) no_tables no_tables refl;
-        }
+  same_bytes : bytes_at n at ≡ bytes
+  same_bytes = block_is m n at bytes placed
 
-    pub texts_fewer : self.body ≡ Pack p → IsPackOf (texts bytes) bytes → IsOnce (texts bytes) → set_of (texts bytes) ≡ remove (set_of (texts (bytes_at m p.at))) x
-        → IsPlacedBody m n self (Pack (record { at = at; len = size })) (remove (members m self) x)
-    texts_fewer is pack once left =
-        let old : IsMemberPack self.limits p.len (bytes_at m p.at) = subst (IsBody m self.limits self.seed) is sound.body in
-        let list = texts (bytes_at m p.at) in
-        let members_left : set_of (texts bytes) ≡ remove (members m self) x = left ∙ ap (λ b. remove (members_of m b) x) (sym is) in
-        let whole : IsMemberPack self.limits size bytes = record {
-          pack = pack;
-          counted = omega (arith, less, packed_len (ap body_len (sym is)), ap len members_left, once);
-          once = once;
-          few = omega (arith, less, old.few);
-          short = all_short (texts bytes) self.limits.set_value (λ q h. omega (arith, longest_each list q (was q (sym (has_taken (set_of list) x q) ∙ ap (λ s. has s q) (sym left) ∙ has_among (texts bytes) q ∙ h)), longest_within list self.limits.set_value old.short));
-        } in
-        record {
-          sound = subst (IsMemberPack self.limits size) (sym same_bytes) whole;
-          members_are = ap (λ bs. set_of (texts bs)) same_bytes ∙ members_left;
-          changes = changes;
-          grown = Grown-same (hash_of self.seed) no_tables no_tables refl;
-        }
-      where
-        was : (q : List ℕ) → cond (tied q x) false (has (set_of (texts (bytes_at m p.at))) q) ≡ true → among q (texts (bytes_at m p.at)) ≡ true
-        was q h = sym (has_among (texts (bytes_at m p.at)) q) ∙ second (tied q x) (has (set_of (texts (bytes_at m p.at))) q) h
-          where
-            second : (t b : Bool) → cond t false b ≡ true → b ≡ true
-            second true b h = cc
-            second false b h = h
+  numbers_fewer : (p : Packed) → self.body ≡ Numbers p → AreNumbersOf left bytes → IsPlacedBody m n self (Numbers (record { at = at; len = size })) left
+  numbers_fewer p is now =
+      let old : IsNumbers self.limits p.len (bytes_at m p.at) = subst (IsBody m self.limits self.seed) is sound.body in
+      let whole : IsNumbers self.limits size bytes = record {
+        intset = now.intset;
+        counted = omega (arith, left_len, ap len now.members_are, numbers_once (numbers_of bytes) now.intset.rising now.fit, length-map (numbers_of bytes) canonical);
+        few = omega (arith, less, ap body_len is, old.few);
+        fit = now.fit;
+      } in
+      record {
+        sound = subst (IsNumbers self.limits size) (sym same_bytes) whole;
+        members_are = ap (λ bs. set_of (number_texts bs)) same_bytes ∙ now.members_are;
+        changes = changes;
+        grown = Grown-same (hash_of self.seed) no_tables no_tables refl;
+      }
+
+  texts_fewer : (p : Packed) → self.body ≡ Pack p → ArePackedOf left bytes → IsPlacedBody m n self (Pack (record { at = at; len = size })) left
+  texts_fewer p is now =
+      let old : IsMemberPack self.limits p.len (bytes_at m p.at) = subst (IsBody m self.limits self.seed) is sound.body in
+      let list = texts (bytes_at m p.at) in
+      let old_list : members m self ≡ set_of list = ap (members_of m) is in
+      let whole : IsMemberPack self.limits size bytes = record {
+        pack = now.pack;
+        counted = omega (arith, left_len, ap len now.members_are, now.once);
+        once = now.once;
+        few = omega (arith, less, ap body_len is, old.few);
+        short = all_short (texts bytes) self.limits.set_value
+            (λ q h. omega (arith, longest_each list q (was q list (ap (λ s. has s q) old_list ∙ has_among list q) (sym (has_taken (members m self) x q) ∙ ap (λ s. has s q) (sym now.members_are) ∙ has_among (texts bytes) q ∙ h)), longest_within list self.limits.set_value old.short));
+      } in
+      record {
+        sound = subst (IsMemberPack self.limits size) (sym same_bytes) whole;
+        members_are = ap (λ bs. set_of (texts bs)) same_bytes ∙ now.members_are;
+        changes = changes;
+        grown = Grown-same (hash_of self.seed) no_tables no_tables refl;
+      }
+    where
+      was : (q : List ℕ) (list : List (List ℕ)) → has (members m self) q ≡ among q list → cond (tied q x) false (has (members m self) q) ≡ true → among q list ≡ true
+      was q list same h = sym same ∙ second (tied q x) (has (members m self) q) h
+        where
+          second : (t b : Bool) → cond t false b ≡ true → b ≡ true
+          second true b h = cc
+          second false b h = h
+
+  pub left_placed : AreBytesOf self.body left bytes → IsPlacedBody m n self (repacked self.body (record { at = at; len = size })) left
+  left_placed now = by_body self.body refl now
+    where
+      by_body : (b : Body) → self.body ≡ b → AreBytesOf b left bytes → IsPlacedBody m n self (repacked b (record { at = at; len = size })) left
+      by_body Empty is now = absurd now
+      by_body (Numbers p) is now = numbers_fewer p is now
+      by_body (Pack p) is now = texts_fewer p is now
+      by_body (Table t) is now = absurd now
+
+-- what holds members is packed in a block, in the same form
+pub bytes_packed : (body : Body) (set : Strings) (bytes : List ℕ) → AreBytesOf body set bytes → IsPacked body
+bytes_packed Empty set bytes is = is
+bytes_packed (Numbers p) set bytes is = tt
+bytes_packed (Pack p) set bytes is = tt
+bytes_packed (Table t) set bytes is = is
+
+pub repacked_form : (body : Body) (new : Packed) → form_of_body (repacked body new) ≡ form_of_body body
+repacked_form Empty new = refl
+repacked_form (Numbers p) new = refl
+repacked_form (Pack p) new = refl
+repacked_form (Table t) new = refl
 
 -- the last member was taken out
 pub none_left : (m : Blocks) (self : Members) (set : Strings) → len set ≡ 0 → IsPlacedBody m m self Empty set

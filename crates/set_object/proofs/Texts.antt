@@ -1,8 +1,7 @@
 -- The texts of numbers, and the elements of a listpack.
-use Rattle.std.proofs.Common.{◌≡◌, ◌≢◌, ◌⊎◌, inl, inr, ℕ, zero, suc, ◌+◌, ◌<◌, ◌≤◌, ◌^◌, ◌↔◌, Bool, true, false, cond, List, [], ◌∷◌, ◌++◌, map, length, take, drop, max, is_some, get_or, Option, Some, None, refl, sym, ap, ◌∙◌, subst, arith}
-use Rattle.std.specs.Prelude.{IsTrue, ℤ, ◌<ℤ◌, FitsSigned, slice_get}
-use Rattle.std.specs.Int.{w64}
-use Rattle.std.specs.List.{All, AllPairs, Contains}
+use Rattle.std.proofs.Common.{◌≡◌, inl, inr, ℕ, zero, suc, ◌<◌, ◌≤◌, ◌^◌, Bool, true, false, List, [], ◌∷◌, ◌++◌, map, length, take, drop, max, is_some, get_or, Some, refl, sym, ap, ◌∙◌, subst, arith}
+use Rattle.std.specs.Prelude.{IsTrue, ℤ, ◌<ℤ◌, slice_get}
+use Rattle.std.specs.List.{All, Contains}
 use Rattle.std.proofs.lemmas.Bool.{cond-true, cond-false, cases_Bool, and_from}
 use Rattle.std.proofs.lemmas.List.Elements.{All-head, All-tail, All-nil, All-cons}
 use Rattle.std.specs.Int.Signed.{<ℤ_irrefl}
@@ -11,7 +10,7 @@ use lib.Signed.{mag}
 use Rattle.int_text.specs.Decimal.{canonical, IsI64Text}
 use Rattle.int_text.proofs.NumberOf.{number_back}
 use Rattle.intset.specs.Intset.{IsRising}
-use Rattle.set_object.specs.Strings.{set_of, IsOnce, longest, are_numbers}
+use Rattle.set_object.specs.Strings.{IsOnce, longest, are_numbers}
 use Rattle.set_object.proofs.Sets.{tied, tied-true, tied-same, tied-other, among, once_nil, once_cons}
 
 -- numbers of 64 bits with a sign

@@ -1,8 +1,6 @@
 -- What contracts see of a set over a store.
-use Rattle.std.specs.Prelude.{◌≡◌, ℕ, zero, suc, ◌≤◌, ◌<◌, ◌^◌, List, [], ◌∷◌, length, map, Option, Some, None, ℤ, slice_get}
-use Rattle.std.specs.List.{All}
-use Rattle.std.specs.Ordering.{nat_cmp}
-use Rattle.std.specs.Cmp.Lexicographic.{slice_cmp}
+use Rattle.std.specs.Prelude.{◌≡◌, ℕ, zero, suc, ◌≤◌, ◌<◌, ◌^◌, List, [], ◌∷◌, length, map, Option, Some, None}
+use Rattle.std.specs.List.{All, flat_map}
 use Rattle.std.specs.FinMap.{empty}
 use lib.Signed.{mag}
 use Rattle.blocks.specs.declared.BlockRef.{BlockRef}
@@ -15,27 +13,35 @@ use Rattle.object_codec.specs.Limits.{AreInRange}
 use Rattle.object_codec.specs.declared.limits.Limits.{Limits}
 use Rattle.object_codec.specs.declared.form.Form.{Form}
 use Rattle.object_codec.specs.declared.form.Form.TheVariants.{Intset, Listpack, Hashtable}
-use Rattle.rehash_dict.specs.Table.{Table as DictTable, Element, item}
+use Rattle.rehash_dict.specs.Table.{Table as DictTable, Element}
 use Rattle.rehash_dict.specs.Keyed.{Keyed, hash_of, key_tables}
 use Rattle.rehash_dict.specs.MapOf.{content, key_refs}
-use Rattle.rehash_dict.specs.Tables.{Tables, IsSettled}
+use Rattle.rehash_dict.specs.Tables.{Tables}
 use Rattle.rehash_dict.specs.Grown.{Grown}
 use Rattle.set_object.specs.declared.members.Packed.{Packed}
 use Rattle.set_object.specs.declared.members.Body.{Body}
 use Rattle.set_object.specs.declared.members.Body.TheVariants.{Empty, Numbers, Pack, Table}
 use Rattle.set_object.specs.declared.members.Members.{Members}
-use Rattle.set_object.specs.Strings.{Strings, set_of, IsOnce, IsRisen}
+use Rattle.set_object.specs.Strings.{Strings, set_of, IsOnce}
 
 -- the texts of the numbers of an intset
 abbrev pub number_texts : List ℕ → List (List ℕ)
 number_texts bytes = map canonical (numbers_of bytes)
 
--- the members of a packed form in its own order
-abbrev pub packed_list : Blocks → Body → List (List ℕ)
-packed_list blocks Empty = []
-packed_list blocks (Numbers packed) = number_texts (bytes_at blocks packed.at)
-packed_list blocks (Pack packed) = texts (bytes_at blocks packed.at)
-packed_list blocks (Table t) = []
+-- the bytes of an element's key
+abbrev pub key_in : Blocks → Option (Element (Unit {0})) → List (List ℕ)
+key_in blocks None = []
+key_in blocks (Some e) = bytes_at blocks e.key ∷ []
+
+-- the members in the set's own order: that of its packed form, or that of the item numbers of its dictionary
+abbrev pub listed_of : Blocks → Body → List (List ℕ)
+listed_of blocks Empty = []
+listed_of blocks (Numbers packed) = number_texts (bytes_at blocks packed.at)
+listed_of blocks (Pack packed) = texts (bytes_at blocks packed.at)
+listed_of blocks (Table t) = flat_map (key_in blocks) t.items
+
+abbrev pub listed : Blocks → Members → List (List ℕ)
+listed blocks m = listed_of blocks m.body
 
 abbrev pub members_of : Blocks → Body → Strings
 members_of blocks Empty = empty
@@ -99,6 +105,39 @@ pub record IsMemberPack (limits : Limits) (len : ℕ) (bytes : List ℕ) : Type 
   pub once : IsOnce (texts bytes)
   pub few : len ≤ limits.set_entries
   pub short : All (λ (x : List ℕ). length x ≤ limits.set_value) (texts bytes)
+
+-- the bytes are an intset of these members
+pub record AreNumbersOf (set : Strings) (bytes : List ℕ) : Type 0 where
+  pub intset : IsIntset bytes (numbers_of bytes)
+  pub fit : All (λ n. mag n < 2 ^ 63) (numbers_of bytes)
+  pub members_are : set_of (number_texts bytes) ≡ set
+
+-- the bytes are a listpack as the writer makes it of these members, each once
+pub record ArePackedOf (set : Strings) (bytes : List ℕ) : Type 0 where
+  pub pack : IsPackOf (texts bytes) bytes
+  pub once : IsOnce (texts bytes)
+  pub members_are : set_of (texts bytes) ≡ set
+
+-- the bytes are these members in the packed form that the body has
+abbrev pub AreBytesOf : Body → Strings → List ℕ → Type 0
+AreBytesOf Empty set bytes = ⊥
+AreBytesOf (Numbers packed) set bytes = AreNumbersOf set bytes
+AreBytesOf (Pack packed) set bytes = ArePackedOf set bytes
+AreBytesOf (Table t) set bytes = ⊥
+
+-- the body is the bytes of one block
+abbrev pub IsPacked : Body → Type 0
+IsPacked Empty = ⊥
+IsPacked (Numbers packed) = Unit {0}
+IsPacked (Pack packed) = Unit {0}
+IsPacked (Table t) = ⊥
+
+-- the packed form that a body has, in another block
+abbrev pub repacked : Body → Packed → Body
+repacked Empty new = Empty
+repacked (Numbers packed) new = Numbers new
+repacked (Pack packed) new = Pack new
+repacked (Table t) new = Table t
 
 -- the dictionary of member blocks has the set's seed
 pub record IsMemberTable (blocks : Blocks) (seed : ℕ) (t : DictTable (Unit {0})) : Type 0 where

@@ -5,8 +5,9 @@ ghost use Rattle.std.specs.FinMap.{insert};
 ghost use Rattle.blocks.specs.Blocks.{Changes, Owned, Served};
 ghost use Rattle.object_codec.specs.declared.form.Form.{Form};
 ghost use Rattle.int_text.specs.Decimal.{canonical};
-ghost use Rattle.set_object.specs.Strings.{has, IsRisen};
-ghost use Rattle.set_object.specs.Members.{IsMembers, IsChanged, IsPackOf, IsNumberList, IsPlacedBody, members, form_of, form_of_body, packed_list, refs, refs_of};
+ghost use Rattle.object_codec.specs.Limits.{AreInRange};
+ghost use Rattle.set_object.specs.Strings.{has, set_of, IsRisen};
+ghost use Rattle.set_object.specs.Members.{IsMembers, IsChanged, IsNumbers, IsPackOf, IsNumberList, IsPlacedBody, members, number_texts, form_of, form_of_body, listed, refs, refs_of};
 
 use crate::Members;
 use crate::hashed::{end_table, hash_member, hash_pack};
@@ -14,8 +15,24 @@ use crate::members::{Body, Packed};
 use crate::packs::{is_number, longest_number, pack_numbers};
 use blocks::{BlockStore, Memory, put_block};
 use int_text::read_i64;
-use object_codec::{Form, set_form};
+use object_codec::{Form, Limits, set_form};
 use std::mem;
+
+// The form of so many numbers, those of an intset, with another member. Only where they leave the intset the longest text is looked
+// for.
+fn form_of_numbers(limits: &Limits, bytes: &[u8], len: usize, member: &[u8]) -> Form
+    requires range { AreInRange limits.now }
+    requires numbers { IsNumbers limits.now len bytes.now }
+    requires absent { has (set_of (number_texts bytes.now)) member.now ≡ false }
+    ensures { IsRisen limits.now Form.Intset (insert (set_of (number_texts bytes.now)) member.now tt) result }
+{
+    let number = is_number(member);
+    if number && len < limits.set_intset as usize {
+        return Form::Intset;
+    }
+    let most = longest_number(bytes).max(member.len());
+    set_form(limits, number, len + 1, most)
+}
 
 impl Body {
     // Gives back all blocks.
@@ -51,10 +68,12 @@ impl Members {
     {
         match &self.body {
             Body::Empty => set_form(&self.limits, is_number(member), 1, member.len()),
-            Body::Numbers(packed) => {
-                let most = longest_number(store.bytes(packed.at)).max(member.len());
-                set_form(&self.limits, is_number(member), packed.len + 1, most)
-            }
+            Body::Numbers(packed) => form_of_numbers(
+                &self.limits,
+                store.bytes(packed.at),
+                packed.len,
+                member,
+            ),
             Body::Pack(packed) => set_form(&self.limits, false, packed.len + 1, member.len()),
             Body::Table(_) => Form::Hashtable,
         }
@@ -64,7 +83,7 @@ impl Members {
     fn copy_numbers<B: BlockStore>(&self, store: &B) -> Result<Vec<u8>, Memory>
         requires sound { IsMembers (B.blocks store.now) self.now }
         requires numbers { form_of self.now ≡ Form.Intset }
-        ensures { IfOk result (λ set. IsNumberList (packed_list (B.blocks store.now) self.now.body) set.items) }
+        ensures { IfOk result (λ set. IsNumberList (listed (B.blocks store.now) self.now) set.items) }
     {
         match &self.body {
             Body::Numbers(packed) => Vec::from_slice(self.alloc, store.bytes(packed.at)),
@@ -76,7 +95,7 @@ impl Members {
     fn copy_pack<B: BlockStore>(&self, store: &B) -> Result<Vec<u8>, Memory>
         requires sound { IsMembers (B.blocks store.now) self.now }
         requires packed { form_of self.now ≢ Form.Hashtable }
-        ensures { IfOk result (λ pack. IsPackOf (packed_list (B.blocks store.now) self.now.body) pack.items) }
+        ensures { IfOk result (λ pack. IsPackOf (listed (B.blocks store.now) self.now) pack.items) }
     {
         match &self.body {
             Body::Empty => listpack::empty(self.alloc),

@@ -1,6 +1,6 @@
 // Members that are blocks of their own, in a dictionary.
 
-ghost use Rattle.std.specs.Prelude.{◌≡◌, [], IfOk, OnOk, OnErr, true, false};
+ghost use Rattle.std.specs.Prelude.{◌≡◌, ◌≢◌, [], IfOk, OnOk, OnErr, Ok, true, false};
 ghost use Rattle.std.specs.FinMap.{insert, remove};
 ghost use Rattle.blocks.specs.Blocks.{Changes, Owned, Served};
 ghost use Rattle.listpack.specs.Element.{element_text};
@@ -103,23 +103,27 @@ pub(crate) fn hash_pack<B: BlockStore>(
     Ok(table)
 }
 
-/// Takes a member that is there out of the dictionary, gives its block back, and shrinks the dictionary. `Memory` comes from the
-/// last of these alone, and leaves the member taken out.
+/// Takes a member out of the dictionary, gives its block back, and shrinks the dictionary. The answer is whether it was there.
+/// `Memory` comes from the last of these alone, and leaves the member taken out.
 pub(crate) fn unhash_member<B: BlockStore>(
     store: &mut B,
     table: &mut Dict<()>,
     member: &[u8],
-) -> Result<(), Memory>
+) -> Result<bool, Memory>
     requires keyed { Keyed (B.blocks store.old) table.old }
-    requires there { has (content (B.blocks store.old) table.old) member.now ≡ true }
-    ensures hashed { IsHashed (B.blocks store.old) (B.blocks store.new) table.old table.new (remove (content (B.blocks store.old) table.old) member.now) }
+    ensures there { IfOk result (λ was. was ≡ has (content (B.blocks store.old) table.old) member.now) }
+    ensures hashed { result ≢ Ok false → IsHashed (B.blocks store.old) (B.blocks store.new) table.old table.new (remove (content (B.blocks store.old) table.old) member.now) }
     ensures served { Served B.step store.old store.new }
-    ensures settled { OnOk result (IsSettled (key_tables (B.blocks store.new) table.new)) }
+    ensures settled { result ≡ Ok true → IsSettled (key_tables (B.blocks store.new) table.new) }
+    ensures same_table { result ≡ Ok false → table.new ≡ table.old }
+    ensures same_blocks { result ≡ Ok false → B.blocks store.new ≡ B.blocks store.old }
 {
     match table.remove(store, member) {
-        Some((at, ())) => store.give_back(at),
-        None => unreachable!(),
+        Some((taken, ())) => {
+            store.give_back(taken);
+            table.shrink()?;
+            Ok(true)
+        }
+        None => Ok(false),
     }
-    table.shrink()?;
-    Ok(())
 }

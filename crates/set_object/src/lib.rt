@@ -3,12 +3,20 @@
 #![tactic(auto)]
 
 mod adding;
+mod copying;
+mod cursor;
 mod hashed;
+mod items;
+mod laws;
 mod members;
 mod packs;
+mod relocating;
 mod removing;
+mod scanning;
 #[cfg(test)]
 mod tests;
 
-pub use blocks::Memory;
+pub use blocks::{Memory, Moved};
+pub use cursor::Cursor;
+pub use laws::members_laws;
 pub use members::Members;

@@ -6,7 +6,7 @@ ghost use Rattle.object_codec.specs.Forms.{IsLeast};
 ghost use Rattle.set_object.specs.Strings.{has, FitsMembers};
 ghost use Rattle.set_object.specs.Members.{IsMembers, members, refs, form_of, tables, no_tables};
 
-use crate::packs::{find_number, find_text};
+use crate::packs::{find_text, number_among};
 use blocks::{BlockRef, BlockStore};
 use object_codec::{Form, Limits};
 use rehash_dict::Dict;
@@ -95,7 +95,7 @@ impl Members {
     {
         match &self.body {
             Body::Empty => false,
-            Body::Numbers(packed) => find_number(store.bytes(packed.at), member),
+            Body::Numbers(packed) => number_among(store.bytes(packed.at), member).is_some(),
             Body::Pack(packed) => find_text(store.bytes(packed.at), member).is_some(),
             Body::Table(table) => table.find(store, member).is_some(),
         }

@@ -1,6 +1,6 @@
 // Members that are packed in the bytes of one block.
 
-ghost use Rattle.std.specs.Prelude.{◌≡◌, ◌++◌, ◌∷◌, [], ◌<◌, ◌^◌, ◌↔◌, IsTrue, IfSome, IfNone, IfOk, ◌≤◌, OnOk, length, MatchOption, slice_get, Some, false, true, is_some};
+ghost use Rattle.std.specs.Prelude.{◌≡◌, ◌++◌, ◌∷◌, [], ◌<◌, ◌^◌, ◌↔◌, IsTrue, IfSome, IfNone, IfOk, ◌≤◌, OnOk, length, MatchOption, slice_get, slice_index_or, Some, false, true, is_some};
 ghost use Rattle.std.specs.FinMap.{remove};
 ghost use Rattle.std.specs.List.{All, Contains};
 ghost use lib.Signed.{mag};
@@ -11,7 +11,7 @@ ghost use Rattle.listpack.specs.Writing.{spelling, Fits};
 ghost use Rattle.listpack.specs.Edits.{IsEdited, one_more};
 ghost use Rattle.listpack.specs.Element.{element_text};
 ghost use Rattle.set_object.specs.Strings.{set_of, has, longest, IsOnce};
-ghost use Rattle.set_object.specs.Members.{number_texts, IsPackOf};
+ghost use Rattle.set_object.specs.Members.{number_texts, IsPackOf, AreNumbersOf, ArePackedOf};
 
 use blocks::Memory;
 use int_text::read_i64;
@@ -37,15 +37,29 @@ fn has_number(bytes: &[u8], n: i64) -> bool
     intset::known(bytes).contains(n)
 }
 
-/// Whether the numbers of an intset have a member.
-pub(crate) fn find_number(bytes: &[u8], member: &[u8]) -> bool
+/// The number whose text a member is, where it is among those of an intset.
+pub(crate) fn number_among(bytes: &[u8], member: &[u8]) -> Option<i64>
     requires intset { IsIntset bytes.now (numbers_of bytes.now) }
     requires fit { All (λ n. mag n < 2 ^ 63) (numbers_of bytes.now) }
-    ensures { result ≡ has (set_of (number_texts bytes.now)) member.now }
+    ensures text { IfSome result (λ n. canonical n ≡ member.now) }
+    ensures there { is_some result ≡ has (set_of (number_texts bytes.now)) member.now }
 {
     match read_i64(member) {
-        Some(n) => has_number(bytes, n),
-        None => false,
+        Some(n) => { if has_number(bytes, n) { Some(n) } else { None } }
+        None => None,
+    }
+}
+
+/// The number at an index of an intset, as an element.
+pub(crate) fn number_element(bytes: &[u8], index: usize) -> Element<'_>
+    requires intset { IsIntset bytes.now (numbers_of bytes.now) }
+    requires fit { All (λ n. mag n < 2 ^ 63) (numbers_of bytes.now) }
+    requires inside { index < length (numbers_of bytes.now) }
+    ensures { element_text result ≡ slice_index_or (number_texts bytes.now) index [] }
+{
+    match intset::known(bytes).at(index) {
+        Some(n) => Element::Number(n),
+        None => unreachable!(),
     }
 }
 
@@ -131,41 +145,45 @@ pub(crate) fn pack_numbers(alloc: Global, bytes: &[u8]) -> Result<Vec<u8>, Memor
     Ok(pack)
 }
 
-/// An intset of the numbers of one without a member that is among them.
-pub(crate) fn numbers_without(alloc: Global, bytes: &[u8], member: &[u8]) -> Result<Vec<u8>, Memory>
+/// An intset of the numbers of one without a member. `None` comes exactly where it isn't among them.
+pub(crate) fn numbers_without(
+    alloc: Global,
+    bytes: &[u8],
+    member: &[u8],
+) -> Result<Option<Vec<u8>>, Memory>
     requires intset { IsIntset bytes.now (numbers_of bytes.now) }
     requires few { length (numbers_of bytes.now) ≤ 65536 }
     requires fit { All (λ n. mag n < 2 ^ 63) (numbers_of bytes.now) }
-    requires there { has (set_of (number_texts bytes.now)) member.now ≡ true }
-    ensures intset { IfOk result (λ set. IsIntset set.items (numbers_of set.items)) }
-    ensures fit { IfOk result (λ set. All (λ n. mag n < 2 ^ 63) (numbers_of set.items)) }
-    ensures left { IfOk result (λ set. set_of (number_texts set.items) ≡ remove (set_of (number_texts bytes.now)) member.now) }
+    ensures there { IfOk result (λ left. is_some left ≡ has (set_of (number_texts bytes.now)) member.now) }
+    ensures left { IfOk result (λ left. IfSome left (λ set. AreNumbersOf (remove (set_of (number_texts bytes.now)) member.now) set.items)) }
 {
-    let mut set = Vec::from_slice(alloc, bytes)?;
-    match read_i64(member) {
+    match number_among(bytes, member) {
         Some(n) => {
+            let mut set = Vec::from_slice(alloc, bytes)?;
             intset::remove(&mut set, n);
-            Ok(set)
+            Ok(Some(set))
         }
-        None => unreachable!(),
+        None => Ok(None),
     }
 }
 
-/// A listpack of the elements of one without a member that is among them.
-pub(crate) fn pack_without(alloc: Global, bytes: &[u8], member: &[u8]) -> Result<Vec<u8>, Memory>
+/// A listpack of the elements of one without a member. `None` comes exactly where it isn't among them.
+pub(crate) fn pack_without(
+    alloc: Global,
+    bytes: &[u8],
+    member: &[u8],
+) -> Result<Option<Vec<u8>>, Memory>
     requires pack { IsPackOf (texts bytes.now) bytes.now }
     requires once { IsOnce (texts bytes.now) }
-    requires there { has (set_of (texts bytes.now)) member.now ≡ true }
-    ensures pack { IfOk result (λ pack. IsPackOf (texts pack.items) pack.items) }
-    ensures once { IfOk result (λ pack. IsOnce (texts pack.items)) }
-    ensures left { IfOk result (λ pack. set_of (texts pack.items) ≡ remove (set_of (texts bytes.now)) member.now) }
+    ensures there { IfOk result (λ left. is_some left ≡ has (set_of (texts bytes.now)) member.now) }
+    ensures left { IfOk result (λ left. IfSome left (λ pack. ArePackedOf (remove (set_of (texts bytes.now)) member.now) pack.items)) }
 {
-    let mut pack = Vec::from_slice(alloc, bytes)?;
     match find_text(bytes, member) {
         Some(index) => {
+            let mut pack = Vec::from_slice(alloc, bytes)?;
             listpack::remove(&mut pack, index);
-            Ok(pack)
+            Ok(Some(pack))
         }
-        None => unreachable!(),
+        None => Ok(None),
     }
 }

@@ -1,13 +1,12 @@
 // Members that are taken out.
 
-ghost use Rattle.std.specs.Prelude.{◌≡◌, ◌≢◌, true, false, IfOk, OnErr, Ok};
+ghost use Rattle.std.specs.Prelude.{◌≡◌, ◌≢◌, true, false, is_some, IfOk, IfSome, IfNone, OnErr, Ok};
 ghost use Rattle.std.specs.FinMap.{remove, len};
 ghost use Rattle.blocks.specs.Blocks.{Served};
 ghost use Rattle.object_codec.specs.declared.form.Form.{Form};
 ghost use Rattle.rehash_dict.specs.Tables.{IsSettled};
-ghost use Rattle.set_object.specs.declared.members.Body.{Body};
 ghost use Rattle.set_object.specs.Strings.{has};
-ghost use Rattle.set_object.specs.Members.{IsMembers, IsChanged, IsPlacedBody, members, form_of, form_of_body, form_left, tables};
+ghost use Rattle.set_object.specs.Members.{IsMembers, IsChanged, IsPacked, AreBytesOf, IsPlacedBody, members, form_of, form_of_body, form_left, repacked, tables};
 
 use crate::Members;
 use crate::hashed::unhash_member;
@@ -16,66 +15,101 @@ use crate::packs::{numbers_without, pack_without};
 use blocks::{BlockStore, Memory, put_block};
 use std::mem;
 
+impl Body {
+    // The packed form of the same kind in another block.
+    fn packed_in(&self, packed: Packed) -> Body
+        requires { IsPacked self.now }
+        ensures { result ≡ repacked self.now packed }
+    {
+        match self {
+            Body::Numbers(_) => Body::Numbers(packed),
+            Body::Pack(_) => Body::Pack(packed),
+            _ => unreachable!(),
+        }
+    }
+}
+
 impl Members {
-    // Places the numbers of an intset without one of them. `Memory` leaves all blocks.
-    fn place_fewer_numbers<B: BlockStore>(
+    // The bytes of a packed set without a member. `None` comes exactly where it isn't there.
+    fn bytes_without<B: BlockStore>(
         &self,
-        store: &mut B,
-        packed: Packed,
+        store: &B,
         member: &[u8],
-    ) -> Result<Body, Memory>
-        requires sound { IsMembers (B.blocks store.old) self.now }
-        requires numbers { self.now.body ≡ Body.Numbers packed }
-        requires there { has (members (B.blocks store.old) self.now) member.now ≡ true }
-        ensures placed { IfOk result (λ body. IsPlacedBody (B.blocks store.old) (B.blocks store.new) self.now body (remove (members (B.blocks store.old) self.now) member.now)) }
-        ensures form { IfOk result (λ body. form_of_body body ≡ form_of self.now) }
-        ensures served { Served B.step store.old store.new }
-        ensures err_blocks { OnErr result (B.blocks store.new ≡ B.blocks store.old) }
-    {
-        let bytes = numbers_without(self.alloc, store.bytes(packed.at), member)?;
-        let at = put_block(store, &bytes)?;
-        let len = packed.len - 1;
-        Ok(Body::Numbers(Packed { at, len }))
-    }
-
-    // The same of the elements of a listpack.
-    fn place_fewer_texts<B: BlockStore>(
-        &self,
-        store: &mut B,
-        packed: Packed,
-        member: &[u8],
-    ) -> Result<Body, Memory>
-        requires sound { IsMembers (B.blocks store.old) self.now }
-        requires pack { self.now.body ≡ Body.Pack packed }
-        requires there { has (members (B.blocks store.old) self.now) member.now ≡ true }
-        ensures placed { IfOk result (λ body. IsPlacedBody (B.blocks store.old) (B.blocks store.new) self.now body (remove (members (B.blocks store.old) self.now) member.now)) }
-        ensures form { IfOk result (λ body. form_of_body body ≡ form_of self.now) }
-        ensures served { Served B.step store.old store.new }
-        ensures err_blocks { OnErr result (B.blocks store.new ≡ B.blocks store.old) }
-    {
-        let bytes = pack_without(self.alloc, store.bytes(packed.at), member)?;
-        let at = put_block(store, &bytes)?;
-        let len = packed.len - 1;
-        Ok(Body::Pack(Packed { at, len }))
-    }
-
-    // Places the members of a packed set without one of them. `Memory` leaves all blocks.
-    fn place_without<B: BlockStore>(&self, store: &mut B, member: &[u8]) -> Result<Body, Memory>
-        requires sound { IsMembers (B.blocks store.old) self.now }
-        requires there { has (members (B.blocks store.old) self.now) member.now ≡ true }
+    ) -> Result<Option<Vec<u8>>, Memory>
+        requires sound { IsMembers (B.blocks store.now) self.now }
         requires packed { form_of self.now ≢ Form.Hashtable }
+        ensures there { IfOk result (λ left. is_some left ≡ has (members (B.blocks store.now) self.now) member.now) }
+        ensures left { IfOk result (λ left. IfSome left (λ bytes. AreBytesOf self.now.body (remove (members (B.blocks store.now) self.now) member.now) bytes.items)) }
+    {
+        match &self.body {
+            Body::Empty => Ok(None),
+            Body::Numbers(packed) => numbers_without(self.alloc, store.bytes(packed.at), member),
+            Body::Pack(packed) => pack_without(self.alloc, store.bytes(packed.at), member),
+            Body::Table(_) => unreachable!(),
+        }
+    }
+
+    // Places the bytes of a packed set without a member, where others are left. `Memory` leaves all blocks.
+    fn place_left<B: BlockStore>(
+        &self,
+        store: &mut B,
+        member: &[u8],
+        bytes: &[u8],
+    ) -> Result<Body, Memory>
+        requires sound { IsMembers (B.blocks store.old) self.now }
+        requires there { has (members (B.blocks store.old) self.now) member.now ≡ true }
+        requires left { AreBytesOf self.now.body (remove (members (B.blocks store.old) self.now) member.now) bytes.now }
         ensures placed { IfOk result (λ body. IsPlacedBody (B.blocks store.old) (B.blocks store.new) self.now body (remove (members (B.blocks store.old) self.now) member.now)) }
-        ensures form { IfOk result (λ body. form_of_body body ≡ form_left (form_of self.now) (len (remove (members (B.blocks store.old) self.now) member.now))) }
+        ensures form { IfOk result (λ body. form_of_body body ≡ form_of self.now) }
         ensures served { Served B.step store.old store.new }
+        ensures err_blocks { OnErr result (B.blocks store.new ≡ B.blocks store.old) }
+    {
+        let at = put_block(store, bytes)?;
+        let len = self.len() - 1;
+        Ok(self.body.packed_in(Packed { at, len }))
+    }
+
+    // What is left of a set of one member without another. `None` comes exactly where it isn't there.
+    fn last_without<B: BlockStore>(&self, store: &B, member: &[u8]) -> Option<Body>
+        requires sound { IsMembers (B.blocks store.now) self.now }
+        requires packed { form_of self.now ≢ Form.Hashtable }
+        requires last { len (members (B.blocks store.now) self.now) ≡ 1 }
+        ensures there { is_some result ≡ has (members (B.blocks store.now) self.now) member.now }
+        ensures placed { IfSome result (λ body. IsPlacedBody (B.blocks store.now) (B.blocks store.now) self.now body (remove (members (B.blocks store.now) self.now) member.now)) }
+        ensures form { IfSome result (λ body. form_of_body body ≡ form_left (form_of self.now) (len (remove (members (B.blocks store.now) self.now) member.now))) }
+    {
+        if self.has(store, member) {
+            Some(Body::Empty)
+        } else {
+            None
+        }
+    }
+
+    // Places the members of a packed set without one of them. `None` comes exactly where it isn't there, and `Memory` leaves all
+    // blocks.
+    fn place_without<B: BlockStore>(
+        &self,
+        store: &mut B,
+        member: &[u8],
+    ) -> Result<Option<Body>, Memory>
+        requires sound { IsMembers (B.blocks store.old) self.now }
+        requires packed { form_of self.now ≢ Form.Hashtable }
+        ensures there { IfOk result (λ left. is_some left ≡ has (members (B.blocks store.old) self.now) member.now) }
+        ensures placed { IfOk result (λ left. IfSome left (λ body. IsPlacedBody (B.blocks store.old) (B.blocks store.new) self.now body (remove (members (B.blocks store.old) self.now) member.now))) }
+        ensures form { IfOk result (λ left. IfSome left (λ body. form_of_body body ≡ form_left (form_of self.now) (len (remove (members (B.blocks store.old) self.now) member.now)))) }
+        ensures served { Served B.step store.old store.new }
+        ensures none_blocks { IfOk result (λ left. IfNone left (B.blocks store.new ≡ B.blocks store.old)) }
         ensures err_blocks { OnErr result (B.blocks store.new ≡ B.blocks store.old) }
     {
         if self.len() == 1 {
-            return Ok(Body::Empty);
+            return Ok(self.last_without(store, member));
         }
-        match self.body {
-            Body::Numbers(packed) => self.place_fewer_numbers(store, packed, member),
-            Body::Pack(packed) => self.place_fewer_texts(store, packed, member),
-            _ => unreachable!(),
+        match self.bytes_without(store, member)? {
+            Some(bytes) => match self.place_left(store, member, &bytes) {
+                Ok(body) => Ok(Some(body)),
+                Err(error) => Err(error),
+            },
+            None => Ok(None),
         }
     }
 
@@ -99,15 +133,15 @@ impl Members {
         ensures err_form { OnErr result (form_of self.new ≡ form_of self.old) }
         ensures err_removed { OnErr result (form_of self.old ≡ Form.Hashtable → IsChanged (B.blocks store.old) (B.blocks store.new) self.old self.new (remove (members (B.blocks store.old) self.old) member.now)) }
     {
-        if !self.has(store, member) {
-            return Ok(false);
-        }
         if let Body::Table(table) = &mut self.body {
-            unhash_member(store, table, member)?;
-            return Ok(true);
+            return unhash_member(store, table, member);
         }
-        let body = self.place_without(store, member)?;
-        mem::replace(&mut self.body, body).release(store);
-        Ok(true)
+        match self.place_without(store, member)? {
+            Some(body) => {
+                mem::replace(&mut self.body, body).release(store);
+                Ok(true)
+            }
+            None => Ok(false),
+        }
     }
 }

@@ -2,14 +2,19 @@
 // plain list under the same edits.
 
 ghost use Rattle.std.specs.Prelude.{◌≤◌};
+ghost use Rattle.blocks.specs.Plain.{plain_blocks};
 ghost use Rattle.object_codec.specs.Limits.{AreInRange};
+ghost use Rattle.set_object.specs.Members.{IsMembers};
 
-use crate::{Members, Memory};
+use crate::{Members, Memory, Moved, members_laws};
 use blocks::PlainStore;
 use itoa::Buffer;
+use listpack::Element;
 use object_codec::{Form, Limits};
+use scan_cursor::page;
 use std::alloc::Global;
 use std::marker::Model;
+use std::mem;
 use std::test::Fail;
 
 // A set in its store.
@@ -46,6 +51,28 @@ fn limits(set_intset: u32, set_entries: u32, set_value: u32) -> Limits
         zset_value: 64,
         set_intset,
     }
+}
+
+// How many members of a set a walk meets, each of which it has.
+fn walked(set: &Members, store: &PlainStore) -> usize
+    requires { IsMembers (plain_blocks store.now) set.now }
+{
+    let mut count: usize = 0;
+    let mut next = set.first(store);
+    for _ in 0..=set.len() {
+        match next {
+            Some(cursor) => {
+                let is_there = match set.element(store, cursor) {
+                    Element::Text(text) => set.has(store, text),
+                    Element::Number(n) => set.has(store, Buffer::new().format(n).as_bytes()),
+                };
+                count = count.saturating_add(usize::from(is_there));
+                next = set.next(store, cursor);
+            }
+            None => return count,
+        }
+    }
+    count
 }
 
 impl Held {
@@ -95,6 +122,38 @@ impl Held {
         set.release(&mut store);
     }
 
+    fn relocate(&mut self, from: u128) -> Moved {
+        self.set.relocate_part(&mut self.store, from, 32)
+    }
+
+    // Puts a copy in the place of the set, which is given back.
+    fn copied(&mut self) -> Result<(), Memory> {
+        let copy = self.set.copy(&mut self.store)?;
+        mem::replace(&mut self.set, copy).release(&mut self.store);
+        Ok(())
+    }
+
+    // How many members a walk meets.
+    fn walked(&self) -> usize {
+        walked(&self.set, &self.store)
+    }
+
+    // Whether a member has this item number and this text.
+    fn is_at(&self, item: usize, text: &[u8]) -> bool {
+        if !self.set.is_entry(item) {
+            return false;
+        }
+        match self.set.at(&self.store, item) {
+            Element::Text(part) => part == text,
+            Element::Number(n) => Buffer::new().format(n).as_bytes() == text,
+        }
+    }
+
+    // What is passed where nothing wants to move.
+    fn passed(&self, from: u128) -> Option<Moved> {
+        self.set.passed(&self.store, from, 32)
+    }
+
     fn add_numbers(&mut self, from: u32, to: u32) -> Result<(), Memory> {
         for n in from..to {
             self.add(Buffer::new().format(n).as_bytes())?;
@@ -111,6 +170,28 @@ impl Held {
         }
         count
     }
+}
+
+// Whether so many members, numbers behind a prefix, have one form, and with one more another.
+fn rises_behind(
+    alloc: Global,
+    limits: Limits,
+    prefix: &str,
+    count: u32,
+    forms: [Form; 2],
+) -> Result<bool, Memory>
+    requires limits { AreInRange limits }
+    requires few { count ≤ 4096 }
+{
+    let mut held = Held::new(alloc, limits);
+    for n in 0..=count {
+        let member = format!(in alloc; "{prefix}{n}")?;
+        held.add(member.as_bytes())?;
+        if n + 1 == count && held.set.form() != forms[0] {
+            return Ok(false);
+        }
+    }
+    Ok(held.set.form() == forms[1] && held.set.len() == count as usize + 1)
 }
 
 #[test]
@@ -152,6 +233,20 @@ fn forms_rise(rt: HostRuntime) -> Result<(), Fail> {
     Ok(())
 }
 
+// Numbers of members at each limit and one past it, by the limits at their default, at 0 and at 4,096.
+#[test]
+fn forms_rise_at_each_count(rt: HostRuntime) -> Result<(), Fail> {
+    let alloc = rt.alloc();
+    let (ints, packs, tables) = (Form::Intset, Form::Listpack, Form::Hashtable);
+    assert!(rt; rises_behind(alloc, limits(512, 128, 64), "", 512, [ints, tables])?);
+    assert!(rt; rises_behind(alloc, limits(0, 128, 64), "", 0, [ints, packs])?);
+    assert!(rt; rises_behind(alloc, limits(4096, 128, 64), "", 4096, [ints, tables])?);
+    assert!(rt; rises_behind(alloc, limits(512, 128, 64), "x", 128, [packs, tables])?);
+    assert!(rt; rises_behind(alloc, limits(512, 0, 64), "x", 0, [ints, tables])?);
+    assert!(rt; rises_behind(alloc, limits(512, 4096, 64), "x", 4096, [packs, tables])?);
+    Ok(())
+}
+
 // Members that come and are taken out (SREM), in each form.
 #[test]
 fn members_are_taken_out(rt: HostRuntime) -> Result<(), Fail> {
@@ -174,6 +269,188 @@ fn members_are_taken_out(rt: HostRuntime) -> Result<(), Fail> {
         assert!(rt; held.leave(rows)?);
         assert_eq!(rt; held.set.len(), 0);
         held.release();
+    }
+    Ok(())
+}
+
+// Which members a set has, beside the set. Each has a number below 64, whose text it is where that is even, and else so many bytes.
+#[derive(Drop)]
+struct Twin {
+    held: Held,
+    has: [bool; 64],
+}
+
+fn member_of<'a>(n: usize, buffer: &'a mut Buffer, filler: &'a [u8; 64]) -> &'a [u8] {
+    if n % 2 == 0 {
+        buffer.format(n).as_bytes()
+    } else {
+        &filler[..n % 64]
+    }
+}
+
+impl Twin {
+    fn new(alloc: Global, limits: Limits) -> Twin
+        requires { AreInRange limits }
+    {
+        Twin {
+            held: Held::new(alloc, limits),
+            has: [false; 64],
+        }
+    }
+
+    // Puts a member in or takes it out, and tells whether the answer is right. A call that finds no memory leaves all as it was, but
+    // a dictionary without the member that was to go.
+    fn edit(&mut self, number: usize, filler: &[u8; 64], adds: bool) -> bool {
+        let n = number % 64;
+        let mut buffer = Buffer::new();
+        let member = member_of(n, &mut buffer, filler);
+        let form = self.held.set.form();
+        let answer = if adds {
+            self.held.add(member)
+        } else {
+            self.held.remove(member)
+        };
+        match answer {
+            Ok(changed) => {
+                let wanted = self.has[n] != adds;
+                self.has[n] = adds;
+                changed == wanted
+            }
+            Err(_) => {
+                if !adds && form == Form::Hashtable {
+                    self.has[n] = false;
+                }
+                true
+            }
+        }
+    }
+
+    fn agrees(&self, filler: &[u8; 64]) -> bool {
+        let mut count: usize = 0;
+        for n in 0..64usize {
+            let mut buffer = Buffer::new();
+            if self.held.has(member_of(n, &mut buffer, filler)) != self.has[n] {
+                return false;
+            }
+            if self.has[n] {
+                count = count.saturating_add(1);
+            }
+        }
+        self.held.set.len() == count && self.held.walked() == count
+    }
+}
+
+// Whether a set agrees with a plain one under seeded edits, with members whose number is within a mask.
+fn agrees_under_edits(alloc: Global, limits: Limits, mask: usize) -> bool
+    requires { AreInRange limits }
+{
+    let filler = [b'x'; 64];
+    let mut twin = Twin::new(alloc, limits);
+    let mut seed: u32 = 7;
+    for round in 0..300 {
+        seed = seed.wrapping_mul(1664525).wrapping_add(1013904223);
+        let n = (seed >> 16) as usize & mask;
+        if !twin.edit(n, &filler, seed >> 13 & 3 != 0) {
+            return false;
+        }
+        if round % 30 == 29 && !twin.agrees(&filler) {
+            return false;
+        }
+    }
+    true
+}
+
+// Sets of numbers alone, and of numbers and texts, by limits at which they change their form soon and late.
+#[test]
+fn edits_agree_with_a_plain_set(rt: HostRuntime) {
+    let alloc = rt.alloc();
+    assert!(rt; agrees_under_edits(alloc, limits(64, 0, 0), 0x3e));
+    assert!(rt; agrees_under_edits(alloc, limits(8, 20, 64), 0x3e));
+    assert!(rt; agrees_under_edits(alloc, limits(8, 64, 64), 0x3f));
+    assert!(rt; agrees_under_edits(alloc, limits(8, 20, 40), 0x3f));
+}
+
+// A set by an index of a packed form and by item numbers of a dictionary; its pages; its marks.
+#[test]
+fn members_have_item_numbers(rt: HostRuntime) -> Result<(), Fail> {
+    members_laws();
+    let mut held = Held::new(rt.alloc(), limits(3, 4, 64));
+    for member in [b"30", b"-1", b"7 ", b"x "] {
+        held.add(member.as_slice())?;
+        let all = page(rt.alloc(), &held.set, 5, 1)?;
+        assert_eq!(rt; all.next, 0);
+        assert_eq!(rt; all.items.len(), held.set.len());
+        assert_eq!(rt; held.set.top(), held.set.len());
+        assert_eq!(rt; held.walked(), held.set.len());
+    }
+    held.add(b"y ")?;
+    assert_eq!(rt; held.set.form(), Form::Hashtable);
+    assert_eq!(rt; page(rt.alloc(), &held.set, 0, 5)?.items.len(), 5);
+    assert!(rt; held.remove(b"x ")?);
+    assert_eq!(rt; held.set.top(), 5);
+    assert!(rt; !held.set.is_entry(3) && held.is_at(4, b"y "));
+    assert!(rt; held.is_at(0, b"-1") && held.is_at(1, b"30") && held.is_at(2, b"7 "));
+    Ok(())
+}
+
+// Marks of the block of a packed set and of those of members, passed at most 32 at a time, vacant item numbers among them.
+#[test]
+fn blocks_are_passed_by_marks(rt: HostRuntime) -> Result<(), Fail> {
+    let mut packed = Held::new(rt.alloc(), limits(512, 128, 64));
+    assert_eq!(rt;
+        packed.relocate(0),
+        Moved {
+            next: None,
+            used: 0
+        }
+    );
+    packed.add(b"1")?;
+    assert_eq!(rt;
+        packed.relocate(0),
+        Moved {
+            next: None,
+            used: 1
+        }
+    );
+    assert_eq!(rt;
+        packed.relocate(1),
+        Moved {
+            next: None,
+            used: 0
+        }
+    );
+    let mut hashed = Held::new(rt.alloc(), limits(0, 0, 0));
+    hashed.add_numbers(0, 40)?;
+    assert!(rt; hashed.remove(b"3")?);
+    let rows = [
+        (0, Some(32), 32),
+        (1, Some(33), 32),
+        (32, None, 8),
+        (40, None, 0),
+    ];
+    for (from, next, used) in rows {
+        assert_eq!(rt; hashed.relocate(from), Moved { next, used });
+        assert_eq!(rt; hashed.passed(from), Some(Moved { next, used }));
+    }
+    assert_eq!(rt; hashed.walked(), 39);
+    Ok(())
+}
+
+// A copy has the members of its set and its form, over blocks of its own.
+#[test]
+fn copies_stand_alone(rt: HostRuntime) -> Result<(), Fail> {
+    for (count, form) in [
+        (0, Form::Intset),
+        (3, Form::Intset),
+        (5, Form::Listpack),
+        (9, Form::Hashtable),
+    ] {
+        let mut held = Held::new(rt.alloc(), limits(3, 6, 64));
+        held.add_numbers(0, count)?;
+        held.copied()?;
+        assert_eq!(rt; held.set.form(), form);
+        assert_eq!(rt; held.count_numbers(0, 20), count as usize);
+        assert_eq!(rt; held.walked(), count as usize);
     }
     Ok(())
 }

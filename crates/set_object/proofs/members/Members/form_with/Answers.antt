@@ -1,5 +1,8 @@
-use Rattle.std.proofs.Common.{◌≡◌, ℕ, List, Option, [], unwrap_or, length, max, sym, ap, ◌∙◌}
-use Rattle.set_object.specs.Strings.{longest}
+use Rattle.std.proofs.Common.{◌≡◌, ℕ, List, Option, [], unwrap_or, sym, ap, subst}
+use Rattle.std.specs.FinMap.{insert}
+use Rattle.blocks.specs.Blocks.{bytes_at}
+use Rattle.object_codec.specs.declared.form.Form.TheVariants.{Intset}
+use Rattle.set_object.specs.Strings.{set_of, IsRisen}
 use Rattle.set_object.specs.Members.{number_texts}
 use Rattle.set_object.proofs.Placing.{empty_risen, numbers_risen, pack_risen}
 use Rattle.set_object.proofs.members.Members.form_with.Goals as goal
@@ -14,10 +17,9 @@ returns-in-Numbers g c =
     let m = g.B.BlockStore.blocks c.args.store.now in
     let self = c.args.self.now in
     let x = c.args.member.now in
-    let long : c.longest_number.result ≡ longest (number_texts (unwrap_or (m c.in-Numbers.packed.at) [])) =
-    c.longest_number.ensures ∙ ap (λ (o : Option (List ℕ)). longest (number_texts (unwrap_or o []))) (sym c.bytes.ensures) in
-    numbers_risen m self.limits self.seed self.body x c.requires.absent c.set_form-in-Numbers.result c.in-Numbers.packed c.is_number-in-Numbers.result c.max-most.result c.in-Numbers.is c.requires.sound.body c.is_number-in-Numbers.ensures
-    (c.max-most.ensures ∙ ap (λ (a : ℕ). max a (length x)) long) c.set_form-in-Numbers.ensures
+    let same : bytes_at m c.in-Numbers.packed.at ≡ c.bytes.result.now = ap (λ (o : Option (List ℕ)). unwrap_or o []) c.bytes.ensures in
+    numbers_risen m self.limits self.seed self.body x c.requires.absent c.form_of_numbers.result c.in-Numbers.packed c.in-Numbers.is
+    (subst (λ (bs : List ℕ). IsRisen self.limits Intset (insert (set_of (number_texts bs)) x tt) c.form_of_numbers.result) (sym same) c.form_of_numbers.ensures)
 
 pub returns-in-Pack : goal.returns-in-Pack
 returns-in-Pack g c =

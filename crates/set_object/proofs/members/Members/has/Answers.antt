@@ -13,6 +13,6 @@ pub returns-in-Pack : goal.returns-in-Pack
 returns-in-Pack g c =
     let m = g.B.BlockStore.blocks c.args.store.now in
     let q = c.args.member.now in
-    c.is_some.ensures ∙ found_has c.find_text.result (texts c.bytes-in-Pack.result.now) q c.find_text.ensures.found c.find_text.ensures.none
+    c.is_some-in-Pack.ensures ∙ found_has c.find_text.result (texts c.bytes-in-Pack.result.now) q c.find_text.ensures.found c.find_text.ensures.none
     ∙ ap (λ (o : Option (List ℕ)). has (set_of (texts (unwrap_or o []))) q) (sym c.bytes-in-Pack.ensures)
     ∙ ap (λ (b : Body). has (members_of m b) q) (sym c.in-Pack.is)

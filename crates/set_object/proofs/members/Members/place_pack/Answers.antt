@@ -1,6 +1,6 @@
 use Rattle.std.proofs.Common.{◌+◌, Some, ap, ◌∙◌, arith}
 use Rattle.blocks.specs.Blocks.{no_step, with_block}
-use Rattle.set_object.specs.Members.{form_of, members, packed_list}
+use Rattle.set_object.specs.Members.{form_of, members, listed_of}
 use Rattle.set_object.proofs.Sets.{len_put}
 use Rattle.set_object.proofs.Packing.{pack_pushed}
 use Rattle.set_object.proofs.Placing.{pack_placed, pack_room, listpack_packed}
@@ -32,6 +32,6 @@ returns-clause-placed g c =
     let n = g.B.BlockStore.blocks c.put_block.new.store in
     let self = c.args.self.now in
     let k = c.len-len.ensures m c.requires.sound in
-    let pushed = pack_pushed (packed_list m self.body) c.in_ok-bytes.bytes.items c.append.new.pack.items c.args.member.now _ c.in_ok-bytes.ensures c.in_ok-append.ensures.entries c.in_ok-append.ensures.list in
+    let pushed = pack_pushed (listed_of m self.body) c.in_ok-bytes.bytes.items c.append.new.pack.items c.args.member.now _ c.in_ok-bytes.ensures c.in_ok-append.ensures.entries c.in_ok-append.ensures.list in
     pack_placed m n self c.args.member.now c.requires.sound (listpack_packed self.limits (form_of self) _ c.requires.risen) c.requires.absent c.requires.risen c.in_ok-at.at (c.len-len.result + 1) c.append.new.pack.items
     (c.in_ok-at.ensures.placed ∙ ap (λ bytes. with_block m c.in_ok-at.at (Some bytes)) c.deref.ensures.value) c.in_ok-at.ensures.changes (omega (arith, k)) pushed

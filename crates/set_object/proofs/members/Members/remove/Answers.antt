@@ -1,37 +1,34 @@
-use Rattle.std.proofs.Common.{◌≡◌, ◌≢◌, Bool, true, false, [], sym, ap, ◌∙◌, subst}
+use Rattle.std.proofs.Common.{◌≡◌, is_some, [], sym, ap, ◌∙◌, subst, refl}
 use Rattle.std.specs.FinMap.{remove, len}
-use Rattle.blocks.specs.Blocks.{no_step, Changes}
+use Rattle.blocks.specs.Blocks.{Changes}
 use Rattle.blocks.proofs.Serve.{Served-then}
 use Rattle.rehash_dict.specs.Keyed.{hash_of}
 use Rattle.rehash_dict.specs.Grown.{Grown}
 use Rattle.rehash_dict.specs.Tables.{IsSettled}
-use Rattle.set_object.specs.Strings.{has}
 use Rattle.set_object.specs.declared.members.Body.{Body}
-use Rattle.set_object.specs.Members.{IsChanged, members, refs_of, form_of, form_of_body, form_left, tables_of, no_tables}
+use Rattle.set_object.specs.Members.{IsChanged, members, refs_of, form_of, form_of_body, form_left, tables_of}
 use Rattle.set_object.proofs.Bodies.{body_changed, packed_tables}
 use Rattle.set_object.proofs.Taking.{placed_settled, packed_form}
 use Rattle.set_object.proofs.members.Members.remove.Goals as goal
 
-pub returns-then-not-has-clause-served : goal.returns-then-not-has-clause-served
-returns-then-not-has-clause-served g c = no_step
-
-pub returns : goal.returns
-returns g c =
+pub returns-in-Some : goal.returns-in-Some
+returns-in-Some g c =
     let m = g.B.BlockStore.blocks c.args.store.now in
     let mid = g.B.BlockStore.blocks c.place_without.new.store in
     let n = g.B.BlockStore.blocks c.release.new.store in
     let self = c.args.self.now in
     let set = remove (members m self) c.args.member.now in
-    let p = c.in_ok-body.ensures.placed in
+    let p = rw c.in-Some.is at c.in_ok-body.ensures.placed in
+    let form = rw c.in-Some.is at c.in_ok-body.ensures.form in
     let released : Changes mid n (refs_of self.body) [] = subst (λ (b : Body). Changes mid n (refs_of b) []) c.replace.ensures.value c.release.ensures.changes in
-    let grown = subst (λ t. Grown (hash_of self.seed) t (tables_of mid c.in_ok-body.body)) (sym (packed_tables m self.body c.in_default.not-Table)) p.grown in
+    let grown = subst (λ t. Grown (hash_of self.seed) t (tables_of mid c.in-Some.body)) (sym (packed_tables m self.body c.in_default.not-Table)) p.grown in
     record {
-      there = c.if-not-has.ensures;
+      there = sym (ap is_some c.in-Some.is) ∙ c.in_ok-body.ensures.there;
       removed = λ _. subst (λ (b : Body). IsChanged m n self (record self { body = b }) set) (sym c.replace.ensures.after)
-          (body_changed m mid n self c.in_ok-body.body set c.requires p.sound p.changes released p.members_are grown);
-      form = λ _. subst (λ (b : Body). form_of_body b ≡ form_left (form_of self) (len set)) (sym c.replace.ensures.after) c.in_ok-body.ensures.form;
+          (body_changed m mid n self c.in-Some.body set c.requires p.sound p.changes released p.members_are grown);
+      form = λ _. subst (λ (b : Body). form_of_body b ≡ form_left (form_of self) (len set)) (sym c.replace.ensures.after) form;
       settled = λ _. subst (λ (b : Body). IsSettled (tables_of n b)) (sym c.replace.ensures.after)
-          (placed_settled n (form_of self) (len set) c.in_ok-body.body (packed_form self.body c.in_default.not-Table) c.in_ok-body.ensures.form);
+          (placed_settled n (form_of self) (len set) c.in-Some.body (packed_form self.body c.in_default.not-Table) form);
       served = Served-then _ _ _ c.place_without.ensures.served c.release.ensures.served;
       same_set = λ h. absurd cc;
       same_blocks = λ h. absurd cc;
@@ -40,3 +37,18 @@ returns g c =
       err_form = tt;
       err_removed = tt;
     }
+
+pub returns-in-None : goal.returns-in-None
+returns-in-None g c = record {
+  there = sym (ap is_some c.in-None.is) ∙ c.in_ok-body.ensures.there;
+  removed = λ h. absurd cc;
+  form = λ h. absurd cc;
+  settled = λ h. absurd cc;
+  served = c.place_without.ensures.served;
+  same_set = λ h. refl;
+  same_blocks = λ h. rw c.in-None.is at c.in_ok-body.ensures.none_blocks;
+  err_set = tt;
+  err_blocks = tt;
+  err_form = tt;
+  err_removed = tt;
+}

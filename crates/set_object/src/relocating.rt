@@ -1,0 +1,192 @@
+// Sets whose blocks move.
+
+ghost use Rattle.std.specs.Prelude.{◌≡◌, ◌≢◌, ℕ, ◌+◌, ◌-◌, ◌^◌, ◌<◌, ◌≤◌, ◌⊎◌, [], ◌∷◌, min, nat_lt, ◌&&◌, IfSome, IfNone, IsSome, Some, None, true, false, MatchBool, if◌then◌else◌};
+ghost use Rattle.blocks.specs.Blocks.{Changes};
+ghost use Rattle.blocks.specs.Slabs.{wants, Calmer};
+ghost use Rattle.rehash_dict.specs.Keyed.{Keyed};
+ghost use Rattle.set_object.specs.Members.{IsMembers, refs};
+ghost use Rattle.set_object.specs.Relocation.{IsRelocated, PassesPart, ArePassed, IsSettled, IsCalm, WantsMove, ItemWaits, is_within, marks, marks_end};
+
+use crate::Members;
+use crate::members::{Body, Packed};
+use blocks::{BlockStore, Moved, settle};
+use rehash_dict::Dict;
+
+// The marks from `start` to below `end`.
+#[derive(Clone, Copy)]
+struct Part {
+    start: usize,
+    end: usize,
+}
+
+// The part that a call goes through from a mark on, of marks below a number.
+fn part_from(count: usize, from: u128, room: u32) -> Part
+    ensures start { result.start ≡ min from count }
+    ensures end { result.end ≡ min count (result.start + room) }
+{
+    if from >= count as u128 {
+        return Part {
+            start: count,
+            end: count,
+        };
+    }
+    let start = from as usize;
+    let end = count.min(start.saturating_add(room as usize));
+    Part { start, end }
+}
+
+// What a call answers that went through a part, of marks below a number.
+fn answer_for(part: Part, count: usize) -> Moved
+    requires order { part.start ≤ part.end }
+    requires room { part.end < part.start + 2 ^ 32 }
+    ensures next { result.next ≡ (if nat_lt part.end count then Some part.end else None) }
+    ensures used { result.used ≡ part.end - part.start }
+{
+    let used = (part.end - part.start) as u32;
+    if part.end < count {
+        Moved {
+            next: Some(part.end as u128),
+            used,
+        }
+    } else {
+        Moved { next: None, used }
+    }
+}
+
+// Moves the block of a packed form where it wants that and its mark is in the part.
+fn settle_packed<B: BlockStore>(store: &mut B, packed: &mut Packed, part: Part)
+    requires { IsSome (B.blocks store.old packed.old.at) }
+    ensures bytes { B.blocks store.new packed.new.at ≡ B.blocks store.old packed.old.at }
+    ensures len { packed.new.len ≡ packed.old.len }
+    ensures changes { Changes (B.blocks store.old) (B.blocks store.new) (packed.old.at ∷ []) (packed.new.at ∷ []) }
+    ensures calm { is_within part.start part.end 0 ≡ true → wants (B.heap store.new) packed.new.at ≡ false }
+    ensures stays { is_within part.start part.end 0 ≡ false → packed.new.at ≡ packed.old.at }
+    ensures calmer { Calmer (B.heap store.old) (B.heap store.new) }
+{
+    if part.start == 0 && part.end > 0 {
+        packed.at = settle(store, packed.at);
+    }
+}
+
+// Moves the block of the member of an item number where it wants that.
+fn settle_item<B: BlockStore>(store: &mut B, table: &mut Dict<()>, at: usize)
+    requires { Keyed (B.blocks store.old) table.old }
+    ensures settled { IsSettled (B.blocks store.old) (B.blocks store.new) table.old table.new (λ i. i ≢ at) }
+    ensures calm { IsCalm (B.heap store.new) table.new at (at + 1) }
+    ensures calmer { Calmer (B.heap store.old) (B.heap store.new) }
+{
+    if table.is_entry(at) {
+        let new = settle(store, table.entry(at).0);
+        table.swap_ref(at, new);
+    }
+}
+
+// Moves the blocks of the members whose item numbers are in a part that want it.
+fn settle_items<B: BlockStore>(store: &mut B, table: &mut Dict<()>, part: Part)
+    requires keyed { Keyed (B.blocks store.old) table.old }
+    requires order { part.start ≤ part.end }
+    ensures settled { IsSettled (B.blocks store.old) (B.blocks store.new) table.old table.new (λ i. (i < part.start) ⊎ (part.end ≤ i)) }
+    ensures calm { IsCalm (B.heap store.new) table.new part.start part.end }
+    ensures calmer { Calmer (B.heap store.old) (B.heap store.new) }
+{
+    for at in part.start..part.end {
+        settle_item(store, table, at);
+    }
+}
+
+// Whether a member whose item number is in a part has a block that wants to move.
+fn item_waits<B: BlockStore>(store: &B, table: &Dict<()>, part: Part) -> bool
+    requires { Keyed (B.blocks store.now) table.now }
+    ensures { MatchBool result (ItemWaits (B.heap store.now) table.now part.start part.end) (IsCalm (B.heap store.now) table.now part.start part.end) }
+{
+    for at in part.start..part.end {
+        if table.is_entry(at) && store.wants_move(table.entry(at).0) {
+            return true;
+        }
+    }
+    false
+}
+
+// Whether the block of a packed form wants to move and its mark is in the part.
+fn packed_waits<B: BlockStore>(store: &B, packed: Packed, part: Part) -> bool
+    requires { IsSome (B.blocks store.now packed.at) }
+    ensures { result ≡ (is_within part.start part.end 0 && wants (B.heap store.now) packed.at) }
+{
+    part.start == 0 && part.end > 0 && store.wants_move(packed.at)
+}
+
+impl Members {
+    // A number above each mark.
+    fn count_marks(&self) -> usize
+        ensures { result ≡ marks_end self.now }
+    {
+        match &self.body {
+            Body::Empty => 0,
+            Body::Numbers(_) => 1,
+            Body::Pack(_) => 1,
+            Body::Table(table) => table.top(),
+        }
+    }
+
+    // Moves the blocks whose marks are in a part that want it.
+    fn settle_part<B: BlockStore>(&mut self, store: &mut B, part: Part)
+        requires sound { IsMembers (B.blocks store.old) self.old }
+        requires order { part.start ≤ part.end }
+        ensures relocated { IsRelocated (B.blocks store.old) (B.blocks store.new) self.old self.new }
+        ensures marks { marks self.new ≡ marks self.old }
+        ensures count { marks_end self.new ≡ marks_end self.old }
+        ensures passed { ArePassed (B.heap store.new) (is_within part.start part.end) (marks self.new) (refs self.old) (refs self.new) }
+        ensures calmer { Calmer (B.heap store.old) (B.heap store.new) }
+    {
+        match &mut self.body {
+            Body::Empty => {}
+            Body::Numbers(packed) => settle_packed(store, packed, part),
+            Body::Pack(packed) => settle_packed(store, packed, part),
+            Body::Table(table) => settle_items(store, table, part),
+        }
+    }
+
+    // Whether a block whose mark is in a part wants to move.
+    fn part_waits<B: BlockStore>(&self, store: &B, part: Part) -> bool
+        requires sound { IsMembers (B.blocks store.now) self.now }
+        ensures { MatchBool result (WantsMove (B.heap store.now) self.now part.start part.end) (ArePassed (B.heap store.now) (is_within part.start part.end) (marks self.now) (refs self.now) (refs self.now)) }
+    {
+        match &self.body {
+            Body::Empty => false,
+            Body::Numbers(packed) => packed_waits(store, *packed, part),
+            Body::Pack(packed) => packed_waits(store, *packed, part),
+            Body::Table(table) => item_waits(store, table, part),
+        }
+    }
+
+    /// Goes through the blocks from the mark `from` on, at most `room` of them and of vacant item numbers, and moves each that wants
+    /// it. The mark of a packed form's block is 0, and that of a member's block its item number. It takes no memory.
+    pub fn relocate_part<B: BlockStore>(&mut self, store: &mut B, from: u128, room: u32) -> Moved
+        requires sound { IsMembers (B.blocks store.old) self.old }
+        requires room { 32 ≤ room }
+        ensures relocated { IsRelocated (B.blocks store.old) (B.blocks store.new) self.old self.new }
+        ensures passed { PassesPart (B.heap store.new) self.old self.new from room result }
+        ensures calmer { Calmer (B.heap store.old) (B.heap store.new) }
+    {
+        let count = self.count_marks();
+        let part = part_from(count, from, room);
+        self.settle_part(store, part);
+        answer_for(part, count)
+    }
+
+    /// What `relocate_part` answers where no block that it would pass wants to move, so that nothing moves. `None` comes exactly
+    /// where one wants to.
+    pub fn passed<B: BlockStore>(&self, store: &B, from: u128, room: u32) -> Option<Moved>
+        requires sound { IsMembers (B.blocks store.now) self.now }
+        requires room { 32 ≤ room }
+        ensures some { IfSome result (λ moved. PassesPart (B.heap store.now) self.now self.now from room moved) }
+        ensures none { IfNone result (WantsMove (B.heap store.now) self.now from (from + room)) }
+    {
+        let count = self.count_marks();
+        let part = part_from(count, from, room);
+        if self.part_waits(store, part) {
+            return None;
+        }
+        Some(answer_for(part, count))
+    }
+}
