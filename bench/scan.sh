@@ -41,7 +41,7 @@ compare() {
   both=$(least run_program "$room/prepared" "$room/ours")
   other=$(run_server)
   awk -v a="$alone" -v b="$both" -v o="$other" -v name="$(basename "$server")" -v what="$1" \
-    'BEGIN { printf "%s: redis-core %.3f s, %s %.3f s, ratio %.2f\n", what, b - a, name, o, o / (b - a) }'
+    'BEGIN { printf "%s: redis-core %.3f s, %s %.3f s: %.2f times as fast\n", what, b - a, name, o, o / (b - a) }'
 }
 
 start_server
