@@ -96,11 +96,7 @@ impl Walk {
     }
 
     // Passes a part of the blocks of the key at the walk's place, of which some may move. The answer is how many units that took.
-    fn pass_part<V: Held, B: BlockStore>(
-        &mut self,
-        keyspace: &mut Keyspace<V, B>,
-        left: u32,
-    ) -> u32
+    fn pass_part<V: Held, B: BlockStore>(&mut self, keyspace: &mut Keyspace<V, B>, left: u32) -> u32
         requires database { self.old.database < 16 }
         requires element { IsSome (item (table_at keyspace.old.bases self.old.database) self.old.item) }
         requires next { self.old.item + 1 < 2 ^ 64 }
