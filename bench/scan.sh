@@ -57,6 +57,8 @@ for pattern in '' 'key:*7'; do
   done
 done
 for pattern in '*' 'key:*7'; do
-  printf '*2\r\n$4\r\nKEYS\r\n$%d\r\n%s\r\n' "${#pattern}" "$pattern" | tee "$room/ours" > "$room/theirs"
-  compare "KEYS $pattern"
+  for _ in 1 2 3 4 5 6 7 8 9 10; do
+    printf '*2\r\n$4\r\nKEYS\r\n$%d\r\n%s\r\n' "${#pattern}" "$pattern"
+  done | tee "$room/ours" > "$room/theirs"
+  compare "KEYS $pattern, 10 times"
 done
