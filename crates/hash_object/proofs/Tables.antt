@@ -1,0 +1,233 @@
+-- A dictionary of field and value blocks: what it depends on, and what becomes of it where a field is put in, given another value, or
+-- taken out.
+use Rattle.std.proofs.Common.{◌≡◌, ◌≢◌, ℕ, zero, suc, ◌+◌, ◌<◌, ◌≤◌, List, [], ◌∷◌, Option, Some, None, IsSome, is_some, unwrap_or, flat_map, refl, sym, ap, ◌∙◌, subst, arith, inl, inr}
+use Rattle.std.specs.FinMap.{insert, remove, empty, get}
+use Rattle.std.proofs.lemmas.Bool.{cond-true}
+use Rattle.blocks.specs.declared.BlockRef.{BlockRef}
+use Rattle.blocks.specs.Blocks.{Blocks, times, live, with_block, bytes_at, IsIn, Changes, Owned}
+use Rattle.blocks.proofs.Refs.{ref_eq-refl, with_block-same, with_block-other}
+use Rattle.blocks.proofs.Times.{times-append}
+use Rattle.blocks.proofs.Change.{one, other_than, live-is, live-once, Changes-beside, Changes-counted, Changes-owned, Changes-then, Changes-same, Counts-ended, Owned-others}
+use Rattle.rehash_dict.specs.Table.{Element, Table, at_item, item}
+use Rattle.rehash_dict.specs.Keyed.{Keyed, Lacks, Stands, hash_of, key_of, key_tables}
+use Rattle.rehash_dict.specs.Steps.{Adds, Swaps, Removes}
+use Rattle.rehash_dict.specs.Grown.{Grown}
+use Rattle.rehash_dict.specs.MapOf.{own_of}
+use Rattle.rehash_dict.proofs.Fresh.{stands_bytes}
+use Rattle.rehash_dict.proofs.Keys.{Keyed-frame}
+use Rattle.rehash_dict.proofs.MapOf.{cases_key, map_of-stands, map_of-lacks, map_of-frame, map_of-items, map_of-empty, map_of-adds, map_of-swaps, map_of-removes, map_of-had, refs_changed}
+use Rattle.rehash_dict.proofs.Growing.{Grown-then, Grown-same}
+use Rattle.hash_object.specs.Maps.{FieldMap}
+use Rattle.hash_object.specs.Hashed.{FieldTable, fields_in, blocks_of, no_fields, IsHashed}
+
+-- the block that a value is
+abbrev pub value_block : BlockRef → List BlockRef
+value_block at = at ∷ []
+
+pub self : (r : BlockRef) → one r r ≡ 1
+self r = cond-true _ _ _ (ref_eq-refl r)
+
+-- both blocks of an element are among those of its table
+pub entry_within : (t : FieldTable) (at : ℕ) (e : Element BlockRef) → item t at ≡ Some e → (r : BlockRef) → times r (e.key ∷ e.value ∷ []) ≤ times r (blocks_of t)
+entry_within t at e found r = in_list t.items at found
+  where
+    in_list : (items : List (Option (Element BlockRef))) (at : ℕ) → at_item items at ≡ Some e → times r (e.key ∷ e.value ∷ []) ≤ times r (flat_map (own_of value_block) items)
+    in_list [] at found = cc
+    in_list (x ∷ items) zero found = (let here : times r (own_of value_block x) ≡ times r (e.key ∷ e.value ∷ []) = ap (λ o. times r (own_of value_block o)) found in omega (arith, here, times-append r (own_of value_block x) (flat_map (own_of value_block) items)))
+    in_list (x ∷ items) (suc at) found = omega (arith, in_list items at found, times-append r (own_of value_block x) (flat_map (own_of value_block) items))
+
+pub has_key : (t : FieldTable) (at : ℕ) (e : Element BlockRef) → item t at ≡ Some e → IsIn e.key (blocks_of t)
+has_key t at e found = omega (arith, entry_within t at e found e.key, self e.key)
+
+pub has_value : (t : FieldTable) (at : ℕ) (e : Element BlockRef) → item t at ≡ Some e → IsIn e.value (blocks_of t)
+has_value t at e found = omega (arith, entry_within t at e found e.value, self e.value)
+
+-- ---- blocks that keep their bytes
+
+module _ (m n : Blocks) (t : FieldTable) (k : Keyed m t) (same : (r : BlockRef) → IsIn r (blocks_of t) → n r ≡ m r) where
+  key_same : (at : ℕ) (e : Element BlockRef) → item t at ≡ Some e → n e.key ≡ m e.key
+  key_same at e found = same e.key (has_key t at e found)
+
+  pub table_kept : Keyed n t × (key_tables n t ≡ key_tables m t)
+  table_kept = Keyed-frame m n t k key_same
+
+  pub fields_kept : fields_in n t ≡ fields_in m t
+  fields_kept = map_of-frame m n (λ at. bytes_at m at) (λ at. bytes_at n at) t k table_kept.0 (λ at e found. (key_same at e found, ap (λ o. unwrap_or o []) (same e.value (has_value t at e found))))
+
+  pub lacks_kept : (q : List ℕ) → Lacks m t q → Lacks n t q
+  lacks_kept q l = record { each = λ at e found is. l.each at e found (sym (key_same at e found) ∙ is) }
+
+-- ---- what is found
+
+module _ (m : Blocks) (t : FieldTable) (k : Keyed m t) where
+  pub found_value : (at : ℕ) (q : List ℕ) (e : Element BlockRef) → Stands m t at q → item t at ≡ Some e → get (fields_in m t) q ≡ Some (bytes_at m e.value)
+  found_value at q e s found = map_of-stands m (λ v. bytes_at m v) t at e q k found (stands_bytes m t at q e s found)
+
+  pub fields_lacks : (q : List ℕ) → Lacks m t q → get (fields_in m t) q ≡ None
+  fields_lacks q l = map_of-lacks m (λ v. bytes_at m v) t q k l
+
+  -- what the map has nothing for no element has
+  pub lacks_field : (q : List ℕ) → get (fields_in m t) q ≡ None → Lacks m t q
+  lacks_field q none = elim (cases_key m t q k) [
+    | inl s ↦ absurd (never (get (fields_in m t) q) (bytes_at m s.element.value) (map_of-stands m (λ v. bytes_at m v) t s.at s.element q k s.found s.bytes) none)
+    | inr lacks ↦ lacks
+  ]
+    where
+      never : (o : Option (List ℕ)) (x : List ℕ) → o ≡ Some x → o ≡ None → ⊥
+      never o x h g = cc
+
+-- the value block of an element is live
+pub value_live : (m : Blocks) (t : FieldTable) (at : ℕ) (e : Element BlockRef) → Owned (blocks_of t) m → item t at ≡ Some e → IsSome (m e.value)
+value_live m t at e owned found = live-is m e.value (omega (arith, owned e.value, has_value t at e found))
+
+some_is : (o : Option (List ℕ)) (x : List ℕ) → o ≡ Some x → IsSome o
+some_is o x h = subst (λ p. IsSome p) (sym h) refl
+
+-- ---- the blocks of a field and its value were placed
+
+module _ (m n : Blocks) (old : FieldTable) (key at : BlockRef) (field value : List ℕ) (k : Keyed m old) (owned : Owned (blocks_of old) m) (p : Changes m n [] (key ∷ at ∷ [])) (key_is : n key ≡ Some field) (at_is : n at ≡ Some value) where
+  put_same : (r : BlockRef) → IsIn r (blocks_of old) → n r ≡ m r
+  put_same r isin = Owned-others m n [] (key ∷ at ∷ []) (blocks_of old) owned p r isin refl
+
+  pub put_keyed : Keyed n old
+  put_keyed = (table_kept m n old k put_same).0
+
+  pub put_lacks : Lacks m old field → Lacks n old (bytes_at n key)
+  put_lacks l = subst (Lacks n old) (sym (ap (λ o. unwrap_or o []) key_is)) (lacks_kept m n old k put_same field l)
+
+  pub put_hashed : (new : FieldTable) (i : ℕ) (e : Element BlockRef) → e.key ≡ key → e.value ≡ at → Adds old new i e → Keyed n new → Grown (hash_of old.seed) (key_tables n old) (key_tables n new)
+      → IsHashed m n old new (insert (fields_in m old) field value)
+  put_hashed new i e by_key by_value adds keyed grown = record {
+    keyed = keyed;
+    seed = adds.seed;
+    fields_are = map_of-adds n (λ v. bytes_at n v) old new put_keyed i e keyed (some_is (n e.key) field (ap n by_key ∙ key_is)) adds
+        ∙ ap (λ q. insert (fields_in n old) q (bytes_at n e.value)) (ap (λ o. unwrap_or o []) (ap n by_key ∙ key_is))
+        ∙ ap (insert (fields_in n old) field) (ap (λ o. unwrap_or o []) (ap n by_value ∙ at_is))
+        ∙ ap (λ map. insert map field value) (fields_kept m n old k put_same);
+    changes = Changes-beside m n [] (key ∷ at ∷ []) (blocks_of old) (blocks_of new) p owned (λ r. times r (blocks_of old)) (λ r. omega arith) more;
+    grown = subst (λ t. Grown (hash_of old.seed) t (key_tables n new)) (table_kept m n old k put_same).1 grown;
+  }
+    where
+      more : (r : BlockRef) → times r (blocks_of new) ≡ times r (key ∷ at ∷ []) + times r (blocks_of old)
+      more r =
+          let both = refs_changed value_block old new i (Some e) adds.updates r in
+          let none : times r (own_of value_block (item old i)) ≡ 0 = ap (λ o. times r (own_of value_block o)) adds.vacant in
+          let named : times r (e.key ∷ e.value ∷ []) ≡ times r (key ∷ at ∷ []) = ap (λ (q : BlockRef). times r (q ∷ e.value ∷ [])) by_key ∙ ap (λ (q : BlockRef). times r (key ∷ q ∷ [])) by_value in
+          omega (arith, both, none, named)
+
+-- ---- a value's block was placed, and the old one given back
+
+module _ (m a n : Blocks) (old new : FieldTable) (i : ℕ) (was at : BlockRef) (value : List ℕ) (k : Keyed m old) (owned : Owned (blocks_of old) m) (p : Changes m a [] (at ∷ [])) (placed : a ≡ with_block m at (Some value)) (s : Swaps old new i was at) where
+  swap_same : (r : BlockRef) → IsIn r (blocks_of old) → a r ≡ m r
+  swap_same r isin = Owned-others m a [] (at ∷ []) (blocks_of old) owned p r isin refl
+
+  pub swap_keyed : Keyed a old
+  swap_keyed = (table_kept m a old k swap_same).0
+
+  was_in : IsIn was (blocks_of old)
+  was_in = has_value old i (record { key = s.key; hash = s.hash; value = was }) s.found
+
+  pub was_live : IsSome (a was)
+  was_live = subst (λ o. IsSome o) (sym (swap_same was was_in)) (live-is m was (omega (arith, owned was, was_in)))
+
+  swap_count : (r : BlockRef) → times r (blocks_of new) + one r was ≡ times r (at ∷ blocks_of old)
+  swap_count r =
+      let both = refs_changed value_block old new i (Some (record { key = s.key; hash = s.hash; value = at })) s.updates r in
+      let here : times r (own_of value_block (item old i)) ≡ times r (s.key ∷ was ∷ []) = ap (λ o. times r (own_of value_block o)) s.found in
+      omega (arith, both, here)
+
+  swap_changes : Changes m a (blocks_of old) (at ∷ blocks_of old)
+  swap_changes = Changes-beside m a [] (at ∷ []) (blocks_of old) (at ∷ blocks_of old) p owned (λ r. times r (blocks_of old)) (λ r. omega arith) (λ r. omega arith)
+
+  swap_owned : Owned (at ∷ blocks_of old) a
+  swap_owned = Changes-owned m a (blocks_of old) (at ∷ blocks_of old) swap_changes
+
+  module _ (given : n ≡ with_block a was None) (l : Keyed a new) where
+    left_same : (r : BlockRef) → IsIn r (blocks_of new) → n r ≡ a r
+    left_same r isin = (λ j. given j r) ∙ with_block-other a was r None (other_than r was (omega (arith, swap_count r, swap_owned r, live-once a r, isin)))
+
+    pub swap_hashed : key_tables a new ≡ key_tables a old → IsHashed m n old new (insert (fields_in m old) (key_of m (item old i)) value)
+    swap_hashed same = record {
+      keyed = (table_kept a n new l left_same).0;
+      seed = s.seed;
+      fields_are = fields_kept a n new l left_same
+          ∙ map_of-swaps a (λ v. bytes_at a v) old new swap_keyed i was at l s
+          ∙ ap (insert (fields_in a old) (key_of a (item old i))) (ap (λ o. unwrap_or o []) ((λ j. placed j at) ∙ with_block-same m at (Some value)))
+          ∙ ap (λ q. insert (fields_in a old) q value) key_bytes
+          ∙ ap (λ map. insert map (key_of m (item old i)) value) (fields_kept m a old k swap_same);
+      changes = Changes-then m a n (blocks_of old) (at ∷ blocks_of old) (blocks_of new) swap_changes
+          (Changes-counted a n (at ∷ blocks_of old) (blocks_of new) swap_owned (Counts-ended a n was (at ∷ blocks_of old) (blocks_of new) was_live given swap_count));
+      grown = Grown-same (hash_of old.seed) (key_tables m old) (key_tables n new) ((table_kept a n new l left_same).1 ∙ same ∙ (table_kept m a old k swap_same).1);
+    }
+      where
+        key_bytes : key_of a (item old i) ≡ key_of m (item old i)
+        key_bytes = ap (key_of a) s.found ∙ ap (λ o. unwrap_or o []) (swap_same s.key (has_key old i (record { key = s.key; hash = s.hash; value = was }) s.found)) ∙ ap (key_of m) (sym s.found)
+
+-- ---- a field was taken out, and both its blocks given back
+
+module _ (m : Blocks) (old mid : FieldTable) (field : List ℕ) (key value : BlockRef) (k : Keyed m old) (owned : Owned (blocks_of old) m) (r : Removes m old mid field key value) where
+  taken_count : (q : BlockRef) → times q (blocks_of mid) + times q (key ∷ value ∷ []) ≡ times q (blocks_of old)
+  taken_count q =
+      let both = refs_changed value_block old mid r.at None r.updates q in
+      let here : times q (own_of value_block (item old r.at)) ≡ times q (key ∷ value ∷ []) = ap (λ o. times q (own_of value_block o)) r.found in
+      omega (arith, both, here)
+
+  pub taken_owned : Owned (key ∷ value ∷ []) m
+  taken_owned q = omega (arith, taken_count q, owned q)
+
+  pub taken_had : get (fields_in m old) field ≡ Some (bytes_at m value)
+  taken_had = map_of-had m (λ v. bytes_at m v) old mid k field key value r
+
+  module _ (n : Blocks) (new : FieldTable) (l : Keyed m mid) (p : Changes m n (key ∷ value ∷ []) []) where
+    others_same : (q : BlockRef) → IsIn q (blocks_of mid) → n q ≡ m q
+    others_same q isin = Owned-others m n (key ∷ value ∷ []) [] (blocks_of old) owned p q (omega (arith, isin, taken_count q)) (omega (arith, isin, taken_count q, owned q, live-once m q))
+
+    pub taken_keyed : Keyed n mid
+    taken_keyed = (table_kept m n mid l others_same).0
+
+    pub taken_hashed : Grown (hash_of old.seed) (key_tables m old) (key_tables m mid) → Keyed n new → new.items ≡ mid.items → new.seed ≡ mid.seed → Grown (hash_of mid.seed) (key_tables n mid) (key_tables n new)
+        → IsHashed m n old new (remove (fields_in m old) field)
+    taken_hashed grown keyed items seed shrunk = record {
+      keyed = keyed;
+      seed = seed ∙ r.seed;
+      fields_are = map_of-items n (λ v. bytes_at n v) mid new items ∙ fields_kept m n mid l others_same ∙ map_of-removes m (λ v. bytes_at m v) old mid k field key value l r;
+      changes = Changes-beside m n (key ∷ value ∷ []) [] (blocks_of old) (blocks_of new) p owned (λ q. times q (blocks_of mid)) (λ q. omega (arith, taken_count q)) (λ q. omega (arith, same_refs q));
+      grown = Grown-then (hash_of old.seed) (key_tables m old) (key_tables m mid) (key_tables n new) grown
+          (subst (λ t. Grown (hash_of old.seed) t (key_tables n new)) (table_kept m n mid l others_same).1
+          (subst (λ s. Grown (hash_of s) (key_tables n mid) (key_tables n new)) r.seed shrunk));
+    }
+      where
+        same_refs : (q : BlockRef) → times q (blocks_of new) ≡ times q (blocks_of mid)
+        same_refs q = ap (λ xs. times q (flat_map (own_of value_block) xs)) items
+
+-- ---- one after the other
+
+pub hashed_then : (a b c : Blocks) (t u v : FieldTable) (s w : FieldMap) → IsHashed a b t u s → IsHashed b c u v w → IsHashed a c t v w
+hashed_then a b c t u v s w p q = record {
+  keyed = q.keyed;
+  seed = q.seed ∙ p.seed;
+  fields_are = q.fields_are;
+  changes = Changes-then a b c (blocks_of t) (blocks_of u) (blocks_of v) p.changes q.changes;
+  grown = Grown-then (hash_of t.seed) (key_tables a t) (key_tables b u) (key_tables c v) p.grown (subst (λ n. Grown (hash_of n) (key_tables b u) (key_tables c v)) p.seed q.grown);
+}
+
+-- the blocks of a dictionary are live
+pub hashed_owned : (a b : Blocks) (t u : FieldTable) (s : FieldMap) → IsHashed a b t u s → Owned (blocks_of u) b
+hashed_owned a b t u s h = Changes-owned a b (blocks_of t) (blocks_of u) h.changes
+
+-- what changes no reference changes nothing
+pub all_same : (m n : Blocks) → Changes m n [] [] → n ≡ m
+all_same m n p = λ i r. p.kept r refl refl i
+
+-- a new dictionary
+pub new_is : (t : FieldTable) (seed : ℕ) → t.items ≡ [] → t.older ≡ [] → t.newer ≡ [] → t.position ≡ 0 → t.seed ≡ seed → t.top ≡ 0 → t ≡ no_fields seed
+new_is t seed items older newer position seed_is top = λ i. record { items = items i; older = older i; newer = newer i; position = position i; seed = seed_is i; top = top i }
+
+pub new_hashed : (m : Blocks) (t : FieldTable) (seed : ℕ) → t ≡ no_fields seed → Keyed m t → IsHashed m m (no_fields seed) t empty
+new_hashed m t seed is keyed = record {
+  keyed = keyed;
+  seed = ap (λ (d : FieldTable). d.seed) is;
+  fields_are = map_of-items m (λ v. bytes_at m v) (no_fields seed) t (ap (λ (d : FieldTable). d.items) is) ∙ map_of-empty m (λ v. bytes_at m v) (no_fields seed) refl;
+  changes = subst (λ (d : FieldTable). Changes m m [] (blocks_of d)) (sym is) (Changes-same m [] (λ r. omega arith));
+  grown = Grown-same (hash_of seed) _ _ (ap (key_tables m) is);
+}

@@ -1,0 +1,4 @@
+pub mod Maps
+pub mod Hashed
+pub mod Fields
+pub mod Items

@@ -1,0 +1,389 @@
+// Expected answers and encodings are those of the Redis command reference (HSET, HGET, HDEL, HLEN, OBJECT ENCODING), and those of a plain
+// list under the same edits.
+
+ghost use Rattle.std.specs.Prelude.{◌≤◌};
+ghost use Rattle.blocks.specs.Plain.{plain_blocks};
+ghost use Rattle.object_codec.specs.Limits.{AreInRange};
+ghost use Rattle.hash_object.specs.Fields.{IsFields};
+
+use crate::{Fields, Memory};
+use blocks::PlainStore;
+use itoa::Buffer;
+use listpack::Element;
+use object_codec::{Form, Limits};
+use pack_pairs::text;
+use std::alloc::Global;
+use std::marker::Model;
+use std::test::Fail;
+
+// A hash in its store.
+#[derive(Drop)]
+struct Held {
+    store: PlainStore,
+    hash: Fields,
+}
+
+impl Model for Held {
+    ghost use Rattle.std.specs.Prelude.{ℕ};
+    ghost use Rattle.blocks.specs.Plain.{plain_blocks};
+    ghost use Rattle.hash_object.specs.Fields.{IsFields};
+
+    ghost Value = { ℕ };
+
+    ghost view = { λ held. 0 };
+
+    ghost invariant = { λ held. IsFields (plain_blocks held.store) held.hash };
+}
+
+fn limits(hash_entries: u32, hash_value: u32) -> Limits
+    requires entries { hash_entries ≤ 4096 }
+    requires value { hash_value ≤ 4096 }
+    ensures { AreInRange result }
+{
+    Limits {
+        hash_entries,
+        set_entries: 128,
+        zset_entries: 128,
+        hash_value,
+        set_value: 64,
+        zset_value: 64,
+        set_intset: 512,
+    }
+}
+
+// Whether a hash has this value at this field.
+fn has_pair(hash: &Fields, store: &PlainStore, pair: (Element<'_>, Element<'_>)) -> bool
+    requires { IsFields (plain_blocks store.now) hash.now }
+{
+    let (field, value) = pair;
+    let mut field_room = Buffer::new();
+    match hash.get(store, text(field, &mut field_room)) {
+        Some(found) => {
+            let mut found_room = Buffer::new();
+            let mut value_room = Buffer::new();
+            text(found, &mut found_room) == text(value, &mut value_room)
+        }
+        None => false,
+    }
+}
+
+// How many fields a walk meets, each with the value that the hash has.
+fn walked(hash: &Fields, store: &PlainStore) -> usize
+    requires { IsFields (plain_blocks store.now) hash.now }
+{
+    let mut count: usize = 0;
+    let mut next = hash.first(store);
+    for _ in 0..=hash.len() {
+        match next {
+            Some(cursor) => {
+                let is_there = has_pair(hash, store, hash.pair(store, cursor));
+                count = count.saturating_add(usize::from(is_there));
+                next = hash.next(store, cursor);
+            }
+            None => return count,
+        }
+    }
+    count
+}
+
+// How many item numbers have a field, each with the value that the hash has.
+fn numbered(hash: &Fields, store: &PlainStore) -> usize
+    requires { IsFields (plain_blocks store.now) hash.now }
+{
+    let mut count: usize = 0;
+    for item in 0..hash.top() {
+        if hash.is_entry(item) && has_pair(hash, store, hash.at(store, item)) {
+            count = count.saturating_add(1);
+        }
+    }
+    count
+}
+
+impl Held {
+    fn new(alloc: Global, limits: Limits) -> Held
+        requires { AreInRange limits }
+    {
+        Held {
+            store: PlainStore::new(alloc),
+            hash: Fields::new(alloc, limits, 7),
+        }
+    }
+
+    fn set(&mut self, field: &[u8], value: &[u8]) -> Result<bool, Memory> {
+        self.hash.set(&mut self.store, field, value)
+    }
+
+    fn remove(&mut self, field: &[u8]) -> Result<bool, Memory> {
+        self.hash.remove(&mut self.store, field)
+    }
+
+    // Whether the field has this value.
+    fn has(&self, field: &[u8], value: &[u8]) -> bool {
+        match self.hash.get(&self.store, field) {
+            Some(Element::Text(text)) => text == value,
+            Some(Element::Number(n)) => Buffer::new().format(n).as_bytes() == value,
+            None => false,
+        }
+    }
+
+    fn lacks(&self, field: &[u8]) -> bool {
+        self.hash.get(&self.store, field).is_none()
+    }
+
+    // Whether each field is new in its turn, has its value then, and the hash its form.
+    fn rises(&mut self, rows: &[(&[u8], &[u8], Form)]) -> Result<bool, Memory> {
+        for (field, value, form) in rows {
+            if !self.set(field, value)? || self.hash.form() != *form || !self.has(field, value) {
+                return Ok(false);
+            }
+        }
+        Ok(true)
+    }
+
+    // Whether each field is there in its turn, and no more when it was taken out.
+    fn leave(&mut self, rows: &[(&[u8], &[u8], Form)]) -> Result<bool, Memory> {
+        for (field, _, _) in rows {
+            if !self.remove(field)? || !self.lacks(field) || self.remove(field)? {
+                return Ok(false);
+            }
+        }
+        Ok(true)
+    }
+
+    // Whether walks and item numbers meet so many fields.
+    fn meets(&self, count: usize) -> bool {
+        walked(&self.hash, &self.store) == count && numbered(&self.hash, &self.store) == count
+    }
+
+    fn release(self) {
+        let Held { mut store, hash } = self;
+        hash.release(&mut store);
+    }
+}
+
+// Whether so many fields have one form, and with one more another.
+fn rises_behind(alloc: Global, limits: Limits, count: u32, forms: [Form; 2]) -> Result<bool, Memory>
+    requires limits { AreInRange limits }
+    requires few { count ≤ 4096 }
+{
+    let mut held = Held::new(alloc, limits);
+    for n in 0..=count {
+        let field = format!(in alloc; "f{n}")?;
+        held.set(field.as_bytes(), b"v")?;
+        if n + 1 == count && held.hash.form() != forms[0] {
+            return Ok(false);
+        }
+    }
+    Ok(held.hash.form() == forms[1] && held.hash.len() == count as usize + 1)
+}
+
+// Whether a copy of a hash of these fields has its form and meets as many.
+fn is_copied(alloc: Global, limits: Limits, rows: &[(&[u8], &[u8], Form)]) -> Result<bool, Memory>
+    requires { AreInRange limits }
+{
+    let mut held = Held::new(alloc, limits);
+    held.rises(rows)?;
+    let Held { mut store, hash } = held;
+    let copy = hash.copy(&mut store)?;
+    let is_same = copy.form() == hash.form() && walked(&copy, &store) == rows.len();
+    copy.release(&mut store);
+    Ok(is_same)
+}
+
+// Forms at each limit and one past it: numbers of fields at 512, the default, at 0 and at 1,024, lengths at 64, the default, at 0 and at
+// 4,096, the most.
+#[test]
+fn forms_rise(rt: HostRuntime) -> Result<(), Fail> {
+    let alloc = rt.alloc();
+    let forms = [Form::Listpack, Form::Hashtable];
+    assert!(rt; rises_behind(alloc, limits(512, 64), 512, forms)?);
+    assert!(rt; rises_behind(alloc, limits(1024, 4096), 1024, forms)?);
+    assert!(rt; rises_behind(alloc, limits(0, 64), 0, forms)?);
+    let by_field: [(&[u8], &[u8], Form); 4] = [
+        (b"12", b"-7", Form::Listpack),
+        (&[7; 64], b"", Form::Listpack),
+        (&[7; 65], b"", Form::Hashtable),
+        (b"b", b"1", Form::Hashtable),
+    ];
+    assert!(rt; Held::new(alloc, limits(512, 64)).rises(&by_field)?);
+    let by_value: [(&[u8], &[u8], Form); 3] = [
+        (b"a", &[7; 64], Form::Listpack),
+        (b"b", &[7; 65], Form::Hashtable),
+        (b"", b"", Form::Hashtable),
+    ];
+    assert!(rt; Held::new(alloc, limits(512, 64)).rises(&by_value)?);
+    let none: [(&[u8], &[u8], Form); 2] = [
+        (b"", b"", Form::Listpack),
+        (b"a", b"", Form::Hashtable),
+    ];
+    assert!(rt; Held::new(alloc, limits(4096, 0)).rises(&none)?);
+    let most: [(&[u8], &[u8], Form); 2] = [
+        (&[1; 4096], &[2; 4096], Form::Listpack),
+        (b"", &[1; 4097], Form::Hashtable),
+    ];
+    assert!(rt; Held::new(alloc, limits(4096, 4096)).rises(&most)?);
+    Ok(())
+}
+
+// Values that are overwritten: in a listpack, by one that is too long for it, and in a dictionary.
+#[test]
+fn values_are_overwritten(rt: HostRuntime) -> Result<(), Fail> {
+    let mut held = Held::new(rt.alloc(), limits(4, 8));
+    assert!(rt; held.set(b"f", b"1")?);
+    assert!(rt; held.set(b"g", b"2")?);
+    for (value, form) in [
+        (b"3".as_slice(), Form::Listpack),
+        (b"12345678", Form::Listpack),
+        (b"123456789", Form::Hashtable),
+        (b"4", Form::Hashtable),
+    ] {
+        assert!(rt; !held.set(b"f", value)?);
+        assert!(rt; held.has(b"f", value));
+        assert!(rt; held.has(b"g", b"2"));
+        assert_eq!(rt; held.hash.len(), 2);
+        assert!(rt; held.hash.form() == form);
+    }
+    held.release();
+    Ok(())
+}
+
+// Fields that come and are taken out (HDEL), in each form.
+#[test]
+fn fields_are_taken_out(rt: HostRuntime) -> Result<(), Fail> {
+    let alloc = rt.alloc();
+    let few: [(&[u8], &[u8], Form); 3] = [
+        (b"a", b"1", Form::Listpack),
+        (b"7", b"", Form::Listpack),
+        (b"", b"x", Form::Listpack),
+    ];
+    let many: [(&[u8], &[u8], Form); 3] = [
+        (b"a", b"long", Form::Hashtable),
+        (b"1", b"1", Form::Hashtable),
+        (b"", b"", Form::Hashtable),
+    ];
+    for rows in [few.as_slice(), many.as_slice()] {
+        let mut held = Held::new(alloc, limits(3, 2));
+        assert!(rt; is_copied(alloc, limits(3, 2), rows)?);
+        assert!(rt; held.rises(rows)?);
+        assert!(rt; held.meets(3));
+        assert!(rt; !held.remove(b"none")?);
+        assert!(rt; held.leave(rows)?);
+        assert_eq!(rt; held.hash.len(), 0);
+        held.release();
+    }
+    Ok(())
+}
+
+// A hash beside the list of its values by the numbers of their fields.
+#[derive(Drop)]
+struct Twin {
+    held: Held,
+    values: [Option<u32>; 64],
+}
+
+// The field of a number: its text, or so many bytes.
+fn field_of<'a>(n: usize, buffer: &'a mut Buffer, filler: &'a [u8; 64]) -> &'a [u8] {
+    if n % 2 == 0 {
+        buffer.format(n).as_bytes()
+    } else {
+        &filler[..n % 64]
+    }
+}
+
+impl Twin {
+    fn new(alloc: Global, limits: Limits) -> Twin
+        requires { AreInRange limits }
+    {
+        Twin {
+            held: Held::new(alloc, limits),
+            values: [None; 64],
+        }
+    }
+
+    // Gives a field a value, and tells whether the answer is right. A call that finds no memory leaves all as it was.
+    fn set(&mut self, number: usize, filler: &[u8; 64], value: u32) -> bool {
+        let n = number % 64;
+        let mut buffer = Buffer::new();
+        let field = field_of(n, &mut buffer, filler);
+        match self.held.set(field, Buffer::new().format(value).as_bytes()) {
+            Ok(new) => {
+                let wanted = self.values[n].is_none();
+                self.values[n] = Some(value);
+                new == wanted
+            }
+            Err(_) => true,
+        }
+    }
+
+    // Takes a field out, and tells whether the answer is right. A dictionary that finds no memory is left without the field.
+    fn remove(&mut self, number: usize, filler: &[u8; 64]) -> bool {
+        let n = number % 64;
+        let mut buffer = Buffer::new();
+        let field = field_of(n, &mut buffer, filler);
+        let form = self.held.hash.form();
+        match self.held.remove(field) {
+            Ok(was) => {
+                let wanted = self.values[n].is_some();
+                self.values[n] = None;
+                was == wanted
+            }
+            Err(_) => {
+                if form == Form::Hashtable {
+                    self.values[n] = None;
+                }
+                true
+            }
+        }
+    }
+
+    // Whether the hash has each value, and no more fields.
+    fn agrees(&self, filler: &[u8; 64]) -> bool {
+        let mut count: usize = 0;
+        for n in 0..64usize {
+            let mut buffer = Buffer::new();
+            let field = field_of(n, &mut buffer, filler);
+            let is_right = match self.values[n] {
+                Some(value) => self.held.has(field, Buffer::new().format(value).as_bytes()),
+                None => self.held.lacks(field),
+            };
+            if !is_right {
+                return false;
+            }
+            if self.values[n].is_some() {
+                count = count.saturating_add(1);
+            }
+        }
+        self.held.hash.len() == count && self.held.meets(count)
+    }
+}
+
+// Whether a hash agrees with a plain list under seeded edits.
+fn agrees_under_edits(alloc: Global, limits: Limits) -> bool
+    requires { AreInRange limits }
+{
+    let filler = [b'x'; 64];
+    let mut twin = Twin::new(alloc, limits);
+    let mut seed: u32 = 7;
+    for round in 0..300 {
+        seed = seed.wrapping_mul(1664525).wrapping_add(1013904223);
+        let n = (seed >> 16) as usize;
+        let is_right = if seed >> 13 & 3 == 0 {
+            twin.remove(n, &filler)
+        } else {
+            twin.set(n, &filler, seed >> 8)
+        };
+        if !is_right || round % 30 == 29 && !twin.agrees(&filler) {
+            return false;
+        }
+    }
+    true
+}
+
+// By limits at which a hash changes its form soon, late, by the length of a field, and never.
+#[test]
+fn edits_agree_with_a_plain_list(rt: HostRuntime) {
+    let alloc = rt.alloc();
+    for (entries, value) in [(4, 64), (30, 64), (64, 40), (64, 64)] {
+        assert!(rt; agrees_under_edits(alloc, limits(entries, value)));
+    }
+}

@@ -1,0 +1,9 @@
+//! Listpacks taken as pairs: a first element, its second, the next first element, and so on.
+#![tactic(auto)]
+
+mod edits;
+mod walks;
+
+pub use edits::{empty, with_last, with_pair, with_second, without};
+pub use listpack::Memory;
+pub use walks::{Place, find, find_second, first, first_place, next_place, second, seek, text};
