@@ -98,6 +98,12 @@ is_other (Some s) = not s.kept
 abbrev pub wants : Heap → BlockRef → Bool
 wants h r = h.passing && is_other (slab_at h r.slab)
 
+-- a live block wants to move
+pub record IsWaiting (blocks : Blocks) (h : Heap) : Type 0 where
+  pub at : BlockRef
+  pub live : IsSome (blocks at)
+  pub waits : wants h at ≡ true
+
 -- a slab at the end of a pass: one without a block goes
 abbrev pub released : Option SlabUse → Option SlabUse
 released None = None

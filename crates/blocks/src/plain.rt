@@ -94,6 +94,10 @@ impl BlockStore for PlainStore {
         false
     }
 
+    fn is_calm(&self) -> bool {
+        true
+    }
+
     fn move_block(&mut self, _at: BlockRef) -> Option<BlockRef> {
         None
     }

@@ -1,8 +1,8 @@
-ghost use Rattle.std.specs.Prelude.{◌≡◌, ℕ, ◌+◌, ◌<◌, ◌≤◌, false, List, Option, Some, None, length, replicate, IfOk, OnErr, IfSome, IfNone, IsSome, is_some};
+ghost use Rattle.std.specs.Prelude.{◌≡◌, ℕ, ◌+◌, ◌<◌, ◌≤◌, false, List, Option, Some, None, length, replicate, IfOk, OnErr, IfSome, IfNone, IsSome, MatchBool, is_some};
 ghost use Rattle.blocks.specs.declared.BlockRef.{BlockRef};
 ghost use Rattle.blocks.specs.declared.ClassUse.{ClassUse};
 ghost use Rattle.blocks.specs.Blocks.{with_block, overwritten, bytes_at, IsFinite};
-ghost use Rattle.blocks.specs.Slabs.{Heap, wants, Begun, Moves, ended, IsSoundHeap, slabs_of, used_of, size_of};
+ghost use Rattle.blocks.specs.Slabs.{Heap, wants, IsWaiting, Begun, Moves, ended, IsSoundHeap, slabs_of, used_of, size_of};
 ghost use Rattle.blocks.specs.Steps.{IsStep};
 
 use crate::{BlockRef, ClassUse, Memory};
@@ -66,6 +66,10 @@ pub trait BlockStore: Drop {
     fn wants_move(&self, at: BlockRef) -> bool
         requires { IsSome (blocks self.now at) }
         ensures { result ≡ wants (heap self.now) at };
+
+    /// Whether no block wants to move. It looks at no block.
+    fn is_calm(&self) -> bool
+        ensures { MatchBool result ((r : BlockRef) → wants (heap self.now) r ≡ false) (IsWaiting (blocks self.now) (heap self.now)) };
 
     /// Moves a live block that wants it into a kept slab, without memory. The old reference ends, and the
     /// answer names the block from then on. `None` comes exactly where the block wants no move.

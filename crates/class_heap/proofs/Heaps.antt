@@ -1,16 +1,17 @@
 -- A class heap's blocks and slabs by number, and what one changed number leaves.
-use Rattle.std.specs.Prelude.{◌≡◌, ◌≢◌, ℕ, zero, suc, ◌+◌, ◌^◌, ◌<◌, ◌≤◌, Bool, true, false, ◌&&◌, ◌||◌, not, nat_lt, List, [], ◌∷◌, length, map, sum_by, Option, Some, None, refl, ◌⊎◌, slice_index_or}
+use Rattle.std.specs.Prelude.{◌≡◌, ◌≢◌, ℕ, zero, suc, ◌+◌, ◌^◌, ◌<◌, ◌≤◌, Bool, true, false, ◌&&◌, ◌||◌, not, nat_lt, List, [], ◌∷◌, length, map, sum_by, Option, Some, None, IfSome, IfNone, MatchBool, is_some, refl, ◌⊎◌, slice_index_or}
 use Rattle.std.proofs.Common.{arith, cond, eqb, ap, ◌∙◌, sym, inl, inr, get_or}
 use Rattle.std.proofs.lemmas.Grind.{common_steps}
-use Rattle.std.proofs.lemmas.Bool.{cases_eq, cases_lt, and_parts, eqb-true, eq-eqb, cond-true}
+use Rattle.std.proofs.lemmas.Bool.{cases_eq, cases_lt, and_parts, and_from, eqb-true, eq-eqb, cond-true}
 use borrow.Author.Tests.{ltb-true}
 use Rattle.std.proofs.lemmas.Nat.Bits.{bit_at-pow_same, bit_at-pow_other, bit_at-zero}
 use Rattle.std.specs.Int.{bit_at}
 use Rattle.std.proofs.lemmas.List.Sums.{sum_by-cons}
 use Rattle.blocks.specs.declared.BlockRef.{BlockRef}
 use Rattle.blocks.specs.Blocks.{with_block}
-use Rattle.blocks.specs.Slabs.{SlabUse, slab_at, per_slab, waiting_in, spare_in, waiting_of, spare_of}
+use Rattle.blocks.specs.Slabs.{SlabUse, slab_at, per_slab, is_other, wants, IsWaiting, waiting_in, spare_in, waiting_of, spare_of}
 use Rattle.blocks.proofs.Sums.{sum_same, sum_changed}
+use Rattle.blocks.proofs.Sweeps.{inhabited}
 use Rattle.class_heap.specs.declared.entry.Entry.{Entry}
 use Rattle.class_heap.specs.declared.entry.Entry.TheVariants.{Vacant, Large, Classed}
 use Rattle.class_heap.specs.declared.directory.Directory.{Directory}
@@ -18,7 +19,7 @@ use Rattle.class_heap.specs.Directory.{labels_at}
 use Rattle.class_heap.specs.Slab.{use_of, has_room, with_slot}
 use Rattle.class_heap.specs.Tree.{IsLeastWith}
 use Rattle.class_heap.specs.Entries.{use_in, block_in, labels_of, entry_at, blocks_of, heap_of, IsHeap, IsLeastVacant}
-use Rattle.class_heap.specs.Laws.{slab_read}
+use Rattle.class_heap.specs.Laws.{slab_read, heap_sound}
 use Rattle.class_heap.specs.Placing.{takes}
 
 -- ---- the same entries, in a list that may be longer
@@ -43,13 +44,19 @@ spare_same passing old new same class = sum_same (spare_in class) refl (map use_
 abbrev one_if : Bool → ℕ
 one_if b = cond b 1 0
 
-by_room : (b : Bool) (class label : ℕ) → bit_at (cond b (2 ^ class) 0) label ≡ one_if (eqb class label && b)
-by_room false class label = bit_at-zero label ∙ (by_eq (eqb class label))
+-- a slab has the label of its class where it takes blocks
+by_room : (b w : Bool) (class label : ℕ) → label ≢ 37 → bit_at (cond b (2 ^ class) (cond w (2 ^ 37) 0)) label ≡ one_if (eqb class label && b)
+by_room false true class label low = bit_at-pow_other 37 label low ∙ by_eq (eqb class label)
   where
     by_eq : (t : Bool) → 0 ≡ one_if (t && false)
     by_eq true = refl
     by_eq false = refl
-by_room true class label = elim (cases_eq class label) [
+by_room false false class label low = bit_at-zero label ∙ by_eq (eqb class label)
+  where
+    by_eq : (t : Bool) → 0 ≡ one_if (t && false)
+    by_eq true = refl
+    by_eq false = refl
+by_room true w class label low = elim (cases_eq class label) [
   | inl same ↦ ap (bit_at (2 ^ class)) (sym same) ∙ (bit_at-pow_same class ∙ sym (ap (λ t. one_if (t && true)) (eq-eqb class label same)))
   | inr other ↦ bit_at-pow_other class label (λ e. other (sym e)) ∙ sym (grind (arith, common_steps, other))
 ]
@@ -58,19 +65,35 @@ by_room true class label = elim (cases_eq class label) [
 pub labels_take : (passing : Bool) (e : Entry) (class : ℕ) → class < 36 → bit_at (labels_of passing e) class ≡ one_if (takes passing class (use_in e))
 labels_take passing Vacant class lt = bit_at-pow_other 36 class (λ e. absurd (omega (arith, e, lt)))
 labels_take passing (Large bytes) class lt = bit_at-zero class
-labels_take passing (Classed slab) class lt = by_room (has_room passing (use_of slab)) slab.class class
+labels_take passing (Classed slab) class lt = by_room (has_room passing (use_of slab)) _ slab.class class (λ e. omega (arith, e, lt))
 
 -- and that of a vacant one where nothing stands there
 pub vacant_labels : (passing : Bool) (e : Entry) → bit_at (labels_of passing e) 36 ≡ 1 → e ≡ Vacant
 vacant_labels passing Vacant h = refl
 vacant_labels passing (Large bytes) h = absurd (omega (arith, h, bit_at-zero 36))
-vacant_labels passing (Classed slab) h = absurd (let b = by_room (has_room passing (use_of slab)) slab.class 36 in let lt = slab.sound.classed in none (has_room passing (use_of slab)) (eqb slab.class 36) (grind (arith, common_steps, lt)) (sym b ∙ h))
+vacant_labels passing (Classed slab) h = absurd (let b = by_room (has_room passing (use_of slab)) _ slab.class 36 (λ e. omega arith) in let lt = slab.sound.classed in none (has_room passing (use_of slab)) (eqb slab.class 36) (grind (arith, common_steps, lt)) (sym b ∙ h))
   where
     none : (b t : Bool) → t ≡ false → one_if (t && b) ≡ 1 → ⊥
     none b t e k = absurd (omega (arith, sym (ap (λ x. one_if (x && b)) e) ∙ k))
 
 pub labels_vacant : (passing : Bool) (e : Entry) → e ≡ Vacant → bit_at (labels_of passing e) 36 ≡ 1
 labels_vacant passing e is = ap (λ x. bit_at (labels_of passing x) 36) is ∙ bit_at-pow_same 36
+
+by_wait : (p k r : Bool) (class : ℕ) → class < 36 → bit_at (cond (r && (not p || k)) (2 ^ class) (cond (p && not k) (2 ^ 37) 0)) 37 ≡ one_if (p && not k)
+by_wait true false true class lt = bit_at-pow_same 37
+by_wait true false false class lt = bit_at-pow_same 37
+by_wait true true true class lt = bit_at-pow_other class 37 (λ e. omega (arith, e, lt))
+by_wait true true false class lt = bit_at-zero 37
+by_wait false k true class lt = bit_at-pow_other class 37 (λ e. omega (arith, e, lt))
+by_wait false k false class lt = bit_at-zero 37
+
+-- and that of those whose blocks want to move where a pass is open and its slab isn't kept
+pub labels_wait : (passing : Bool) (e : Entry) → bit_at (labels_of passing e) 37 ≡ one_if (passing && is_other (use_in e))
+labels_wait true Vacant = bit_at-pow_other 36 37 (λ e. omega (arith, e))
+labels_wait false Vacant = bit_at-pow_other 36 37 (λ e. omega (arith, e))
+labels_wait true (Large bytes) = bit_at-zero 37
+labels_wait false (Large bytes) = bit_at-zero 37
+labels_wait passing (Classed slab) = by_wait passing slab.kept (nat_lt slab.used (per_slab slab.class)) slab.class slab.sound.classed
 
 -- what a slab that takes blocks of a class is
 pub record IsTaking (passing : Bool) (class : ℕ) (o : Option SlabUse) : Type 0 where
@@ -93,6 +116,13 @@ taking passing class (Some s) h =
 one_true : (b : Bool) → one_if b ≡ 1 → b ≡ true
 one_true true h = refl
 one_true false h = absurd (omega (arith, h))
+
+false_true : false ≡ true → ⊥
+false_true e = cc
+
+not_true : (b : Bool) → not b ≡ true → b ≡ false
+not_true true h = cc
+not_true false h = refl
 
 one_false : (b : Bool) → one_if b ≡ 0 → b ≡ false
 one_false true h = absurd (omega (arith, h))
@@ -135,6 +165,45 @@ module _ {passing : Bool} {entries : List Entry} {directory : Directory} {margin
 
   pub none_vacant : ((n : ℕ) → n < directory.bound → bit_at (labels_at directory n) 36 ≡ 0) → (n : ℕ) → n < length entries → entry_at entries n ≢ Vacant
   none_vacant none n there is = absurd (let b = sound.bound in let one = labels_vacant passing (entry_at entries n) is in let zero' = ap (λ l. bit_at l 36) (sym (sound.labelled n there)) ∙ none n (omega (arith, there, b)) in omega (arith, one, zero'))
+
+  -- where no number has the label of blocks that want to move, none wants to
+  pub none_wants : ((n : ℕ) → n < directory.bound → bit_at (labels_at directory n) 37 ≡ 0) → (r : BlockRef) → wants (heap_of passing entries) r ≡ false
+  none_wants none r = ap (λ o. passing && is_other o) (slab_read passing entries r.slab) ∙ elim (cases_lt r.slab (length entries)) [
+    | inl there ↦ (let b = sound.bound in one_false _ (sym (labels_wait passing (entry_at entries r.slab)) ∙ (ap (λ l. bit_at l 37) (sym (sound.labelled r.slab there)) ∙ none r.slab (omega (arith, there, b)))))
+    | inr past ↦ ap (λ e. passing && is_other (use_in e)) (beyond r.slab past) ∙ by_none passing
+  ]
+    where
+      by_none : (p : Bool) → (p && false) ≡ false
+      by_none true = refl
+      by_none false = refl
+
+  -- and where one has it, a block does
+  pub one_waits : (n : ℕ) → IsLeastWith directory.bound directory.nodes.items 37 n → IsWaiting (blocks_of entries) (heap_of passing entries)
+  one_waits n f =
+      let b = sound.bound in let w = f.within in
+      let there : n < length entries = omega (arith, b, w) in
+      let waits = one_true _ (sym (labels_wait passing (entry_at entries n)) ∙ (ap (λ l. bit_at l 37) (sym (sound.labelled n there)) ∙ f.has)) in
+      let parts = and_parts passing _ waits in
+      by_use (use_in (entry_at entries n)) refl parts.0 parts.1
+    where
+      by_use : (o : Option SlabUse) → use_in (entry_at entries n) ≡ o → passing ≡ true → is_other o ≡ true → IsWaiting (blocks_of entries) (heap_of passing entries)
+      by_use None is p other = absurd (false_true other)
+      by_use (Some s) is p other =
+          let stands : slab_at (heap_of passing entries) n ≡ Some s = slab_read passing entries n ∙ is in
+          let alive = inhabited (blocks_of entries) (heap_of passing entries) (heap_sound sound) n s stands (sound.filled n s is (not_true s.kept other)) in
+          record {
+            at = alive.at;
+            live = alive.live;
+            waits = ap (λ k. passing && is_other (slab_at (heap_of passing entries) k)) alive.place ∙ (ap (λ o. passing && is_other o) stands ∙ and_from _ _ p other);
+          }
+
+  pub calm_told : (first : Option ℕ) (calm : Bool) → is_some first ≡ not calm → IfSome first (IsLeastWith directory.bound directory.nodes.items 37)
+      → IfNone first ((n : ℕ) → n < directory.bound → bit_at (labels_at directory n) 37 ≡ 0)
+      → MatchBool calm ((r : BlockRef) → wants (heap_of passing entries) r ≡ false) (IsWaiting (blocks_of entries) (heap_of passing entries))
+  calm_told None true e least none = none_wants none
+  calm_told (Some n) false e least none = one_waits n least
+  calm_told None false e least none = cc
+  calm_told (Some n) true e least none = cc
 
 -- where no slab takes a block while a pass is open, no kept slab has room
 pub none_spare : (class : ℕ) (xs : List (Option SlabUse)) → ((n : ℕ) → takes true class (get_or xs n None) ≡ false) → sum_by (spare_in class) xs ≡ 0

@@ -6,7 +6,7 @@ use Rattle.class_heap.specs.declared.entry.Entry.{Entry}
 use Rattle.class_heap.specs.declared.entry.Entry.TheVariants.{Vacant, Large, Classed}
 use Rattle.class_heap.specs.declared.directory.Directory.{Directory}
 use Rattle.class_heap.specs.Directory.{labels_at}
-use Rattle.class_heap.specs.Slab.{use_of, block_at, has_room}
+use Rattle.class_heap.specs.Slab.{use_of, block_at, slab_label}
 
 -- the use of a slab
 abbrev pub use_in : Entry → Option SlabUse
@@ -25,11 +25,12 @@ abbrev pub class_in : Option SlabUse → Option ℕ
 class_in None = None
 class_in (Some s) = Some s.class
 
--- the label of a number with nothing, and of a slab that takes blocks of its class
+-- the label of a number with nothing, that of a slab that takes blocks of its class, and that of one whose blocks want to
+-- move
 abbrev pub labels_of : Bool → Entry → ℕ
 labels_of passing Vacant = 2 ^ 36
 labels_of passing (Large bytes) = 0
-labels_of passing (Classed slab) = if has_room passing (use_of slab) then 2 ^ slab.class else 0
+labels_of passing (Classed slab) = slab_label passing (use_of slab)
 
 -- a slab with a free place of the class of so many bytes
 abbrev pub IsRoomFor : ℕ → Option SlabUse → Type 0

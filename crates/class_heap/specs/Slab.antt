@@ -1,5 +1,5 @@
 -- What a slab holds.
-use Rattle.std.specs.Prelude.{ℕ, ◌==◌, Bool, ◌&&◌, ◌||◌, not, nat_lt, List, [], Option, unwrap_or, if◌then◌else◌}
+use Rattle.std.specs.Prelude.{ℕ, ◌==◌, ◌^◌, Bool, ◌&&◌, ◌||◌, not, nat_lt, List, [], Option, unwrap_or, if◌then◌else◌}
 use Rattle.class_heap.specs.declared.slab.Slab.{Slab}
 use Rattle.blocks.specs.Slabs.{SlabUse, per_slab}
 use Rattle.class_heap.specs.Slots.{block_in_slot}
@@ -23,3 +23,8 @@ with_slot blocks slot content other = if other == slot then content else blocks 
 -- a slab takes blocks of its class: it has room, and is kept while a pass is open
 abbrev pub has_room : Bool → SlabUse → Bool
 has_room passing s = nat_lt s.used (per_slab s.class) && (not passing || s.kept)
+
+-- the label of a slab: its class where it takes blocks of it, and that of those whose blocks want to move
+abbrev pub slab_label : Bool → SlabUse → ℕ
+slab_label passing s =
+    if has_room passing s then 2 ^ s.class else if passing && not s.kept then 2 ^ 37 else 0

@@ -10,7 +10,7 @@ use crate::class::{class_of, slots_in};
 use crate::directory::Directory;
 use crate::entry::{Entry, VACANT};
 use crate::marks::{label_all, mark_all, release_all, slabs_of, used_of};
-use crate::slab::Slab;
+use crate::slab::{Slab, WAITING};
 use blocks::{BlockRef, BlockStore, CLASS_SIZES, ClassUse, Memory};
 use std::alloc::Global;
 use std::mem::replace;
@@ -256,6 +256,10 @@ impl BlockStore for ClassHeap {
 
     fn wants_move(&self, at: BlockRef) -> bool {
         self.passing && self.entries[at.slab].is_other()
+    }
+
+    fn is_calm(&self) -> bool {
+        self.directory.first(WAITING).is_none()
     }
 
     fn move_block(&mut self, at: BlockRef) -> Option<BlockRef> {

@@ -171,6 +171,16 @@ impl Slabs {
         }
     }
 
+    /// Whether no block wants to move.
+    pub(crate) fn is_calm(&self) -> bool {
+        for number in 0..self.numbers.len() {
+            if self.wants_move(number) {
+                return false;
+            }
+        }
+        true
+    }
+
     /// Moves a block that wants it; the answer is its new number.
     pub(crate) fn move_block(&mut self, number: usize) -> Option<usize> {
         let slab = self.slab(number)?;

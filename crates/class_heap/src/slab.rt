@@ -11,6 +11,9 @@ use std::alloc::Global;
 /// The word of a free slot, less the number of the slot that is free after it.
 const FREE: u16 = 0x8000;
 
+/// The label of a slab whose blocks want to move.
+pub(crate) const WAITING: u32 = 37;
+
 /// As many zeros as the longest block of a class has bytes.
 const ZEROS: [u8; 14_336] = [0; 14_336];
 
@@ -36,7 +39,7 @@ pub(crate) struct Slab {
 }
 
 impl Slab {
-    ghost use Rattle.class_heap.specs.Slab.{block_at, bytes_in, has_room, use_of, with_slot};
+    ghost use Rattle.class_heap.specs.Slab.{block_at, bytes_in, slab_label, use_of, with_slot};
 
     /// A slab without a block.
     pub(crate) fn make(alloc: Global, class: usize, kept: bool) -> Result<Slab, Memory>
@@ -61,15 +64,18 @@ impl Slab {
         })
     }
 
-    /// A mask of the slab's class where it takes blocks: it has room, and is kept while a pass is open.
+    /// A mask of the slab's class where it takes blocks: it has room, and is kept while a pass is open. Where its blocks want to
+    /// move, a mask of `WAITING`.
     pub(crate) fn label(&self, passing: bool) -> u64
-        ensures { result ≡ (if has_room passing (use_of self.now) then 2 ^ self.now.class else 0) }
+        ensures { result ≡ slab_label passing (use_of self.now) }
     {
-        if self.used < slots_in(self.class) && (!passing || self.kept) {
-            1 << self.class
-        } else {
-            0
+        if passing && !self.kept {
+            return 1 << WAITING;
         }
+        if self.used < slots_in(self.class) {
+            return 1 << self.class;
+        }
+        0
     }
 
     /// Whether a block stands in the slot.

@@ -131,6 +131,7 @@ fn agree(rt: &impl Abort, heap: &ClassHeap, slabs: &Slabs) {
             "of class {class}"
         );
     }
+    assert_eq!(rt; heap.is_calm(), slabs.is_calm());
 }
 
 #[test]

@@ -3,6 +3,7 @@ use Rattle.std.proofs.Common.{◌≡◌, ◌⊎◌, inl, inr, ℕ, suc, ◌+◌,
 use Rattle.std.specs.Prelude.{IfSome, count_by, unwrap_or}
 use Rattle.std.specs.List.{slice_get}
 use Rattle.std.proofs.lemmas.Bool.{cases_lt, cond-false, and_from, le-leb, lt-ltb}
+use Rattle.std.proofs.lemmas.List.Sums.{count_by-le-length}
 use Rattle.std.proofs.lemmas.Option.{slice_get_within, slice_get-get_or}
 use Rattle.blocks.specs.declared.BlockRef.{BlockRef}
 use Rattle.blocks.specs.declared.Moved.{Moved}
@@ -174,29 +175,43 @@ module _ {V : Type 0} (refs_of : V → List BlockRef) (marks : V → List ℕ) w
           ]
           calm r (of_mark e found before) = absurd before
 
-  -- no block of a key wants to move, and the walk goes past it from its start
-  module _ {E : Type 0} (encoding : V → E) (marked : (value : V) → length (marks value) ≡ length (refs_of value)) (bases : Bases V) (heap : Heap) (walk : Walk) (room count : ℕ) (start : walk.mark ≡ None)
-      (p : PassesElement refs_of marks encoding heap bases bases walk.database walk.item None room (record { next = None; used = count })) where
+  -- no block wants to move, and the walk goes past a key from its start
+  module _ {E : Type 0} (encoding : V → E) (marked : (value : V) → length (marks value) ≡ length (refs_of value)) (bases : Bases V) (heap : Heap) (walk : Walk) (room units : ℕ) (start : walk.mark ≡ None)
+      (e : Element V) (found : item (table_at bases walk.database) walk.item ≡ Some e) (calm : (r : BlockRef) → wants heap r ≡ false) (counted : length (marks e.value) ≤ units) (fits : units < room) where
     abbrev next : Walk
     next = record { database = walk.database; item = walk.item + 1; mark = walk.mark }
 
     abbrev passed : Moved
-    passed = record { next = None; used = count }
+    passed = record { next = None; used = units + 1 }
 
     is_behind : behind walk None ≡ next
     is_behind = λ i. record { database = walk.database; item = walk.item + 1; mark = (sym start) i }
 
+    key_passes : PassesElement refs_of marks encoding heap bases bases walk.database walk.item None room passed
+    key_passes = record {
+      was = e;
+      now = e;
+      replaces = record { found = found; stands = found; others = λ number other apart. refl };
+      name_passed = λ none. calm e.key;
+      name_stays = λ some. refl;
+      same_marks = refl;
+      same_encoding = refl;
+      passed = record { calm = λ index mark r has named isin. calm r; stays = λ index mark has below. refl };
+      bounded = record {
+        few = (let few = count_by-le-length (is_passed 0 None) (marks e.value) in omega (arith, few, counted));
+        within = omega (arith, fits);
+        on = tt;
+      };
+    }
+
     here_passes : PassesElement refs_of marks encoding heap bases bases walk.database walk.item walk.mark room passed
-    here_passes = subst (λ o. PassesElement refs_of marks encoding heap bases bases walk.database walk.item o room passed) (sym start) p
+    here_passes = subst (λ o. PassesElement refs_of marks encoding heap bases bases walk.database walk.item o room passed) (sym start) key_passes
 
     pub calm_swept : IsSwept refs_of marks bases heap walk → IsSwept refs_of marks bases heap next
     calm_swept s = subst (IsSwept refs_of marks bases heap) is_behind (swept_over encoding marked bases bases heap heap walk room passed here_passes (Calmer-same heap) s refl)
 
-    pub calm_leg : Leg (shape marks bases) walk count next
-    calm_leg = subst (Leg (shape marks bases) walk count) is_behind (leg_inside encoding marked bases bases heap heap walk room passed here_passes)
-
-    pub calm_some : (0 < count) × (count ≤ room)
-    calm_some = (omega (arith, p.bounded.few), p.bounded.within)
+    pub calm_leg : Leg (shape marks bases) walk (units + 1) next
+    calm_leg = subst (Leg (shape marks bases) walk (units + 1)) is_behind (leg_inside encoding marked bases bases heap heap walk room passed here_passes)
 
   -- ---- where all databases are passed, all blocks are
 

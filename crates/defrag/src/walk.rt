@@ -66,8 +66,8 @@ impl Walk {
         left >= KEY_ROOM || !keyspace.table(self.database).is_entry(self.item)
     }
 
-    // Passes keys of which no block wants to move, from the start of one on, while the units that are left are enough for any key.
-    // The answer is how many units that took.
+    // Passes keys from the start of one on where no block wants to move, while the units that are left are enough for any key. The
+    // answer is how many units that took.
     fn pass_calm<V: Held, B: BlockStore>(&mut self, keyspace: &Keyspace<V, B>, room: u32) -> u32
         requires database { self.old.database < 16 }
         requires start { self.old.mark ≡ None }
@@ -79,18 +79,21 @@ impl Walk {
         ensures start { self.new.mark ≡ None }
         ensures none { result ≡ 0 → self.new ≡ self.old }
     {
+        if !keyspace.store.is_calm() {
+            return 0;
+        }
         let table = keyspace.table(self.database);
         // an element's item number is below the top, so that there is a next one
         let _top = table.top();
         let mut left = room;
         'keys: while left >= KEY_ROOM && table.is_entry(self.item) {
-            match keyspace.calm_blocks(self.database, self.item, left) {
-                None => break,
-                Some(count) => {
-                    self.item += 1;
-                    left -= count;
-                }
+            let (_name, value) = table.entry(self.item);
+            let units = value.units();
+            if units >= left {
+                break;
             }
+            self.item += 1;
+            left -= units + 1;
         }
         room - left
     }

@@ -330,27 +330,6 @@ module _ {V : Type 0} (refs_of : V → List BlockRef) (value_of : Blocks → V �
         calm = ap (wants later) (some_same (key_at (item (table_at bases db) at)) _ _ (ap key_at found) is) ∙ calm;
       }
 
-  -- ---- no block of a key wants to move
-
-  -- a value's blocks are owned
-  pub element_owned : (bases : Bases V) (db at : ℕ) (m : Blocks) (e : Element V) → IsIntact refs_of bases m [] → item (table_at bases db) at ≡ Some e → Owned (refs_of e.value) m
-  element_owned bases db at m e intact found r = omega (arith, named_in refs_of (table_at bases db) at e r found, table_owned refs_of value_of own bases db r, intact.owned r)
-
-  -- its value's are passed from a mark on
-  pub looked_from : {E : Type 0} (marks : V → List ℕ) (encoding : V → E) (bases : Bases V) (db at : ℕ) (m : Blocks) (heap : Heap) (e : Element V) (mark : Option ℕ) (from room : ℕ) (answer : Moved) → item (table_at bases db) at ≡ Some e → mark ≡ Some from
-      → PassesPart refs_of value_of marks encoding m m heap heap e.value e.value from room answer → PassesElement refs_of marks encoding heap bases bases db at mark room answer
-  looked_from marks encoding bases db at m heap e mark from room answer found some part = subst (λ (o : Option ℕ). PassesElement refs_of marks encoding heap bases bases db at o room answer) (sym some) (record {
-    was = e;
-    now = e;
-    replaces = record { found = found; stands = found; others = λ number other apart. refl };
-    name_passed = λ none. cc;
-    name_stays = λ some'. refl;
-    same_marks = refl;
-    same_encoding = refl;
-    passed = part.passed;
-    bounded = record { few = omega (arith, part.bounded.few); within = part.bounded.within; on = part.bounded.on };
-  })
-
   -- ---- the blocks of a value move
 
   module _ (old mid : Bases V) (db at : ℕ) (m : Blocks) (intact : IsIntact refs_of old m []) (c : ChangesTable old mid db) (was vacant : V) (none : refs_of vacant ≡ []) (s : Swaps (table_at old db) (table_at mid db) at was vacant) (keyed : Keyed m (table_at mid db)) where
@@ -508,16 +487,3 @@ module _ {V E : Type 0} (refs_of : V → List BlockRef) (marks : V → List ℕ)
 
       value : q.was.value ≡ p.was.value
       value = ap (λ (x : Element V). x.value) same ∙ p.same_value
-
--- no block of a key wants to move, from its own on
-pub looked_at : {V E : Type 0} (refs_of : V → List BlockRef) (value_of : Blocks → V → Value) (own : ReadsOwn refs_of value_of) (marks : V → List ℕ) (encoding : V → E) (bases : Bases V) (db at : ℕ) (m : Blocks) (heap : Heap) (e : Element V) (mark : Option ℕ) (room : ℕ) (answer : Moved) → item (table_at bases db) at ≡ Some e → mark ≡ None → 0 < room → wants heap e.key ≡ false
-    → PassesPart refs_of value_of marks encoding m m heap heap e.value e.value 0 (room - 1) answer → PassesElement refs_of marks encoding heap bases bases db at mark room (record { next = answer.next; used = answer.used + 1 })
-looked_at refs_of value_of own marks encoding bases db at m heap e mark room answer found none some calm part =
-    element_passes refs_of marks encoding heap heap bases bases bases db at mark room answer none some
-    (record { was = e; now = e; replaces = record { found = found; stands = found; others = λ number other apart. refl }; same_value = refl; calm = calm })
-    (looked_from refs_of value_of own marks encoding bases db at m heap e (Some 0) 0 (room - 1) answer found refl part)
-    (Calmer-same heap)
-
-pub some_so : {A : Type 0} {P Q : A → Type 0} (o : Option A) → ((a : A) → P a → Q a) → IfSome o P → IfSome o Q
-some_so None so h = tt
-some_so (Some a) so h = so a h

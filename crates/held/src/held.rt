@@ -1,4 +1,4 @@
-ghost use Rattle.std.specs.Prelude.{◌≡◌, ℕ, ◌≤◌, List, [], length, None, IfSome};
+ghost use Rattle.std.specs.Prelude.{◌≡◌, ℕ, ◌+◌, ◌^◌, ◌<◌, ◌≤◌, List, [], length};
 ghost use Rattle.blocks.specs.declared.BlockRef.{BlockRef};
 ghost use Rattle.blocks.specs.Blocks.{Blocks, Changes, Owned, Served};
 ghost use Rattle.plain_world.specs.Worlds.{Value};
@@ -44,12 +44,10 @@ pub trait Held: Drop {
         requires room { 32 ≤ room }
         ensures { PassesPart refs_of value_of marks encoding (B.blocks store.old) (B.blocks store.new) (B.heap store.old) (B.heap store.new) self.old self.new from room result };
 
-    /// How many blocks it has, where none of them wants to move and they are at most `room`: a call of `relocate_part` would pass
-    /// just these. `None` comes where it may be otherwise.
-    fn calm_blocks<B: BlockStore>(&self, store: &B, room: u32) -> Option<u32>
-        requires owned { Owned (refs_of self.now) (B.blocks store.now) }
-        requires room { 32 ≤ room }
-        ensures { IfSome result (λ count. PassesPart refs_of value_of marks encoding (B.blocks store.now) (B.blocks store.now) (B.heap store.now) (B.heap store.now) self.now self.now 0 room (record { next = None; used = count })) };
+    /// How many units a walk counts for it: its blocks, and the vacant places between them. The greatest number stands for all
+    /// above it too. It looks at no block.
+    fn units(&self) -> u32
+        ensures { result + 1 < 2 ^ 32 → length (marks self.now) ≤ result };
 
     /// Each of its references has a mark.
     ghost marked: { (value : Self) → length (marks value) ≡ length (refs_of value) };

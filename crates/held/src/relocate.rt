@@ -1,6 +1,6 @@
 // Blocks that move, a bounded part of one key's at a time.
 
-ghost use Rattle.std.specs.Prelude.{◌≡◌, ◌<◌, ◌≤◌, ℕ, [], List, Some, IsSome, IfSome};
+ghost use Rattle.std.specs.Prelude.{◌≡◌, ◌<◌, ◌≤◌, ℕ, [], List, Some, IsSome};
 ghost use Rattle.blocks.specs.declared.BlockRef.{BlockRef};
 ghost use Rattle.blocks.specs.Slabs.{Calmer};
 ghost use Rattle.held.specs.Databases.{table_at};
@@ -61,25 +61,6 @@ impl<V: Held, B: BlockStore> Keyspace<V, B> {
         let moved = value.relocate_part(&mut self.store, from, room);
         let _zero = self.bases.swap_value(db, at, value);
         moved
-    }
-
-    /// How many blocks a key has, its own and those of its value, where none of them wants to move and they are at most `room`: a
-    /// call of `relocate_key_part` without a mark would pass just these. `None` comes where it may be otherwise.
-    pub fn calm_blocks(&self, db: usize, at: usize, room: u32) -> Option<u32>
-        requires db { db < 16 }
-        requires element { IsSome (item (table_at self.now.bases db) at) }
-        requires room { 33 ≤ room }
-        requires intact { IsIntact V.refs_of self.now.bases (B.blocks self.now.store) [] }
-        ensures { IfSome result (λ count. PassesElement V.refs_of V.marks V.encoding (B.heap self.now.store) self.now.bases self.now.bases db at None room (record { next = None; used = count })) }
-    {
-        let (name, value) = self.bases.table(db).entry(at);
-        if self.store.wants_move(name) {
-            return None;
-        }
-        match value.calm_blocks(&self.store, room - 1) {
-            None => None,
-            Some(count) => Some(count + 1),
-        }
     }
 
     /// Goes through the blocks of one key, at most `room` of them and of vacant places, and moves each that wants it: the key's

@@ -95,11 +95,3 @@ text_passes m after heap later old new from room answer bytes raw changes calmer
     on = subst (λ o. IfSome o (λ to. (from < to) × (room ≤ answer.used + 17))) (sym next) tt;
   };
 }
-
--- the same where nothing moves
-pub text_calm : (m : Blocks) (heap : Heap) (value : Value) (text : string.Text) (room : ℕ) (o : Option ℕ) → value ≡ Text text → Owned (value_refs value) m → IfSome o (λ count. All (λ r. wants heap r ≡ false) (text_refs text))
-    → IfSome o (λ count. count ≡ length (text_refs text)) → 32 ≤ room → IfSome o (λ count. PassesPart value_refs value_of value_marks encoding_of m m heap heap value value 0 room (record { next = None; used = count }))
-text_calm m heap value text room None is owned calm count wide = tt
-text_calm m heap value text room (Some n) is owned calm count wide =
-    subst (λ v. PassesPart value_refs value_of value_marks encoding_of m m heap heap v v 0 room (record { next = None; used = n })) (sym is)
-    (text_passes m m heap heap text text 0 room (record { next = None; used = n }) refl refl (Changes-same m (text_refs text) (subst (λ v. Owned (value_refs v) m) is owned)) (Calmer-same heap) refl (λ first. calm) (λ above. refl) refl count wide)

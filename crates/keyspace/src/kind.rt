@@ -44,8 +44,7 @@ impl Held for Value {
         moved
     }
 
-    fn calm_blocks<B: BlockStore>(&self, store: &B, room: u32) -> Option<u32> {
-        let _ = room;
-        self.as_text().calm_blocks(store)
+    fn units(&self) -> u32 {
+        self.as_text().block_count()
     }
 }

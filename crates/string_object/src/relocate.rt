@@ -1,25 +1,13 @@
 // Strings whose blocks move.
 
-ghost use Rattle.std.specs.Prelude.{◌≡◌, ◌==◌, ◌<◌, ◌≤◌, None, length, false, true, if◌then◌else◌, IsSome, IfSome, IfNone};
+ghost use Rattle.std.specs.Prelude.{◌≡◌, ◌==◌, ◌<◌, ◌≤◌, None, length, false, true, if◌then◌else◌};
 ghost use Rattle.std.specs.List.{All};
 ghost use Rattle.blocks.specs.Blocks.{Changes, Owned};
 ghost use Rattle.blocks.specs.Slabs.{wants, Calmer};
 ghost use Rattle.string_object.specs.Text.{text_bytes, text_refs, is_raw};
 
 use crate::Text;
-use blocks::{BlockRef, BlockStore, Moved, settle};
-
-// One block, where it wants no move.
-fn calm_block<B: BlockStore>(store: &B, at: BlockRef) -> Option<u32>
-    requires { IsSome (B.blocks store.now at) }
-    ensures some { IfSome result (λ count. (wants (B.heap store.now) at ≡ false) × (count ≡ 1)) }
-    ensures none { IfNone result (wants (B.heap store.now) at ≡ true) }
-{
-    if store.wants_move(at) {
-        return None;
-    }
-    Some(1)
-}
+use blocks::{BlockStore, Moved, settle};
 
 impl Text {
     /// Goes through the blocks from the mark `from` on, and moves each that wants it. The mark of a string's block is 0, so that
@@ -57,17 +45,13 @@ impl Text {
         Moved { next: None, used }
     }
 
-    /// How many blocks the string has, where none of them wants to move. `None` comes exactly where one wants to.
-    pub fn calm_blocks<B: BlockStore>(&self, store: &B) -> Option<u32>
-        requires owned { Owned (text_refs self.now) (B.blocks store.now) }
-        ensures calm { IfSome result (λ count. All (λ r. wants (B.heap store.now) r ≡ false) (text_refs self.now)) }
-        ensures count { IfSome result (λ count. count ≡ length (text_refs self.now)) }
-        ensures none { IfNone result (All (λ r. wants (B.heap store.now) r ≡ true) (text_refs self.now) × (length (text_refs self.now) ≡ 1)) }
+    /// How many blocks the string has.
+    pub fn block_count(&self) -> u32
+        ensures { result ≡ length (text_refs self.now) }
     {
         match *self {
-            Text::Number(_) => Some(0),
-            Text::Whole(at) => calm_block(store, at),
-            Text::Raw(at) => calm_block(store, at),
+            Text::Number(_) => 0,
+            Text::Whole(_) | Text::Raw(_) => 1,
         }
     }
 }

@@ -42,7 +42,7 @@ fn ranges_are_written(rt: HostRuntime) -> Result<(), Fail> {
     assert_eq!(rt; text.name(&store), Name::Raw);
     // A plain store has no slab, so no block wants to move.
     let passed = |used| Moved { next: None, used };
-    assert_eq!(rt; text.calm_blocks(&store), Some(1));
+    assert_eq!(rt; text.block_count(), 1);
     assert_eq!(rt; text.relocate_part(&mut store, 0, 32), passed(1));
     assert_eq!(rt; text.relocate_part(&mut store, 1, 32), passed(0));
     assert_eq!(rt; text.bytes(&store, &mut room), b"\0z\0ab".as_slice());
