@@ -2,6 +2,8 @@
 
 use crate::test_runs::run_planned;
 use outside::{MemSink, Plan};
+use rand_core::Rng;
+use rand_pcg::Pcg32;
 use std::alloc::{AllocError, Global};
 use std::test::Fail;
 
@@ -25,15 +27,23 @@ fn push_request(alloc: Global, stream: &mut Vec<u8>, number: u64) -> Result<(), 
     stream.extend_from_slice(line.as_bytes())
 }
 
-// The bytes answered, where so many steps of each kind are planned in turn after each request.
-fn answered(alloc: Global, stream: &[u8], steps: u32) -> Result<MemSink, AllocError> {
+// A number of steps below a bound; none for the bound 0.
+fn steps(dice: &mut Pcg32, bound: u32) -> u32 {
+    if bound == 0 {
+        return 0;
+    }
+    dice.next_u32() % bound
+}
+
+// The bytes answered, where fewer steps of each kind than a bound are planned after each request.
+fn answered(alloc: Global, stream: &[u8], dice: &mut Pcg32, bound: u32) -> Result<MemSink, AllocError> {
     let mut plans = Vec::new(alloc);
     let mut moments = Vec::new(alloc);
     for number in 0..COUNT {
         plans.push(Plan {
-            rehash: if number % 3 == 0 { steps } else { 0 },
-            defrag: if number % 2 == 0 { steps } else { 1 },
-            expire: if number % 5 == 0 { steps } else { 0 },
+            rehash: steps(dice, bound),
+            defrag: steps(dice, bound),
+            expire: steps(dice, bound),
         })?;
         moments.push(number)?;
     }
@@ -46,10 +56,11 @@ fn plans_change_no_reply(rt: HostRuntime) -> Result<(), Fail> {
     for number in 0..COUNT {
         push_request(rt.alloc(), &mut stream, number)?;
     }
-    let bare = answered(rt.alloc(), stream.as_slice(), 0)?;
+    let mut dice = Pcg32::new(61, 7);
+    let bare = answered(rt.alloc(), stream.as_slice(), &mut dice, 0)?;
     assert!(rt; bare.written().len() > 1_000);
-    for steps in [1u32, 3, 40] {
-        let planned = answered(rt.alloc(), stream.as_slice(), steps)?;
+    for bound in [2u32, 4, 4, 41] {
+        let planned = answered(rt.alloc(), stream.as_slice(), &mut dice, bound)?;
         assert_eq!(rt; planned.written(), bare.written());
     }
     Ok(())
