@@ -249,6 +249,26 @@ impl<V> Dict<V> {
         ensures grown { Grown (hash_of self.old.seed) (key_tables (B.blocks store.now) self.old) (key_tables (B.blocks store.now) self.new) }
     {
         let hash = self.hash(key);
+        self.remove_hashed(store, hash, key)
+    }
+
+    /// Takes out a key whose hash is at hand, as `remove` does.
+    pub fn remove_hashed<B: BlockStore>(
+        &mut self,
+        store: &B,
+        hash: u64,
+        key: &[u8],
+    ) -> Option<(BlockRef, V)>
+        requires keyed { Keyed (B.blocks store.now) self.old }
+        requires hashed { hash ≡ hash_of self.old.seed key.now }
+        ensures removed { IfSome result (λ pair. Removes (B.blocks store.now) self.old self.new key.now pair.0 pair.1) }
+        ensures keyed { Keyed (B.blocks store.now) self.new }
+        ensures tables { IfSome result (λ _. key_tables (B.blocks store.now) self.new ≡ removed same_key (key_tables (B.blocks store.now) self.old) key.now) }
+        ensures none { IfNone result ((self.new ≡ self.old) × Lacks (B.blocks store.now) self.old key.now) }
+        ensures map { content (B.blocks store.now) self.new ≡ remove (content (B.blocks store.now) self.old) key.now }
+        ensures had { get (content (B.blocks store.now) self.old) key.now ≡ value_taken result }
+        ensures grown { Grown (hash_of self.old.seed) (key_tables (B.blocks store.now) self.old) (key_tables (B.blocks store.now) self.new) }
+    {
         if let Some(spot) = self.search(Side::Older, store, hash, key) {
             return Some(self.take(Side::Older, hash, spot));
         }

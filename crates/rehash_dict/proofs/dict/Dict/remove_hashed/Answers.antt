@@ -3,7 +3,7 @@ use Rattle.rehash_dict.proofs.Edited.{lacks_both, removed_tables}
 use Rattle.rehash_dict.specs.Keyed.{hash_of}
 use Rattle.rehash_dict.proofs.Growing.{Grown-remove, Grown-same}
 use Rattle.rehash_dict.proofs.MapOf.{map_of-kept, map_of-lacks, content-takes, content-took}
-use Rattle.rehash_dict.proofs.dict.Dict.remove.Goals as goal
+use Rattle.rehash_dict.proofs.dict.Dict.remove_hashed.Goals as goal
 
 pub returns-in-Some-clause-tables : goal.returns-in-Some-clause-tables
 returns-in-Some-clause-tables g c = removed_tables (g.B.BlockStore.blocks c.args.store.now) c.args.self.now c.take.new.self c.in-Some.spot.at c.args.key.now _ _ c.requires.keyed c.in-Some.ensures.found.stands c.take.ensures
@@ -12,7 +12,7 @@ pub returns-in-Some-search-clause-tables : goal.returns-in-Some-search-clause-ta
 returns-in-Some-search-clause-tables g c = removed_tables (g.B.BlockStore.blocks c.args.store.now) c.args.self.now c.take-in-Some-search.new.self c.in-Some-search.spot.at c.args.key.now _ _ c.requires.keyed c.in-Some-search.ensures.found.stands c.take-in-Some-search.ensures
 
 pub returns-in-None-clause-none : goal.returns-in-None-clause-none
-returns-in-None-clause-none g c = (refl, lacks_both (g.B.BlockStore.blocks c.args.store.now) c.args.self.now c.hash-hash.result c.args.key.now c.requires.keyed c.hash-hash.ensures c.in_default.ensures.none c.in-None.ensures.none)
+returns-in-None-clause-none g c = (refl, lacks_both (g.B.BlockStore.blocks c.args.store.now) c.args.self.now c.args.hash c.args.key.now c.requires.keyed c.requires.hashed c.in_default.ensures.none c.in-None.ensures.none)
 
 pub returns-in-Some-clause-map : goal.returns-in-Some-clause-map
 returns-in-Some-clause-map g c = content-takes (g.B.BlockStore.blocks c.args.store.now) c.args.self.now c.take.new.self c.in-Some.spot.at c.args.key.now _ _ c.requires.keyed c.in-Some.ensures.found.stands c.take.ensures
