@@ -1,11 +1,11 @@
 -- What becomes of deadlines where a key gets one.
-use Rattle.std.proofs.Common.{◌≡◌, ℕ, List, [], Some, IsSome, is_some, unwrap_or, refl, sym, ap, ◌∙◌, subst}
+use Rattle.std.proofs.Common.{◌≡◌, ℕ, List, [], Some, IsSome, unwrap_or, refl, ap, ◌∙◌, subst}
 use Rattle.std.specs.FinMap.{insert}
 use Rattle.blocks.specs.declared.BlockRef.{BlockRef}
 use Rattle.blocks.specs.Blocks.{Blocks, bytes_at}
 use Rattle.rehash_dict.specs.Table.{Table}
-use Rattle.rehash_dict.specs.Keyed.{hash_of, key_of, Stands, Lacks, Keyed, key_tables}
-use Rattle.rehash_dict.specs.Steps.{Adds, Swaps}
+use Rattle.rehash_dict.specs.Keyed.{hash_of, key_of, Lacks, Keyed, key_tables}
+use Rattle.rehash_dict.specs.Steps.{Adds}
 use Rattle.rehash_dict.specs.MapOf.{content}
 use Rattle.rehash_dict.specs.Grown.{Grown}
 use Rattle.rehash_dict.proofs.Growing.{Grown-insert, Grown-same}
@@ -17,23 +17,16 @@ pub read : (m : Blocks) (key : BlockRef) (bytes : List ℕ) → m key ≡ Some b
 read m key bytes h = ap (λ o. unwrap_or o []) h
 
 module _ (m : Blocks) (t new : Table ℕ) (key : BlockRef) (deadline : ℕ) where
-  -- the key has a deadline
-  pub changed : (bytes : List ℕ) (at was : ℕ) → m key ≡ Some bytes → Stands m t at bytes → Swaps t new at was deadline → key_tables m new ≡ key_tables m t → Sets m t new key deadline
-  changed bytes at was live stands swaps tables = changes at was (subst (Stands m t at) (sym (read m key bytes live)) stands) swaps tables
-
   -- the key has none
-  module _ (bytes : List ℕ) (hash at : ℕ) (keyed : Keyed m t) (live : m key ≡ Some bytes) (is : hash ≡ hash_of t.seed bytes) (lacks : Lacks m t bytes) (adds : Adds t new at (record { key = key; hash = hash; value = deadline })) where
+  module _ (hash at : ℕ) (keyed : Keyed m t) (live : IsSome (m key)) (is : hash ≡ hash_of t.seed (bytes_at m key)) (lacks : Lacks m t (bytes_at m key)) (adds : Adds t new at (record { key = key; hash = hash; value = deadline })) where
     added : Adds t new at (record { key = key; hash = hash_of t.seed (bytes_at m key); value = deadline })
-    added = subst (λ h. Adds t new at (record { key = key; hash = h; value = deadline })) (is ∙ ap (hash_of t.seed) (sym (read m key bytes live))) adds
-
-    missing : Lacks m t (bytes_at m key)
-    missing = subst (Lacks m t) (sym (read m key bytes live)) lacks
+    added = subst (λ h. Adds t new at (record { key = key; hash = h; value = deadline })) is adds
 
     pub keyed_joined : Keyed m new
-    keyed_joined = (added.keyed m keyed (ap is_some live) refl missing).0
+    keyed_joined = (added.keyed m keyed live refl lacks).0
 
     pub joined : Sets m t new key deadline
-    joined = joins at missing added (added.keyed m keyed (ap is_some live) refl missing).1
+    joined = joins at lacks added (added.keyed m keyed live refl lacks).1
 
   pub moments_set : Keyed m t → Keyed m new → IsSome (m key) → Sets m t new key deadline → content m new ≡ insert (content m t) (bytes_at m key) deadline
   moments_set k l live (changes at was stands swaps tables) =

@@ -3,7 +3,7 @@ ghost use Rattle.blocks.specs.Blocks.{Blocks, bytes_at};
 ghost use Rattle.rev_cursor.specs.Span.{Span};
 ghost use Rattle.rehash_dict.specs.Tables.{is_rehashing, rehashed, shrunk, wants_shrink, IsSettled};
 ghost use Rattle.rehash_dict.specs.Table.{Table, item, tables};
-ghost use Rattle.rehash_dict.specs.Keyed.{hash_of, Lacks, Keyed, key_tables};
+ghost use Rattle.rehash_dict.specs.Keyed.{hash_of, Stands, Lacks, Keyed, key_tables};
 ghost use Rattle.rehash_dict.specs.Scan.{scanned};
 ghost use Rattle.rehash_dict.specs.ScanPlaces.{place_in};
 ghost use Rattle.rehash_dict.specs.Steps.{Renames};
@@ -121,15 +121,65 @@ impl Deadlines {
         ensures cursor { KeepsCursor self.old self.new }
         ensures err { OnErr result ((self.new ≡ self.old) × Lacks (B.blocks store.now) self.old.table (bytes_at (B.blocks store.now) key)) }
     {
-        let bytes = store.bytes(key);
-        let hash = self.table.hash(bytes);
-        if let Some(at) = self.table.find_hashed(store, hash, bytes) {
-            let _was = self.table.swap_value(at, deadline);
-            return Ok(());
-        }
-        match self.table.insert_hashed(hash, key, deadline) {
-            Ok(_at) => Ok(()),
-            Err((_deadline, error)) => Err(error),
+        let hash = self.table.hash(store.bytes(key));
+        self.set_hashed(store, hash, key, deadline)
+    }
+
+    /// Gives a key whose hash is at hand this deadline, as `set` does.
+    pub fn set_hashed<B: BlockStore>(
+        &mut self,
+        store: &B,
+        hash: u64,
+        key: BlockRef,
+        deadline: u64,
+    ) -> Result<(), Memory>
+        requires keyed { Keyed (B.blocks store.now) self.old.table }
+        requires live { IsSome (B.blocks store.now key) }
+        requires hashed { hash ≡ hash_of self.old.table.seed (bytes_at (B.blocks store.now) key) }
+        ensures set { OnOk result (Sets (B.blocks store.now) self.old.table self.new.table key deadline) }
+        ensures moments { OnOk result (moments (B.blocks store.now) self.new ≡ insert (moments (B.blocks store.now) self.old) (bytes_at (B.blocks store.now) key) deadline) }
+        ensures grown { Grows (B.blocks store.now) self.old self.new }
+        ensures keyed { Keyed (B.blocks store.now) self.new.table }
+        ensures cursor { KeepsCursor self.old self.new }
+        ensures err { OnErr result ((self.new ≡ self.old) × Lacks (B.blocks store.now) self.old.table (bytes_at (B.blocks store.now) key)) }
+    {
+        let found = self.table.find_hashed(store, hash, store.bytes(key));
+        self.set_found(store, found, hash, key, deadline)
+    }
+
+    /// Gives a key this deadline, as `set` does. The item number of the deadline that it has is handed in, and that it has none
+    /// by `None`.
+    pub fn set_found<B: BlockStore>(
+        &mut self,
+        store: &B,
+        found: Option<usize>,
+        hash: u64,
+        key: BlockRef,
+        deadline: u64,
+    ) -> Result<(), Memory>
+        requires keyed { Keyed (B.blocks store.now) self.old.table }
+        requires live { IsSome (B.blocks store.now key) }
+        requires hashed { hash ≡ hash_of self.old.table.seed (bytes_at (B.blocks store.now) key) }
+        requires stands { IfSome found (λ at. Stands (B.blocks store.now) self.old.table at (bytes_at (B.blocks store.now) key)) }
+        requires lacks { IfNone found (Lacks (B.blocks store.now) self.old.table (bytes_at (B.blocks store.now) key)) }
+        ensures set { OnOk result (Sets (B.blocks store.now) self.old.table self.new.table key deadline) }
+        ensures moments { OnOk result (moments (B.blocks store.now) self.new ≡ insert (moments (B.blocks store.now) self.old) (bytes_at (B.blocks store.now) key) deadline) }
+        ensures grown { Grows (B.blocks store.now) self.old self.new }
+        ensures keyed { Keyed (B.blocks store.now) self.new.table }
+        ensures cursor { KeepsCursor self.old self.new }
+        ensures err { OnErr result ((self.new ≡ self.old) × Lacks (B.blocks store.now) self.old.table (bytes_at (B.blocks store.now) key)) }
+    {
+        // what was found, and the key's bytes, are those over this store
+        let _ = store;
+        match found {
+            Some(at) => {
+                let _was = self.table.swap_value(at, deadline);
+                Ok(())
+            }
+            None => match self.table.insert_hashed(hash, key, deadline) {
+                Ok(_at) => Ok(()),
+                Err((_deadline, error)) => Err(error),
+            },
         }
     }
 
@@ -157,7 +207,22 @@ impl Deadlines {
         ensures keyed { Keyed (B.blocks store.now) self.new.table }
         ensures cursor { KeepsCursor self.old self.new }
     {
-        match self.table.remove(store, key) {
+        let hash = self.table.hash(key);
+        self.clear_hashed(store, hash, key)
+    }
+
+    /// Takes away the deadline of a key whose hash is at hand, as `clear` does.
+    pub fn clear_hashed<B: BlockStore>(&mut self, store: &B, hash: u64, key: &[u8]) -> bool
+        requires keyed { Keyed (B.blocks store.now) self.old.table }
+        requires hashed { hash ≡ hash_of self.old.table.seed key.now }
+        ensures value { result ≡ is_some (get (moments (B.blocks store.now) self.old) key.now) }
+        ensures moments { moments (B.blocks store.now) self.new ≡ remove (moments (B.blocks store.now) self.old) key.now }
+        ensures grown { Grows (B.blocks store.now) self.old self.new }
+        ensures cleared { MatchBool result (Clears (B.blocks store.now) self.old.table self.new.table key.now) ((self.new ≡ self.old) × Lacks (B.blocks store.now) self.old.table key.now) }
+        ensures keyed { Keyed (B.blocks store.now) self.new.table }
+        ensures cursor { KeepsCursor self.old self.new }
+    {
+        match self.table.remove_hashed(store, hash, key) {
             Some(_pair) => true,
             None => false,
         }
