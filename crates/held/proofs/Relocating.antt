@@ -7,7 +7,6 @@ use Rattle.blocks.specs.declared.Moved.{Moved}
 use Rattle.blocks.specs.Blocks.{Blocks, times, Changes, Owned}
 use Rattle.blocks.specs.Slabs.{Heap, wants, Calmer}
 use Rattle.blocks.proofs.Refs.{cases_ref}
-use Rattle.blocks.proofs.Sweeps.{Calmer-same}
 use Rattle.blocks.proofs.Change.{one, cases_in, live-once, Changes-same, Changes-then, Changes-beside, Changes-owned, Owned-others}
 use Rattle.object_codec.specs.Limits.{AreInRange}
 use Rattle.plain_world.specs.Worlds.{Value}
@@ -22,8 +21,7 @@ use Rattle.held.specs.Databases.{ReadsOwn, Bases, base_at, table_at, deadlines_a
 use Rattle.held.specs.Sound.{Names, IsTimed, IsArranged, IsIntact}
 use Rattle.held.specs.Relocation.{is_passed, IsBounded, PassesPart, Relocates, Replaces, PassesName, PassesElement}
 use Rattle.held.proofs.Timing.{some_same, timed_frame, timed_swaps}
-use Rattle.held.proofs.Tables.{named_in}
-use Rattle.held.proofs.Bases.{table_owned, owned_changed, owned_swaps, kept_inside, base_then}
+use Rattle.held.proofs.Bases.{owned_changed, owned_swaps, kept_inside, base_then}
 use Rattle.held.proofs.Calls.{item_owned, key_itself, over_intact, settings_then}
 
 -- a reference that stands in a list of one is that one

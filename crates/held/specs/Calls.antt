@@ -1,11 +1,12 @@
 -- What the calls of a keyspace hand out.
-use Rattle.std.specs.Prelude.{◌≡◌, ◌⊎◌, ℕ, ◌+◌, ◌<◌, ◌^◌, List, Option, Some, IfSome, IfNone, true}
+use Rattle.std.specs.Prelude.{◌≡◌, ◌⊎◌, ℕ, ◌+◌, ◌<◌, ◌^◌, List, Option, None, Some, IfSome, IfNone, true}
 use Rattle.blocks.specs.declared.BlockRef.{BlockRef}
 use Rattle.blocks.specs.Blocks.{Blocks, Owned, times}
-use Rattle.plain_world.specs.Worlds.{World, Entry, Value, look, put, live, in_time}
+use Rattle.plain_world.specs.Worlds.{World, Entry, Value, look, put, live, in_time, deadline_of}
 use Rattle.rehash_dict.specs.Keyed.{hash_of}
 use Rattle.held.specs.declared.keyspace.Lifted.{Lifted}
 use Rattle.held.specs.declared.seeking.Sought.{Sought}
+use Rattle.held.specs.declared.seeking.SoughtAt.{SoughtAt}
 use Rattle.std.specs.FinMap.{get}
 use Rattle.expiry.specs.Timed.{Timed, moments, Grows, KeepsCursor}
 use Rattle.expiry.specs.Changes.{Clears}
@@ -120,3 +121,15 @@ pub record HasUntil (world : World) (key : List ℕ) (deadline : Option ℕ) : T
 -- a deadline is at most 2^63 - 1
 abbrev pub IsDeadline : Option ℕ → Type 0
 IsDeadline deadline = IfSome deadline (λ d. d < 2 ^ 63)
+
+-- What a search for a key and for its deadline found, and what is seen of the key at a moment: it is there, with this deadline
+-- or without one, or it isn't. The deadline is told also where it is past.
+pub record Sees {V : Type 0} (value_of : Blocks → V → Value) (bases : Bases V) (blocks : Blocks) (db : ℕ) (key : List ℕ) (moment : ℕ) (found : SoughtAt) : Type 0 where
+  pub seeks : Seeks bases blocks db key found.sought
+  pub timed : IfSome found.timed (λ at. Stands blocks (deadlines_at bases db).table at key)
+  pub untimed : IfNone found.timed (Lacks blocks (deadlines_at bases db).table key)
+  pub lasts : found.deadline ≡ deadline_of (look (means value_of db bases blocks) key)
+  pub latest : IsDeadline found.deadline
+  pub there : IfSome found.there (λ at. StandsAt bases blocks db key moment at)
+  pub until : IfSome found.there (λ at. HasUntil (live (means value_of db bases blocks) moment) key found.deadline)
+  pub gone : IfNone found.there (look (live (means value_of db bases blocks) moment) key ≡ None)

@@ -121,16 +121,6 @@ impl<V: Drop> Databases<V> {
         self.bases[db].keys.len()
     }
 
-    // The item number of a key.
-    pub(crate) fn find<B: BlockStore>(&self, store: &B, db: usize, key: &[u8]) -> Option<usize>
-        requires db { db < length self.now.bases }
-        requires keyed { Keyed (B.blocks store.now) (table_at self.now db) }
-        ensures found { IfSome result (λ at. Stands (B.blocks store.now) (table_at self.now db) at key.now) }
-        ensures none { IfNone result (Lacks (B.blocks store.now) (table_at self.now db) key.now) }
-    {
-        self.bases[db].keys.find(store, key)
-    }
-
     // The hash of a key, under the seed of a database's keys.
     pub(crate) fn hash(&self, db: usize, key: &[u8]) -> u64
         requires { db < length self.now.bases }
@@ -195,27 +185,30 @@ impl<V: Drop> Databases<V> {
         self.bases[db].deadlines.get(store, key)
     }
 
-    // The same of a key whose hash is at hand.
-    pub(crate) fn deadline_hashed<B: BlockStore>(
+    // The item number of the deadline of a key whose hash is at hand, and that deadline.
+    pub(crate) fn timed_hashed<B: BlockStore>(
         &self,
         store: &B,
         db: usize,
         hash: u64,
         key: &[u8],
-    ) -> Option<u64>
+    ) -> (Option<usize>, Option<u64>)
         requires db { db < length self.now.bases }
         requires keyed { Keyed (B.blocks store.now) (deadlines_at self.now db).table }
         requires hashed { hash ≡ hash_of (deadlines_at self.now db).table.seed key.now }
-        ensures value { get (moments (B.blocks store.now) (deadlines_at self.now db)) key.now ≡ result }
-        ensures found { IfSome result (λ deadline. HasDeadline (B.blocks store.now) (deadlines_at self.now db).table key.now deadline) }
+        ensures stands { IfSome result.0 (λ at. Stands (B.blocks store.now) (deadlines_at self.now db).table at key.now) }
+        ensures lacks { IfNone result.0 (Lacks (B.blocks store.now) (deadlines_at self.now db).table key.now) }
+        ensures value { get (moments (B.blocks store.now) (deadlines_at self.now db)) key.now ≡ result.1 }
+        ensures found { IfSome result.1 (λ deadline. HasDeadline (B.blocks store.now) (deadlines_at self.now db).table key.now deadline) }
     {
         if self.has_no_deadline(db) {
-            return None;
+            return (None, None);
         }
         let table = self.bases[db].deadlines.table();
-        let at = table.find_hashed(store, hash, key)?;
-        let (_key, deadline) = table.entry(at);
-        Some(*deadline)
+        match table.find_hashed(store, hash, key) {
+            None => (None, None),
+            Some(at) => (Some(at), Some(*table.entry(at).1)),
+        }
     }
 
     // A number above each item number of a database's deadlines.
@@ -243,17 +236,23 @@ impl<V: Drop> Databases<V> {
         Some(name)
     }
 
-    // Gives the key of this block a deadline, in milliseconds. `Memory` leaves all.
+    // Gives the key of this block a deadline, in milliseconds, by what was found of the one that it has: its item number.
+    // `Memory` leaves all.
     pub(crate) fn set_deadline<B: BlockStore>(
         &mut self,
         store: &B,
         db: usize,
+        timed: Option<usize>,
+        hash: u64,
         key: BlockRef,
         deadline: u64,
     ) -> Result<(), Memory>
         requires db { db < length self.old.bases }
         requires keyed { Keyed (B.blocks store.now) (deadlines_at self.old db).table }
         requires live { IsSome (B.blocks store.now key) }
+        requires hashed { hash ≡ hash_of (deadlines_at self.old db).table.seed (bytes_at (B.blocks store.now) key) }
+        requires stands { IfSome timed (λ at. Stands (B.blocks store.now) (deadlines_at self.old db).table at (bytes_at (B.blocks store.now) key)) }
+        requires lacks { IfNone timed (Lacks (B.blocks store.now) (deadlines_at self.old db).table (bytes_at (B.blocks store.now) key)) }
         ensures changes { ChangesDeadlines self.old self.new db }
         ensures set { OnOk result (Sets (B.blocks store.now) (deadlines_at self.old db).table (deadlines_at self.new db).table key deadline) }
         ensures grown { Grows (B.blocks store.now) (deadlines_at self.old db) (deadlines_at self.new db) }
@@ -262,13 +261,22 @@ impl<V: Drop> Databases<V> {
         ensures keyed { Keyed (B.blocks store.now) (deadlines_at self.new db).table }
         ensures err { OnErr result (self.new ≡ self.old) }
     {
-        self.bases[db].deadlines.set(store, key, deadline)
+        self.bases[db]
+            .deadlines
+            .set_found(store, timed, hash, key, deadline)
     }
 
-    // Takes the deadline of a key away, where it has one.
-    pub(crate) fn clear_deadline<B: BlockStore>(&mut self, store: &B, db: usize, key: &[u8])
+    // Takes the deadline of a key away, where it has one. The key's hash is at hand.
+    pub(crate) fn clear_deadline<B: BlockStore>(
+        &mut self,
+        store: &B,
+        db: usize,
+        hash: u64,
+        key: &[u8],
+    )
         requires db { db < length self.old.bases }
         requires keyed { Keyed (B.blocks store.now) (deadlines_at self.old db).table }
+        requires hashed { hash ≡ hash_of (deadlines_at self.old db).table.seed key.now }
         ensures changes { ChangesDeadlines self.old self.new db }
         ensures grown { Grows (B.blocks store.now) (deadlines_at self.old db) (deadlines_at self.new db) }
         ensures cursor { KeepsCursor (deadlines_at self.old db) (deadlines_at self.new db) }
@@ -277,7 +285,7 @@ impl<V: Drop> Databases<V> {
         ensures keyed { Keyed (B.blocks store.now) (deadlines_at self.new db).table }
     {
         if !self.has_no_deadline(db) {
-            let _was = self.bases[db].deadlines.clear(store, key);
+            let _was = self.bases[db].deadlines.clear_hashed(store, hash, key);
         }
     }
 
@@ -407,6 +415,7 @@ impl<V: Drop> Databases<V> {
         &mut self,
         store: &B,
         db: usize,
+        hash: u64,
         name: BlockRef,
         key: &[u8],
         deadline: Option<u64>,
@@ -414,6 +423,7 @@ impl<V: Drop> Databases<V> {
         requires db { db < length self.old.bases }
         requires timed { IsTimed (B.blocks store.now) (table_at self.old db) (deadlines_at self.old db) }
         requires named { B.blocks store.now name ≡ Some key.now }
+        requires hashed { hash ≡ hash_of (deadlines_at self.old db).table.seed key.now }
         requires lacks { Lacks (B.blocks store.now) (table_at self.old db) key.now }
         requires latest { IsDeadline deadline }
         ensures begins { OnOk result (Begins self.old self.new (B.blocks store.now) db name key.now deadline) }
@@ -422,7 +432,7 @@ impl<V: Drop> Databases<V> {
         let _ = key;
         match deadline {
             None => Ok(()),
-            Some(deadline) => self.set_deadline(store, db, name, deadline),
+            Some(deadline) => self.set_deadline(store, db, None, hash, name, deadline),
         }
     }
 
@@ -442,6 +452,7 @@ impl<V: Drop> Databases<V> {
         requires keyed { Keyed (B.blocks store.now) (table_at self.old db) }
         requires timed { IsTimed (B.blocks store.now) (table_at self.old db) (deadlines_at self.old db) }
         requires hashed { hash ≡ hash_of (table_at self.old db).seed key.now }
+        requires times_hashed { hash ≡ hash_of (deadlines_at self.old db).table.seed key.now }
         requires named { B.blocks store.now name ≡ Some key.now }
         requires lacks { Lacks (B.blocks store.now) (table_at self.old db) key.now }
         requires latest { IsDeadline deadline }
@@ -449,27 +460,29 @@ impl<V: Drop> Databases<V> {
         ensures stays { OnErr result (KeepsTimes self.old self.new (B.blocks store.now) db) }
         ensures value_returned { IfErr result (λ e. e.0 ≡ value) }
     {
-        if let Err(error) = self.set_new(store, db, name, key, deadline) {
+        if let Err(error) = self.set_new(store, db, hash, name, key, deadline) {
             return Err((value, error));
         }
         match self.insert(store, db, hash, name, value) {
             Ok(_at) => Ok(()),
             Err((value, error)) => {
-                self.clear_deadline(store, db, key);
+                self.clear_deadline(store, db, hash, key);
                 Err((value, error))
             }
         }
     }
 
-    // Takes out a key with its value.
+    // Takes out a key whose hash is at hand, with its value.
     pub(crate) fn remove<B: BlockStore>(
         &mut self,
         store: &B,
         db: usize,
+        hash: u64,
         key: &[u8],
     ) -> Option<(BlockRef, V)>
         requires db { db < length self.old.bases }
         requires keyed { Keyed (B.blocks store.now) (table_at self.old db) }
+        requires hashed { hash ≡ hash_of (table_at self.old db).seed key.now }
         ensures changes { ChangesTable self.old self.new db }
         ensures removed { IfSome result (λ pair. Removes (B.blocks store.now) (table_at self.old db) (table_at self.new db) key.now pair.0 pair.1) }
         ensures keyed { Keyed (B.blocks store.now) (table_at self.new db) }
@@ -478,7 +491,7 @@ impl<V: Drop> Databases<V> {
         ensures same { IfNone result (self.new ≡ self.old) }
         ensures none { IfNone result (Lacks (B.blocks store.now) (table_at self.old db) key.now) }
     {
-        self.bases[db].keys.remove(store, key)
+        self.bases[db].keys.remove_hashed(store, hash, key)
     }
 
     // Takes out all keys with their values: the database has none afterwards.

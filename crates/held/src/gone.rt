@@ -32,8 +32,9 @@ impl<V: Held, B: BlockStore> Keyspace<V, B> {
         ensures within { Within V.refs_of (no_key db) self.old.bases self.new.bases (B.blocks self.old.store) (B.blocks self.new.store) }
     {
         let key = self.store.bytes(name);
-        self.bases.clear_deadline(&self.store, db, key);
-        let Some((at, value)) = self.bases.remove(&self.store, db, key) else {
+        let hash = self.bases.hash(db, key);
+        self.bases.clear_deadline(&self.store, db, hash, key);
+        let Some((at, value)) = self.bases.remove(&self.store, db, hash, key) else {
             return;
         };
         release_both(&mut self.store, at, value);

@@ -8,6 +8,7 @@ ghost use Rattle.expiry.specs.Timed.{moments};
 ghost use Rattle.held.specs.Databases.{means, owned, SameSettings, table_at, deadlines_at, with_deadline, ChangesDeadlines};
 ghost use Rattle.held.specs.Sound.{IsArranged, IsIntact, Sound, SoundBeside};
 ghost use Rattle.held.specs.Table.{Stands, refs};
+ghost use Rattle.rehash_dict.specs.Keyed.{hash_of};
 ghost use Rattle.held.specs.Scopes.{one_key, no_key, all_keys, AreGrown, Within, AreSettled};
 ghost use Rattle.held.specs.Worlds.{without, emptied};
 ghost use Rattle.held.specs.Calls.{HasOnly, Found, StandsAt, IsPlace, IsVacant, IsDeadline, Lifts, AreParts};
@@ -16,7 +17,7 @@ use crate::{Databases, Held};
 use blocks::{BlockRef, BlockStore, Memory};
 use object_codec::Limits;
 use rehash_dict::Dict;
-use std::alloc::{AllocError, Global};
+use std::alloc::Global;
 
 /// A store, and the databases whose keys and values stand in its blocks. The databases are numbered below 16.
 ///
@@ -160,17 +161,19 @@ impl<V: Held, B: BlockStore> Keyspace<V, B> {
         self.bases.deadline(&self.store, db, key)
     }
 
-    // The key of an item number gets this deadline, or loses the one that it has. `Memory` leaves all.
+    // The key of an item number, whose hash is at hand, gets this deadline, or loses the one that it has. `Memory` leaves all.
     pub(crate) fn retime(
         &mut self,
         db: usize,
         at: usize,
+        hash: u64,
         key: &[u8],
         deadline: Option<u64>,
     ) -> Result<(), Memory>
         requires db { db < 16 }
         requires arranged { IsArranged self.old.bases (B.blocks self.old.store) }
         requires stands { Stands (B.blocks self.old.store) (table_at self.old.bases db) at key.now }
+        requires hashed { hash ≡ hash_of (table_at self.old.bases db).seed key.now }
         requires latest { IsDeadline deadline }
         ensures changes { ChangesDeadlines self.old.bases self.new.bases db }
         ensures arranged { IsArranged self.new.bases (B.blocks self.old.store) }
@@ -181,35 +184,16 @@ impl<V: Held, B: BlockStore> Keyspace<V, B> {
     {
         match deadline {
             None => {
-                self.bases.clear_deadline(&self.store, db, key);
+                self.bases.clear_deadline(&self.store, db, hash, key);
                 Ok(())
             }
             Some(deadline) => {
+                let timed = self.bases.timed_hashed(&self.store, db, hash, key).0;
                 let name = self.bases.key(db, at);
-                self.bases.set_deadline(&self.store, db, name, deadline)
+                self.bases
+                    .set_deadline(&self.store, db, timed, hash, name, deadline)
             }
         }
-    }
-
-    /// Gives a key this deadline, in milliseconds, or takes the one away that it has. The answer is whether the key is there,
-    /// whether it is gone or not; where it isn't, nothing changes.
-    ///
-    /// `Memory` leaves all.
-    pub fn set_deadline(&mut self, db: usize, key: &[u8], to: Option<u64>) -> Result<bool, Memory>
-        requires db { db < 16 }
-        requires intact { IsIntact V.refs_of self.old.bases (B.blocks self.old.store) [] }
-        requires latest { IsDeadline to }
-        ensures answer { IfOk result (λ there. there ≡ is_some (look (means V.value_of db self.old.bases (B.blocks self.old.store)) key.now)) }
-        ensures means { OnOk result ((entry : Entry) → look (means V.value_of db self.old.bases (B.blocks self.old.store)) key.now ≡ Some entry → means V.value_of db self.new.bases (B.blocks self.old.store) ≡ put (means V.value_of db self.old.bases (B.blocks self.old.store)) key.now (record { value = entry.value; deadline = to })) }
-        ensures absent { look (means V.value_of db self.old.bases (B.blocks self.old.store)) key.now ≡ None → self.new.bases ≡ self.old.bases }
-        ensures err { OnErr result (self.new.bases ≡ self.old.bases) }
-        ensures sound { (out : List BlockRef) → SoundBeside V.refs_of self.old.bases (B.blocks self.old.store) out → SoundBeside V.refs_of self.new.bases (B.blocks self.old.store) out }
-        ensures store { self.new.store ≡ self.old.store }
-        ensures settings { SameSettings self.old.bases self.new.bases }
-        ensures within { Within V.refs_of (no_key db) self.old.bases self.new.bases (B.blocks self.old.store) (B.blocks self.old.store) }
-    {
-        let sought = self.seek(db, key);
-        self.set_sought(db, key, sought, to)
     }
 
     /// Takes out the value that stands at a key at the moment, in milliseconds; `vacant`, which owns no block,
@@ -286,8 +270,25 @@ impl<V: Held, B: BlockStore> Keyspace<V, B> {
         ensures settings { SameSettings self.old.bases self.new.bases }
         ensures within { Within V.refs_of (no_key db) self.old.bases self.new.bases (B.blocks self.old.store) (B.blocks self.new.store) }
     {
-        self.bases.clear_deadline(&self.store, db, key);
-        let Some((at, value)) = self.bases.remove(&self.store, db, key) else {
+        let hash = self.bases.hash(db, key);
+        self.drop_hashed(db, hash, key)
+    }
+
+    /// Removes a key whose hash is at hand, as `drop_key` does.
+    pub fn drop_hashed(&mut self, db: usize, hash: u64, key: &[u8]) -> bool
+        requires db { db < 16 }
+        requires intact { IsIntact V.refs_of self.old.bases (B.blocks self.old.store) [] }
+        requires hashed { hash ≡ hash_of (table_at self.old.bases db).seed key.now }
+        ensures answer { result ≡ is_some (look (means V.value_of db self.old.bases (B.blocks self.old.store)) key.now) }
+        ensures means { means V.value_of db self.new.bases (B.blocks self.new.store) ≡ without (means V.value_of db self.old.bases (B.blocks self.old.store)) key.now }
+        ensures sound { (out : List BlockRef) → SoundBeside V.refs_of self.old.bases (B.blocks self.old.store) out → SoundBeside V.refs_of self.new.bases (B.blocks self.new.store) out }
+        ensures changes { Changes (B.blocks self.old.store) (B.blocks self.new.store) (owned V.refs_of self.old.bases) (owned V.refs_of self.new.bases) }
+        ensures served { Served B.step self.old.store self.new.store }
+        ensures settings { SameSettings self.old.bases self.new.bases }
+        ensures within { Within V.refs_of (no_key db) self.old.bases self.new.bases (B.blocks self.old.store) (B.blocks self.new.store) }
+    {
+        self.bases.clear_deadline(&self.store, db, hash, key);
+        let Some((at, value)) = self.bases.remove(&self.store, db, hash, key) else {
             return false;
         };
         release_both(&mut self.store, at, value);

@@ -1,20 +1,20 @@
 ghost use Rattle.std.specs.Prelude.{◌≡◌, ◌<◌, ◌++◌, ℕ, [], List, Option, None, Some, IfOk, IfErr, OnOk, OnErr, is_some};
 ghost use Rattle.blocks.specs.declared.BlockRef.{BlockRef};
 ghost use Rattle.blocks.specs.Blocks.{Changes, Served, times};
-ghost use Rattle.plain_world.specs.Worlds.{Entry, look, put, put_in, remove};
+ghost use Rattle.plain_world.specs.Worlds.{Entry, deadline_of, look, put, put_in, remove};
 ghost use Rattle.held.specs.Databases.{means, owned, SameSettings, table_at};
 ghost use Rattle.held.specs.Sound.{IsArranged, IsIntact, SoundBeside};
 ghost use Rattle.held.specs.Table.{Lacks};
-ghost use Rattle.held.specs.Calls.{HasValue, HasOnly, IsDeadline};
+ghost use Rattle.held.specs.Calls.{HasValue, HasOnly, IsDeadline, Seeks};
 ghost use Rattle.held.specs.Scopes.{one_key, two_keys, Within};
 ghost use Rattle.held.specs.Written.{Written};
 
-use crate::{Held, Keyspace};
+use crate::{Held, Keyspace, SoughtAt};
 use blocks::{BlockStore, Memory};
 use std::alloc::AllocError;
 
 impl<V: Held, B: BlockStore> Keyspace<V, B> {
-    /// Moves what stands at a key, its deadline with it, to another key of this or another database. What stood there is
+    /// Moves what stands at a key that was sought, its deadline with it, to another key of this or another database. What stood there is
     /// released, and its deadline goes. A key that is gone moves too.
     ///
     /// The answer is whether the key is there; where it isn't, nothing changes. Where both are one key of one database nothing
@@ -23,12 +23,15 @@ impl<V: Held, B: BlockStore> Keyspace<V, B> {
         &mut self,
         db: usize,
         from: &[u8],
+        found: SoughtAt,
         to_db: usize,
         to: &[u8],
     ) -> Result<bool, Memory>
         requires db { db < 16 }
         requires to_db { to_db < 16 }
         requires intact { IsIntact V.refs_of self.old.bases (B.blocks self.old.store) [] }
+        requires seeks { Seeks self.old.bases (B.blocks self.old.store) db from.now found.sought }
+        requires lasts { found.deadline ≡ deadline_of (look (means V.value_of db self.old.bases (B.blocks self.old.store)) from.now) }
         ensures answer { IfOk result (λ there. there ≡ is_some (look (means V.value_of db self.old.bases (B.blocks self.old.store)) from.now)) }
         ensures means { OnOk result (((db ≡ to_db) × (from.now ≡ to.now) → ⊥) → (entry : Entry) → look (means V.value_of db self.old.bases (B.blocks self.old.store)) from.now ≡ Some entry → means V.value_of db self.new.bases (B.blocks self.new.store) ≡ put_in (remove (means V.value_of db self.old.bases (B.blocks self.old.store)) from.now) to_db to.now entry) }
         ensures same { db ≡ to_db → from.now ≡ to.now → (self.new.bases ≡ self.old.bases) × (self.new.store ≡ self.old.store) }
@@ -41,18 +44,17 @@ impl<V: Held, B: BlockStore> Keyspace<V, B> {
         ensures settings { SameSettings self.old.bases self.new.bases }
         ensures within { Within V.refs_of (two_keys db from.now to_db to.now) self.old.bases self.new.bases (B.blocks self.old.store) (B.blocks self.new.store) }
     {
-        let Some(at) = self.bases.find(&self.store, db, from) else {
+        let Some(at) = found.sought.item else {
             return Ok(false);
         };
         if db == to_db && from == to {
             return Ok(true);
         }
-        let deadline = self.bases.deadline(&self.store, db, from);
         let value = self.bases.swap_value(db, at, V::zero());
         let sought = self.seek(to_db, to);
-        match self.place_sought(to_db, to, sought, value, deadline) {
+        match self.place_sought(to_db, to, sought, value, found.deadline) {
             Ok(()) => {
-                let _there = self.drop_key(db, from);
+                let _there = self.drop_hashed(db, found.sought.hash, from);
                 Ok(true)
             }
             Err(value) => {

@@ -8,7 +8,7 @@ ghost use Rattle.held.specs.Databases.{means, owned, SameSettings, table_at, dea
 ghost use Rattle.held.specs.Sound.{IsArranged, IsIntact, SoundBeside};
 ghost use Rattle.held.specs.Table.{item, Stands, Lacks};
 ghost use Rattle.held.specs.Scopes.{one_key, no_key, Within};
-ghost use Rattle.held.specs.Calls.{HasOnly, Found, StandsAt, Seeks, HasUntil, IsDeadline, Lifts, AreParts};
+ghost use Rattle.held.specs.Calls.{HasOnly, Found, StandsAt, Seeks, IsDeadline, Lifts, AreParts, Sees};
 
 use crate::keyspace::is_in_time;
 use crate::{Held, Keyspace, Lifted};
@@ -24,10 +24,13 @@ pub struct Sought {
     pub item: Option<usize>,
 }
 
-/// What a search for a key found, and what is seen of the key at a moment.
+/// What a search for a key and for its deadline found, and what is seen of the key at a moment. It holds as long as no key
+/// joins its database or leaves it, and no deadline either.
 #[derive(Clone, Copy)]
 pub struct SoughtAt {
     pub sought: Sought,
+    /// The item number of its deadline. `None` where it has none.
+    pub timed: Option<usize>,
     /// The item number of the key, where it is there at the moment.
     pub there: Option<usize>,
     /// The deadline of the key in milliseconds, whether it is past or not.
@@ -50,32 +53,29 @@ impl<V: Held, B: BlockStore> Keyspace<V, B> {
     pub fn seek_at(&self, db: usize, key: &[u8], moment: u64) -> SoughtAt
         requires db { db < 16 }
         requires arranged { IsArranged self.now.bases (B.blocks self.now.store) }
-        ensures seeks { Seeks self.now.bases (B.blocks self.now.store) db key.now result.sought }
-        ensures there { IfSome result.there (λ at. StandsAt self.now.bases (B.blocks self.now.store) db key.now moment at) }
-        ensures until { IfSome result.there (λ at. HasUntil (live (means V.value_of db self.now.bases (B.blocks self.now.store)) moment) key.now result.deadline) }
-        ensures gone { IfNone result.there (look (live (means V.value_of db self.now.bases (B.blocks self.now.store)) moment) key.now ≡ None) }
-        ensures latest { IsDeadline result.deadline }
+        ensures { Sees V.value_of self.now.bases (B.blocks self.now.store) db key.now moment result }
     {
         let sought = self.seek(db, key);
         match sought.item {
             None => SoughtAt {
                 sought,
+                timed: None,
                 there: None,
                 deadline: None,
             },
             Some(at) => {
-                let deadline = self
-                    .bases
-                    .deadline_hashed(&self.store, db, sought.hash, key);
+                let (timed, deadline) = self.bases.timed_hashed(&self.store, db, sought.hash, key);
                 if !is_in_time(moment, deadline) {
                     return SoughtAt {
                         sought,
+                        timed,
                         there: None,
                         deadline,
                     };
                 }
                 SoughtAt {
                     sought,
+                    timed,
                     there: Some(at),
                     deadline,
                 }
@@ -112,17 +112,22 @@ impl<V: Held, B: BlockStore> Keyspace<V, B> {
         }
     }
 
-    /// Gives a key that was sought this deadline, as `set_deadline` does.
+    /// Gives a key that was sought with its deadline another one, in milliseconds, or takes the one away that it has. The answer
+    /// is whether the key is there, whether it is gone or not; where it isn't, nothing changes.
+    ///
+    /// `Memory` leaves all.
     pub fn set_sought(
         &mut self,
         db: usize,
         key: &[u8],
-        sought: Sought,
+        found: SoughtAt,
         to: Option<u64>,
     ) -> Result<bool, Memory>
         requires db { db < 16 }
         requires intact { IsIntact V.refs_of self.old.bases (B.blocks self.old.store) [] }
-        requires seeks { Seeks self.old.bases (B.blocks self.old.store) db key.now sought }
+        requires seeks { Seeks self.old.bases (B.blocks self.old.store) db key.now found.sought }
+        requires timed { IfSome found.timed (λ at. Stands (B.blocks self.old.store) (deadlines_at self.old.bases db).table at key.now) }
+        requires untimed { IfNone found.timed (Lacks (B.blocks self.old.store) (deadlines_at self.old.bases db).table key.now) }
         requires latest { IsDeadline to }
         ensures answer { IfOk result (λ there. there ≡ is_some (look (means V.value_of db self.old.bases (B.blocks self.old.store)) key.now)) }
         ensures means { OnOk result ((entry : Entry) → look (means V.value_of db self.old.bases (B.blocks self.old.store)) key.now ≡ Some entry → means V.value_of db self.new.bases (B.blocks self.old.store) ≡ put (means V.value_of db self.old.bases (B.blocks self.old.store)) key.now (record { value = entry.value; deadline = to })) }
@@ -133,21 +138,23 @@ impl<V: Held, B: BlockStore> Keyspace<V, B> {
         ensures settings { SameSettings self.old.bases self.new.bases }
         ensures within { Within V.refs_of (no_key db) self.old.bases self.new.bases (B.blocks self.old.store) (B.blocks self.old.store) }
     {
-        match sought.item {
+        match found.sought.item {
             None => Ok(false),
             Some(at) => {
-                self.retime(db, at, key, to)?;
+                self.retime_found(db, at, found.sought.hash, found.timed, key, to)?;
                 Ok(true)
             }
         }
     }
 
-    // Gives the key of an item number this deadline, or takes the one away that it has. That it has none is seen by its hash.
-    fn retime_sought(
+    // Gives the key of an item number this deadline, or takes the one away that it has, by what was found of that: its item
+    // number. `Memory` leaves all.
+    fn retime_found(
         &mut self,
         db: usize,
         at: usize,
         hash: u64,
+        timed: Option<usize>,
         key: &[u8],
         deadline: Option<u64>,
     ) -> Result<(), Memory>
@@ -155,6 +162,8 @@ impl<V: Held, B: BlockStore> Keyspace<V, B> {
         requires arranged { IsArranged self.old.bases (B.blocks self.old.store) }
         requires stands { Stands (B.blocks self.old.store) (table_at self.old.bases db) at key.now }
         requires hashed { hash ≡ hash_of (table_at self.old.bases db).seed key.now }
+        requires timed { IfSome timed (λ item. Stands (B.blocks self.old.store) (deadlines_at self.old.bases db).table item key.now) }
+        requires untimed { IfNone timed (Lacks (B.blocks self.old.store) (deadlines_at self.old.bases db).table key.now) }
         requires latest { IsDeadline deadline }
         ensures changes { ChangesDeadlines self.old.bases self.new.bases db }
         ensures arranged { IsArranged self.new.bases (B.blocks self.old.store) }
@@ -164,11 +173,18 @@ impl<V: Held, B: BlockStore> Keyspace<V, B> {
         ensures within { Within V.refs_of (no_key db) self.old.bases self.new.bases (B.blocks self.old.store) (B.blocks self.old.store) }
     {
         match deadline {
-            Some(_) => self.retime(db, at, key, deadline),
-            None => match self.bases.deadline_hashed(&self.store, db, hash, key) {
-                Some(_) => self.retime(db, at, key, deadline),
+            None => match timed {
                 None => Ok(()),
+                Some(_) => {
+                    self.bases.clear_deadline(&self.store, db, hash, key);
+                    Ok(())
+                }
             },
+            Some(deadline) => {
+                let name = self.bases.key(db, at);
+                self.bases
+                    .set_deadline(&self.store, db, timed, hash, name, deadline)
+            }
         }
     }
 
@@ -202,7 +218,7 @@ impl<V: Held, B: BlockStore> Keyspace<V, B> {
         match sought.item {
             None => self.place_first(db, key, sought.hash, value, deadline),
             Some(at) => {
-                if let Err(_error) = self.retime_sought(db, at, sought.hash, key, deadline) {
+                if let Err(_error) = self.retime(db, at, sought.hash, key, deadline) {
                     return Err(value);
                 }
                 let was = self.bases.swap_value(db, at, value);

@@ -17,7 +17,6 @@ use Rattle.held.specs.Table.{item}
 use Rattle.keyspace.specs.Databases.{Bases, Keyspace, means, table_at}
 use Rattle.keyspace.specs.Sound.{IsArranged}
 use Rattle.keyspace.specs.Scopes.{Scope, one_key, Within}
-use Rattle.keyspace.specs.declared.value.Value.TheVariants.{Text}
 use Rattle.keyspace.specs.Values.{value_of, value_refs, value_own, IsWhole, IsLike}
 use Rattle.keyspace.specs.Forms.{AreWhole, Form, Unwritten, Whole, AsAt, HasForm, Forms, Formed}
 

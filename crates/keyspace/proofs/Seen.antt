@@ -1,10 +1,11 @@
 -- What is seen of a world after a call, from what the call says of the whole one.
-use Rattle.std.proofs.Common.{◌≡◌, inl, inr, ◌<◌, ℕ, Bool, true, false, cond, List, Option, Some, None, is_some, refl, sym, ap, ◌∙◌, arith}
+use Rattle.std.proofs.Common.{◌≡◌, inl, inr, ◌<◌, ℕ, Bool, true, false, cond, List, Option, Some, None, IfSome, IfNone, is_some, refl, sym, ap, ◌∙◌, arith}
 use Rattle.std.specs.Prelude.{ℤ, pos, int_lt, nat_le}
 use Rattle.std.proofs.lemmas.Bool.{cases_Bool, cond-true, cond-false, leb-true}
 use Rattle.plain_world.specs.Worlds.{World, Entry, in_time, live, look, put, remove, deadline_of}
 use Rattle.plain_world.proofs.Lives.{shown, look_live, live_put_in_time, live_remove, was_in_time}
 use Rattle.plain_model.specs.Deadlines.{expire, persist, lasts_until, lasts, from_zero}
+use Rattle.held.specs.Calls.{HasUntil}
 
 pub not_le : (a b : ℕ) → b < a → nat_le a b ≡ false
 not_le a b h = elim (cases_Bool (nat_le a b)) [ inl t ↦ absurd (omega (arith, h, leb-true a b t)) | inr f ↦ f ]
@@ -59,3 +60,21 @@ module _ (old new : World) (moment : ℕ) (key : List ℕ) where
       told : (o : Option Entry) → look (live old moment) key ≡ o → is_some (deadline_of o) ≡ true → live new moment ≡ persist (live old moment) key o
       told None is h = cc
       told (Some e) is h = clause e is ∙ sym (cond-true (is_some e.deadline) (put (live old moment) key (lasts e.value)) (live old moment) h)
+
+-- what is seen of a key that was sought
+module _ (world : World) (key : List ℕ) (there : Option ℕ) (deadline : Option ℕ) (until : IfSome there (λ item. HasUntil world key deadline)) (gone : IfNone there (look world key ≡ None)) where
+  -- whether it is there
+  pub sought_there : is_some there ≡ is_some (look world key)
+  sought_there = told there until gone
+    where
+      told : (o : Option ℕ) → IfSome o (λ item. HasUntil world key deadline) → IfNone o (look world key ≡ None) → is_some o ≡ is_some (look world key)
+      told None u g = ap is_some (sym g)
+      told (Some item) u g = ap is_some (sym u.stands)
+
+  -- and its deadline
+  pub sought_deadline : cond (is_some there) deadline None ≡ deadline_of (look world key)
+  sought_deadline = told there until gone
+    where
+      told : (o : Option ℕ) → IfSome o (λ item. HasUntil world key deadline) → IfNone o (look world key ≡ None) → cond (is_some o) deadline None ≡ deadline_of (look world key)
+      told None u g = ap deadline_of (sym g)
+      told (Some item) u g = ap deadline_of (sym u.stands)

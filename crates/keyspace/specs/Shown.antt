@@ -1,5 +1,5 @@
 -- What a reply shows of the tables and values that stand, beside what the world fixes.
-use Rattle.std.specs.Prelude.{◌≡◌, ℕ, List, [], ◌∷◌, map, Bool, nat_lt, pos, Option, Some, None}
+use Rattle.std.specs.Prelude.{◌≡◌, ℕ, List, [], ◌∷◌, map, Bool, nat_lt, pos, None}
 use Rattle.std.specs.List.{filter, range_with_len}
 use Rattle.blocks.specs.Blocks.{Blocks}
 use Rattle.blocks.specs.Slabs.{Heap, size_of, slabs_of, used_of}

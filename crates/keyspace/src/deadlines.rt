@@ -1,7 +1,7 @@
 //! The deadlines of keys that are there at a moment.
 
 ghost use Rattle.std.specs.Prelude.{◌≡◌, ◌<◌, Some, true, IfOk, OnOk, is_some};
-ghost use Rattle.held.specs.Calls.{IsDeadline, Seeks};
+ghost use Rattle.held.specs.Calls.{IsDeadline};
 ghost use Rattle.plain_world.specs.Worlds.{Entry, look, put, in_time, deadline_of};
 ghost use Rattle.plain_model.specs.Deadlines as model;
 ghost use Rattle.keyspace.specs.Scopes.{no_key};
@@ -10,7 +10,7 @@ ghost use Rattle.keyspace.specs.Seeking.{Sees};
 
 use crate::Keyspace;
 use blocks::BlockStore;
-use held::{Sought, SoughtAt};
+use held::SoughtAt;
 use plain_model::{Ctx, Memory};
 
 /// Seeks a key for a command.
@@ -43,39 +43,24 @@ fn retime<B: BlockStore>(
     keyspace: &mut Keyspace<B>,
     at: &Ctx,
     key: &[u8],
-    sought: Sought,
+    found: SoughtAt,
     to: Option<u64>,
 ) -> Result<(), Memory>
     requires ready { Ready B.blocks keyspace.old at.now }
-    requires seeks { Seeks keyspace.old.bases (B.blocks keyspace.old.store) at.now.db key.now sought }
+    requires sees { Sees B.blocks keyspace.old at.now key.now found }
     requires latest { IsDeadline to }
     requires late { in_time at.now.moment to ≡ true }
     ensures world { OnOk result ((entry : Entry) → look (sight B.blocks keyspace.old at.now) key.now ≡ Some entry → sight B.blocks keyspace.new at.now ≡ put (sight B.blocks keyspace.old at.now) key.now (record { value = entry.value; deadline = to })) }
     ensures held { Held B.blocks B.step (no_key at.now.db) keyspace.old keyspace.new }
 {
-    match keyspace.set_sought(at.db, key, sought, to) {
+    match keyspace.set_sought(at.db, key, found, to) {
         Ok(_) => Ok(()),
         Err(error) => Err(error),
     }
 }
 
-/// What stands at a key gets this deadline, in milliseconds; by one that is not after the moment the key is removed. Where
-/// nothing stands there, nothing changes.
-pub fn expire<B: BlockStore>(
-    keyspace: &mut Keyspace<B>,
-    at: &Ctx,
-    key: &[u8],
-    due: i64,
-) -> Result<(), Memory>
-    requires ready { Ready B.blocks keyspace.old at.now }
-    ensures world { OnOk result (sight B.blocks keyspace.new at.now ≡ model.expire (sight B.blocks keyspace.old at.now) at.now.moment key.now due (look (sight B.blocks keyspace.old at.now) key.now)) }
-    ensures held { Held B.blocks B.step (no_key at.now.db) keyspace.old keyspace.new }
-{
-    let found = seek(keyspace, at, key);
-    expire_sought(keyspace, at, key, found, due)
-}
-
-/// The same of a key that was sought for the command.
+/// What stands at a key that was sought for the command gets this deadline, in milliseconds; by one that is not after the
+/// moment the key is removed. Where nothing stands there, nothing changes.
 pub fn expire_sought<B: BlockStore>(
     keyspace: &mut Keyspace<B>,
     at: &Ctx,
@@ -92,31 +77,32 @@ pub fn expire_sought<B: BlockStore>(
         None => Ok(()),
         Some(_) => {
             if i128::from(at.moment) < i128::from(due) {
-                return retime(keyspace, at, key, found.sought, Some(due as u64));
+                return retime(keyspace, at, key, found, Some(due as u64));
             }
-            let _ = keyspace.drop_key(at.db, key);
+            let _ = keyspace.drop_hashed(at.db, found.sought.hash, key);
             Ok(())
         }
     }
 }
 
-/// What stands at a key has no deadline any more. The answer is whether it had one.
-pub fn persist<B: BlockStore>(
+/// What stands at a key that was sought for the command has no deadline any more. The answer is whether it had one.
+pub fn persist_sought<B: BlockStore>(
     keyspace: &mut Keyspace<B>,
     at: &Ctx,
     key: &[u8],
+    found: SoughtAt,
 ) -> Result<bool, Memory>
     requires ready { Ready B.blocks keyspace.old at.now }
+    requires sees { Sees B.blocks keyspace.old at.now key.now found }
     ensures answer { IfOk result (λ had. had ≡ is_some (deadline_of (look (sight B.blocks keyspace.old at.now) key.now))) }
     ensures world { OnOk result (sight B.blocks keyspace.new at.now ≡ model.persist (sight B.blocks keyspace.old at.now) key.now (look (sight B.blocks keyspace.old at.now) key.now)) }
     ensures held { Held B.blocks B.step (no_key at.now.db) keyspace.old keyspace.new }
 {
-    let found = seek(keyspace, at, key);
     match found.there {
         None => Ok(false),
         Some(_) => match found.deadline {
             None => Ok(false),
-            Some(_) => match retime(keyspace, at, key, found.sought, None) {
+            Some(_) => match retime(keyspace, at, key, found, None) {
                 Ok(()) => Ok(true),
                 Err(error) => Err(error),
             },

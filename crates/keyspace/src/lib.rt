@@ -7,7 +7,7 @@ mod kind;
 mod tests;
 mod value;
 
-pub use deadlines::{deadline_at, expire, expire_sought, persist, seek};
+pub use deadlines::{deadline_at, expire_sought, persist_sought, seek};
 pub use held::{Sought, SoughtAt};
 pub use value::Value;
 

@@ -10,22 +10,24 @@ ghost use Rattle.keyspace.specs.Databases.{means, SameSettings};
 ghost use Rattle.keyspace.specs.Sound.{Sound, SoundBeside};
 ghost use Rattle.keyspace.specs.Scopes.{one_key, two_keys, number_or, Within};
 ghost use Rattle.keyspace.specs.Forms.{AsAt, HasForm, Formed};
+ghost use Rattle.held.specs.Calls.{StandsAt, HasUntil, IsDeadline};
 ghost use Rattle.keyspace.specs.Commands.{Ready, Held, Kept, sight};
 ghost use Rattle.cmd_keys.specs.Found.{Gives, IsDatabase};
 
 use crate::keys::look::{count_reply, is_there};
 use blocks::BlockStore;
-use keyspace::{Keyspace, Value, deadline_at};
+use keyspace::{Keyspace, Value, seek};
 use plain_model::{CopyOptions, Ctx, Memory, Refusal, Reply};
 
-// Another value that means what stands at a key.
+// Another value that means what stands at a key, whose item number was sought.
 fn copy_value<B: BlockStore>(
     keyspace: &mut Keyspace<B>,
     at: &Ctx,
     key: &[u8],
+    item: usize,
 ) -> Result<Value, Memory>
     requires ready { Ready B.blocks keyspace.old at.now }
-    requires there { is_some (look (sight B.blocks keyspace.old at.now) key.now) ≡ true }
+    requires there { StandsAt keyspace.old.bases (B.blocks keyspace.old.store) at.now.db key.now at.now.moment item }
     ensures world { means at.now.db keyspace.new.bases (B.blocks keyspace.new.store) ≡ means at.now.db keyspace.old.bases (B.blocks keyspace.old.store) }
     ensures value { IfOk result (λ value. (entry : Entry) → look (sight B.blocks keyspace.old at.now) key.now ≡ Some entry → value_of (B.blocks keyspace.new.store) value ≡ entry.value) }
     ensures sound { IfOk result (λ value. SoundBeside keyspace.new.bases (B.blocks keyspace.new.store) (value_refs value)) }
@@ -36,9 +38,8 @@ fn copy_value<B: BlockStore>(
     ensures form { IfOk result (λ value. HasForm (AsAt at.now.db key.now) keyspace.old.bases (B.blocks keyspace.old.store) value) }
     ensures forms { IfOk result (λ value. Formed B.blocks (AsAt at.now.db key.now) keyspace.old keyspace.new) }
 {
-    let Some(lifted) = keyspace.lift(at.db, key, at.moment) else {
-        unreachable!();
-    };
+    let _ = key;
+    let lifted = keyspace.lift_at(at.db, item);
     let copied = lifted.value.copy(&mut keyspace.store);
     keyspace.lower(lifted);
     match copied {
@@ -47,23 +48,26 @@ fn copy_value<B: BlockStore>(
     }
 }
 
-// What stands at a key is copied to a key of a database, with its deadline.
+// What stands at a key, whose item number and deadline were sought, is copied to a key of a database, with that deadline.
 fn copy_to<B: BlockStore>(
     keyspace: &mut Keyspace<B>,
     at: &Ctx,
     from: &[u8],
+    item: usize,
+    deadline: Option<u64>,
     number: usize,
     to: &[u8],
 ) -> Result<(), Memory>
     requires ready { Ready B.blocks keyspace.old at.now }
-    requires there { is_some (look (sight B.blocks keyspace.old at.now) from.now) ≡ true }
+    requires there { StandsAt keyspace.old.bases (B.blocks keyspace.old.store) at.now.db from.now at.now.moment item }
+    requires until { HasUntil (sight B.blocks keyspace.old at.now) from.now deadline }
+    requires latest { IsDeadline deadline }
     requires number { number < 16 }
     ensures world { OnOk result ((entry : Entry) → look (sight B.blocks keyspace.old at.now) from.now ≡ Some entry → sight B.blocks keyspace.new at.now ≡ put_in (sight B.blocks keyspace.old at.now) number to.now entry) }
     ensures held { Held B.blocks B.step (two_keys at.now.db from.now number to.now) keyspace.old keyspace.new }
     ensures forms { OnOk result (Formed B.blocks (AsAt at.now.db from.now) keyspace.old keyspace.new) }
 {
-    let deadline = deadline_at(keyspace, at, from);
-    match copy_value(keyspace, at, from) {
+    match copy_value(keyspace, at, from, item) {
         Err(error) => Err(error),
         Ok(value) => keyspace.put(number, to, value, deadline),
     }
@@ -119,16 +123,19 @@ pub fn copy<B: BlockStore>(
     if is_same_place(at, number, from, to) {
         return Reply::refused(alloc, Refusal::SameSourceAndDestination);
     }
-    if !is_there(keyspace, at, from) {
-        return count_reply(alloc, 0);
+    let found = seek(keyspace, at, from);
+    match found.there {
+        None => count_reply(alloc, 0),
+        Some(item) => {
+            let other = Ctx {
+                db: number,
+                moment: at.moment,
+            };
+            if is_taken(keyspace, &other, to, options.replace) {
+                return count_reply(alloc, 0);
+            }
+            copy_to(keyspace, at, from, item, found.deadline, number, to)?;
+            count_reply(alloc, 1)
+        }
     }
-    let other = Ctx {
-        db: number,
-        moment: at.moment,
-    };
-    if is_taken(keyspace, &other, to, options.replace) {
-        return count_reply(alloc, 0);
-    }
-    copy_to(keyspace, at, from, number, to)?;
-    count_reply(alloc, 1)
 }

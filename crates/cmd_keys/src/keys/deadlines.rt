@@ -11,7 +11,7 @@ ghost use Rattle.cmd_keys.specs.Found.{Gives};
 
 use crate::keys::look::count_reply;
 use blocks::BlockStore;
-use keyspace::{Keyspace, expire_sought, seek};
+use keyspace::{Keyspace, expire_sought, persist_sought, seek};
 use plain_model::{Ctx, ExpireOptions, Memory, Refusal, Reply, Time, TimeOrigin, TimeUnit};
 
 // Whether the options permit a new deadline. No deadline is the latest of all.
@@ -150,6 +150,7 @@ pub fn persist<B: BlockStore>(
     ensures gives { Gives B.blocks keyspace.old keyspace.new at.now (commands.Persist key.now) result }
     ensures kept { Kept B.blocks B.step (no_key at.now.db) keyspace.old keyspace.new result }
 {
-    let had = keyspace::persist(keyspace, at, key)?;
+    let found = seek(keyspace, at, key);
+    let had = persist_sought(keyspace, at, key, found)?;
     count_reply(keyspace.alloc(), had as u64)
 }

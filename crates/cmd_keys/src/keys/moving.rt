@@ -9,10 +9,11 @@ ghost use Rattle.cmd_keys.specs.Found.{Gives};
 ghost use Rattle.keyspace.specs.Scopes.{two_keys};
 ghost use Rattle.keyspace.specs.Forms.{AsAt, Formed};
 ghost use Rattle.keyspace.specs.Commands.{Ready, Held, Kept, sight};
+ghost use Rattle.keyspace.specs.Seeking.{Sees};
 
 use crate::keys::look::{count_reply, is_there};
 use blocks::BlockStore;
-use keyspace::Keyspace;
+use keyspace::{Keyspace, SoughtAt, seek};
 use plain_model::{Bytes, Ctx, Line, Memory, Refusal, Reply};
 use rand_core::utils::NextWord;
 use rand_pcg::Pcg32;
@@ -34,35 +35,39 @@ pub fn randomkey<B: BlockStore>(
     }
 }
 
-// What stands at a key moves to another one, of the same database or of another.
+// What stands at a key that was sought moves to another one, of the same database or of another.
 fn move_to<B: BlockStore>(
     keyspace: &mut Keyspace<B>,
     at: &Ctx,
     from: &[u8],
+    found: SoughtAt,
     number: usize,
     to: &[u8],
 ) -> Result<(), Memory>
     requires ready { Ready B.blocks keyspace.old at.now }
+    requires sees { Sees B.blocks keyspace.old at.now from.now found }
     requires number { number < 16 }
     requires apart { (at.now.db ≡ number) × (from.now ≡ to.now) → ⊥ }
     ensures world { OnOk result ((entry : Entry) → look (sight B.blocks keyspace.old at.now) from.now ≡ Some entry → sight B.blocks keyspace.new at.now ≡ put_in (remove (sight B.blocks keyspace.old at.now) from.now) number to.now entry) }
     ensures held { Held B.blocks B.step (two_keys at.now.db from.now number to.now) keyspace.old keyspace.new }
     ensures forms { OnOk result (Formed B.blocks (AsAt at.now.db from.now) keyspace.old keyspace.new) }
 {
-    match keyspace.rename(at.db, from, number, to) {
+    match keyspace.rename(at.db, from, found, number, to) {
         Ok(_) => Ok(()),
         Err(error) => Err(error),
     }
 }
 
-// What stands at a key moves to another key of the database; the same key changes nothing.
+// What stands at a key that was sought moves to another key of the database; the same key changes nothing.
 fn rename_key<B: BlockStore>(
     keyspace: &mut Keyspace<B>,
     at: &Ctx,
     from: &[u8],
+    found: SoughtAt,
     to: &[u8],
 ) -> Result<(), Memory>
     requires ready { Ready B.blocks keyspace.old at.now }
+    requires sees { Sees B.blocks keyspace.old at.now from.now found }
     ensures world { OnOk result ((entry : Entry) → look (sight B.blocks keyspace.old at.now) from.now ≡ Some entry → sight B.blocks keyspace.new at.now ≡ model.rename (sight B.blocks keyspace.old at.now) from.now to.now entry) }
     ensures held { Held B.blocks B.step (two_keys at.now.db from.now at.now.db to.now) keyspace.old keyspace.new }
     ensures forms { OnOk result (Formed B.blocks (AsAt at.now.db from.now) keyspace.old keyspace.new) }
@@ -70,7 +75,7 @@ fn rename_key<B: BlockStore>(
     if from == to {
         return Ok(());
     }
-    move_to(keyspace, at, from, at.db, to)
+    move_to(keyspace, at, from, found, at.db, to)
 }
 
 /// `RENAME from to`: OK; what stood at the new key is replaced. An error where nothing stands at the old one.
@@ -86,11 +91,14 @@ pub fn rename<B: BlockStore>(
     ensures forms { IfOk result (λ reply. Formed B.blocks (AsAt at.now.db from.now) keyspace.old keyspace.new) }
 {
     let alloc = keyspace.alloc();
-    if !is_there(keyspace, at, from) {
-        return Reply::refused(alloc, Refusal::NoSuchKey);
+    let found = seek(keyspace, at, from);
+    match found.there {
+        None => Reply::refused(alloc, Refusal::NoSuchKey),
+        Some(_) => {
+            rename_key(keyspace, at, from, found, to)?;
+            Reply::simple(alloc, Line::ok())
+        }
     }
-    rename_key(keyspace, at, from, to)?;
-    Reply::simple(alloc, Line::ok())
 }
 
 /// `RENAMENX from to`: 1, or 0 where something stands at the new key. An error where nothing stands at the old one.
@@ -106,14 +114,17 @@ pub fn renamenx<B: BlockStore>(
     ensures forms { IfOk result (λ reply. Formed B.blocks (AsAt at.now.db from.now) keyspace.old keyspace.new) }
 {
     let alloc = keyspace.alloc();
-    if !is_there(keyspace, at, from) {
-        return Reply::refused(alloc, Refusal::NoSuchKey);
+    let found = seek(keyspace, at, from);
+    match found.there {
+        None => Reply::refused(alloc, Refusal::NoSuchKey),
+        Some(_) => {
+            if is_there(keyspace, at, to) {
+                return count_reply(alloc, 0);
+            }
+            rename_key(keyspace, at, from, found, to)?;
+            count_reply(alloc, 1)
+        }
     }
-    if is_there(keyspace, at, to) {
-        return count_reply(alloc, 0);
-    }
-    rename_key(keyspace, at, from, to)?;
-    count_reply(alloc, 1)
 }
 
 /// `MOVE key db`: 1, or 0 where nothing stands at the key or something stands at it in the other database. The databases
@@ -134,16 +145,19 @@ pub fn move_key<B: BlockStore>(
     if number == at.db {
         return Reply::refused(alloc, Refusal::SameSourceAndDestination);
     }
-    if !is_there(keyspace, at, key) {
-        return count_reply(alloc, 0);
+    let found = seek(keyspace, at, key);
+    match found.there {
+        None => count_reply(alloc, 0),
+        Some(_) => {
+            let other = Ctx {
+                db: number,
+                moment: at.moment,
+            };
+            if is_there(keyspace, &other, key) {
+                return count_reply(alloc, 0);
+            }
+            move_to(keyspace, at, key, found, number, key)?;
+            count_reply(alloc, 1)
+        }
     }
-    let other = Ctx {
-        db: number,
-        moment: at.moment,
-    };
-    if is_there(keyspace, &other, key) {
-        return count_reply(alloc, 0);
-    }
-    move_to(keyspace, at, key, number, key)?;
-    count_reply(alloc, 1)
 }

@@ -8,9 +8,9 @@ ghost use Rattle.keyspace.specs.Scopes.{no_key};
 ghost use Rattle.keyspace.specs.Commands.{Ready, Held, Kept, sight};
 ghost use Rattle.cmd_keys.specs.Found.{Gives};
 
-use crate::keys::look::{count_reply, is_there};
+use crate::keys::look::count_reply;
 use blocks::BlockStore;
-use keyspace::Keyspace;
+use keyspace::{Keyspace, seek};
 use plain_model::{Bytes, Ctx, Memory, Reply};
 
 /// Removes a key. The answer is whether it was there: one that is gone already doesn't count.
@@ -20,9 +20,9 @@ pub fn remove_key<B: BlockStore>(keyspace: &mut Keyspace<B>, at: &Ctx, key: &[u8
     ensures world { sight B.blocks keyspace.new at.now ≡ remove (sight B.blocks keyspace.old at.now) key.now }
     ensures held { Held B.blocks B.step (no_key at.now.db) keyspace.old keyspace.new }
 {
-    let there = is_there(keyspace, at, key);
-    let _ = keyspace.drop_key(at.db, key);
-    there
+    let found = seek(keyspace, at, key);
+    let _ = keyspace.drop_hashed(at.db, found.sought.hash, key);
+    found.there.is_some()
 }
 
 // Removes these keys, one after the other. The answer is how many were there.

@@ -12,10 +12,10 @@ ghost use Rattle.keyspace.specs.Forms.{Whole, Formed};
 ghost use Rattle.keyspace.specs.Commands.{Ready, Kept, sight};
 ghost use Rattle.cmd_values.specs.Found.{Gives};
 
-use crate::strings::look::old_value;
+use crate::strings::look::{old_value, sought_value};
 use crate::strings::writing::put_lasting;
 use blocks::BlockStore;
-use keyspace::{Keyspace, expire, persist};
+use keyspace::{Keyspace, expire_sought, persist_sought, seek};
 use plain_model::{Ctx, Line, Memory, Refusal, Renewal, Reply, Time, TimeOrigin, TimeUnit};
 
 /// A deadline as moments have it: one before moment 0 counts as moment 0.
@@ -111,8 +111,9 @@ fn get_until<B: BlockStore>(
     match time.due(at.moment) {
         None => Reply::refused(keyspace.alloc(), Refusal::InvalidExpireTime),
         Some(due) => {
-            let reply = old_value(keyspace, at, key)?;
-            expire(keyspace, at, key, due)?;
+            let found = seek(keyspace, at, key);
+            let reply = sought_value(keyspace, at, key, found)?;
+            expire_sought(keyspace, at, key, found, due)?;
             Ok(reply)
         }
     }
@@ -128,8 +129,9 @@ fn get_persisting<B: BlockStore>(
     ensures gives { IfOk result (λ reply. getex_outcome (sight B.blocks keyspace.old at.now) at.now.moment key.now renewals.Persist ≡ leaves reply (sight B.blocks keyspace.new at.now)) }
     ensures kept { Kept B.blocks B.step (no_key at.now.db) keyspace.old keyspace.new result }
 {
-    let reply = old_value(keyspace, at, key)?;
-    let _had = persist(keyspace, at, key)?;
+    let found = seek(keyspace, at, key);
+    let reply = sought_value(keyspace, at, key, found)?;
+    let _had = persist_sought(keyspace, at, key, found)?;
     Ok(reply)
 }
 

@@ -6,10 +6,11 @@ ghost use Rattle.plain_world.specs.declared.reply.Part.TheVariants as parts;
 ghost use Rattle.string_object.specs.Text.{text_bytes, text_refs};
 ghost use Rattle.blocks.specs.Blocks.{Owned};
 ghost use Rattle.keyspace.specs.Commands.{Ready, sight};
+ghost use Rattle.keyspace.specs.Seeking.{Sees};
 ghost use Rattle.cmd_values.specs.Found.{FoundText, HasLength, OldValue};
 
 use blocks::BlockStore;
-use keyspace::{Keyspace, Value};
+use keyspace::{Keyspace, SoughtAt, Value};
 use plain_model::{Bytes, Ctx, Memory, Reply};
 use std::alloc::Global;
 use string_object::Text;
@@ -81,5 +82,28 @@ pub fn old_value<B: BlockStore>(
     match text_at(keyspace, at, key) {
         None => Reply::null(alloc),
         Some(text) => Reply::bulk(alloc, bytes_of(alloc, &keyspace.store, text)?),
+    }
+}
+
+/// The string at a key that was sought as a reply, or null where there is none.
+pub fn sought_value<B: BlockStore>(
+    keyspace: &Keyspace<B>,
+    at: &Ctx,
+    key: &[u8],
+    found: SoughtAt,
+) -> Result<Reply, Memory>
+    requires ready { Ready B.blocks keyspace.now at.now }
+    requires sees { Sees B.blocks keyspace.now at.now key.now found }
+    ensures { IfOk result (λ reply. OldValue (sight B.blocks keyspace.now at.now) key.now reply) }
+{
+    // what was found tells the key
+    let _ = key;
+    let alloc = keyspace.alloc();
+    match found.there {
+        None => Reply::null(alloc),
+        Some(item) => {
+            let text = keyspace.value_at(at.db, item).as_text();
+            Reply::bulk(alloc, bytes_of(alloc, &keyspace.store, text)?)
+        }
     }
 }

@@ -13,9 +13,9 @@ ghost use Rattle.keyspace.specs.Commands.{Ready, Held, Kept, sight};
 ghost use Rattle.cmd_values.specs.Found.{Gives, IsSetReply, IsLifetime};
 
 use crate::strings::lasting::from_zero;
-use crate::strings::look::old_value;
+use crate::strings::look::{old_value, sought_value};
 use blocks::BlockStore;
-use keyspace::{Keyspace, Value, deadline_at};
+use keyspace::{Keyspace, Value, deadline_at, seek};
 use plain_model::{Bytes, Condition, Ctx, Lifetime, Line, Memory, Refusal, Reply, SetOptions};
 use string_object::Text;
 
@@ -203,8 +203,9 @@ pub fn getdel<B: BlockStore>(
     ensures gives { Gives B.blocks keyspace.old keyspace.new at.now (strings.GetDel key.now) result }
     ensures kept { Kept B.blocks B.step (no_key at.now.db) keyspace.old keyspace.new result }
 {
-    let reply = old_value(keyspace, at, key)?;
-    let _ = keyspace.drop_key(at.db, key);
+    let found = seek(keyspace, at, key);
+    let reply = sought_value(keyspace, at, key, found)?;
+    let _ = keyspace.drop_hashed(at.db, found.sought.hash, key);
     Ok(reply)
 }
 

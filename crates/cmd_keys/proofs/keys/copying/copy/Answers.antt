@@ -1,4 +1,4 @@
-use Rattle.std.proofs.Common.{refl, sym}
+use Rattle.std.proofs.Common.{refl, sym, ap, is_some}
 use Rattle.keyspace.specs.Commands.{seen}
 use Rattle.cmd_keys.proofs.Copying.{copy_done, copy_stopped}
 use Rattle.keyspace.proofs.Running.{unchanged}
@@ -11,21 +11,21 @@ pub returns-then-is_taken-clause-gives : goal.returns-then-is_taken-clause-gives
 returns-then-is_taken-clause-gives g c =
     let world = seen c.args.at.now c.args.keyspace.now.bases (g.B.BlockStore.blocks c.args.keyspace.now.store) in
     copy_stopped world c.args.from.now c.args.to.now c.args.options c.number_of-number.result (c.number_of-number.ensures.number world refl) c.count_reply-then-is_taken.result
-    (sym c.if-is_same_place.ensures) (sym c.if-not-is_there.ensures) (sym c.if-is_taken.ensures) c.count_reply-then-is_taken.ensures
+    (sym c.if-is_same_place.ensures) (ap is_some (rw c.in-Some.is at c.seek-found.ensures.until).stands) (sym c.if-is_taken.ensures) c.count_reply-then-is_taken.ensures
 
-pub returns-clause-gives : goal.returns-clause-gives
-returns-clause-gives g c =
+pub returns-in_ok-copy_to-in-Some-clause-gives : goal.returns-in_ok-copy_to-in-Some-clause-gives
+returns-in_ok-copy_to-in-Some-clause-gives g c =
     let blocks = g.B.BlockStore.blocks in
     let world = seen c.args.at.now c.args.keyspace.now.bases (blocks c.args.keyspace.now.store) in
-    copy_done world c.args.from.now c.args.to.now c.args.options c.number_of-number.result (c.number_of-number.ensures.number world refl) (seen c.args.at.now c.copy_to.new.keyspace.bases (blocks c.copy_to.new.keyspace.store)) c.count_reply-2.result
-    (sym c.if-is_same_place.ensures) (sym c.if-not-is_there.ensures) (sym c.if-is_taken.ensures) c.in_ok-copy_to.ensures.world c.count_reply-2.ensures
+    copy_done world c.args.from.now c.args.to.now c.args.options c.number_of-number.result (c.number_of-number.ensures.number world refl) (seen c.args.at.now c.copy_to.new.keyspace.bases (blocks c.copy_to.new.keyspace.store)) c.count_reply-in-Some.result
+    (sym c.if-is_same_place.ensures) (ap is_some (rw c.in-Some.is at c.seek-found.ensures.until).stands) (sym c.if-is_taken.ensures) c.in_ok-copy_to-in-Some.ensures.world c.count_reply-in-Some.ensures
 
 pub returns-then-is_same_place-clause-kept : goal.returns-then-is_same_place-clause-kept
 returns-then-is_same_place-clause-kept g c =
     unchanged g.B.BlockStore.blocks g.B.BlockStore.step (two_keys c.args.at.now.db c.args.from.now (number_or c.args.at.now.db c.args.options.db) c.args.to.now) c.args.keyspace.now _ c.requires.ready.sound
 
-pub returns-then-not-is_there-clause-kept : goal.returns-then-not-is_there-clause-kept
-returns-then-not-is_there-clause-kept g c =
+pub returns-in-None-clause-kept : goal.returns-in-None-clause-kept
+returns-in-None-clause-kept g c =
     unchanged g.B.BlockStore.blocks g.B.BlockStore.step (two_keys c.args.at.now.db c.args.from.now (number_or c.args.at.now.db c.args.options.db) c.args.to.now) c.args.keyspace.now _ c.requires.ready.sound
 
 pub returns-then-is_taken-clause-kept : goal.returns-then-is_taken-clause-kept
@@ -35,11 +35,11 @@ returns-then-is_taken-clause-kept g c =
 pub returns-then-is_same_place-clause-forms : goal.returns-then-is_same_place-clause-forms
 returns-then-is_same_place-clause-forms g c = unformed g.B.BlockStore.blocks (AsAt c.args.at.now.db c.args.from.now) c.args.keyspace.now _
 
-pub returns-then-not-is_there-clause-forms : goal.returns-then-not-is_there-clause-forms
-returns-then-not-is_there-clause-forms g c = unformed g.B.BlockStore.blocks (AsAt c.args.at.now.db c.args.from.now) c.args.keyspace.now _
+pub returns-in-None-clause-forms : goal.returns-in-None-clause-forms
+returns-in-None-clause-forms g c = unformed g.B.BlockStore.blocks (AsAt c.args.at.now.db c.args.from.now) c.args.keyspace.now _
 
 pub returns-then-is_taken-clause-forms : goal.returns-then-is_taken-clause-forms
 returns-then-is_taken-clause-forms g c = unformed g.B.BlockStore.blocks (AsAt c.args.at.now.db c.args.from.now) c.args.keyspace.now _
 
-pub returns-clause-forms : goal.returns-clause-forms
-returns-clause-forms g c = formed_ok g.B.BlockStore.blocks (AsAt c.args.at.now.db c.args.from.now) c.args.keyspace.now c.copy_to.new.keyspace _ c.in_ok-copy_to.ensures.forms
+pub returns-in_ok-copy_to-in-Some-clause-forms : goal.returns-in_ok-copy_to-in-Some-clause-forms
+returns-in_ok-copy_to-in-Some-clause-forms g c = formed_ok g.B.BlockStore.blocks (AsAt c.args.at.now.db c.args.from.now) c.args.keyspace.now c.copy_to.new.keyspace _ c.in_ok-copy_to-in-Some.ensures.forms

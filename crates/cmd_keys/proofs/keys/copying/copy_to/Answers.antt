@@ -1,4 +1,4 @@
-use Rattle.std.proofs.Common.{[], ap, arith, ◌∙◌}
+use Rattle.std.proofs.Common.{[], ap, sym, arith, ◌∙◌}
 use Rattle.blocks.proofs.Serve.{Served-then}
 use Rattle.plain_world.specs.Worlds.{deadline_of}
 use Rattle.keyspace.specs.Values.{value_refs}
@@ -13,8 +13,8 @@ returns-in-Ok-clause-world g c =
     let blocks = g.B.BlockStore.blocks in
     on_ok_so c.put.result (λ clause entry stands.
     copied_put c.args.at.now c.args.keyspace.now.bases c.copy_value.new.keyspace.bases c.put.new.self.bases (blocks c.args.keyspace.now.store) (blocks c.copy_value.new.keyspace.store) (blocks c.put.new.self.store)
-    c.args.number c.args.to.now c.args.from.now c.in-Ok.value c.deadline_at-deadline.result entry stands c.copy_value.ensures.world (c.in-Ok.ensures.value entry stands)
-    (c.deadline_at-deadline.ensures.value ∙ ap deadline_of stands) clause) c.put.ensures.means
+    c.args.number c.args.to.now c.args.from.now c.in-Ok.value c.args.deadline entry stands c.copy_value.ensures.world (c.in-Ok.ensures.value entry stands)
+    (ap deadline_of (sym c.requires.until.stands ∙ stands)) clause) c.put.ensures.means
 
 pub returns-in-Ok-clause-held : goal.returns-in-Ok-clause-held
 returns-in-Ok-clause-held g c = record {

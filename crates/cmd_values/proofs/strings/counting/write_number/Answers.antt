@@ -1,4 +1,4 @@
-use Rattle.std.proofs.Common.{◌≡◌, rules, [], Some, ap, subst, ◌∙◌}
+use Rattle.std.proofs.Common.{rules, [], Some, ap, subst, ◌∙◌}
 use Rattle.keyspace.specs.Values.{value_of}
 use Rattle.std.specs.Int.{w64}
 use Rattle.std.proofs.lemmas.Int.{to_z-of_z}

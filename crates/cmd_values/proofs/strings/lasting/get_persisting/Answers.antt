@@ -6,7 +6,7 @@ use Rattle.cmd_values.proofs.strings.lasting.get_persisting.Goals as goal
 
 pub returns-clause-gives : goal.returns-clause-gives
 returns-clause-gives g c =
-    old_value_then (sight g.B.BlockStore.blocks c.args.keyspace.now c.args.at.now) (sight g.B.BlockStore.blocks c.persist.new.keyspace c.args.at.now) c.args.key.now c.in_ok-reply.reply _ c.in_ok-reply.ensures c.in_ok-_had.ensures.world
+    old_value_then (sight g.B.BlockStore.blocks c.args.keyspace.now c.args.at.now) (sight g.B.BlockStore.blocks c.persist_sought.new.keyspace c.args.at.now) c.args.key.now c.in_ok-reply.reply _ c.in_ok-reply.ensures c.in_ok-_had.ensures.world
 
 pub returns-in_err-reply-clause-kept : goal.returns-in_err-reply-clause-kept
 returns-in_err-reply-clause-kept g c =

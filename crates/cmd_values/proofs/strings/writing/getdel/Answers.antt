@@ -5,15 +5,15 @@ use Rattle.keyspace.specs.Scopes.{no_key}
 use Rattle.cmd_values.proofs.strings.writing.getdel.Goals as goal
 
 pub returns-clause-gives : goal.returns-clause-gives
-returns-clause-gives g c = removed c.args.at.now c.args.keyspace.now.bases c.drop_key.new.self.bases _ _ c.args.key.now c.in_ok-reply.reply c.in_ok-reply.ensures c.drop_key.ensures.means
+returns-clause-gives g c = removed c.args.at.now c.args.keyspace.now.bases c.drop_hashed.new.self.bases _ _ c.args.key.now c.in_ok-reply.reply c.in_ok-reply.ensures c.drop_hashed.ensures.means
 
 pub returns-clause-kept : goal.returns-clause-kept
 returns-clause-kept g c = record {
   refusals = search rules;
-  sound = c.drop_key.ensures.sound [] c.requires.ready.sound;
-  served = c.drop_key.ensures.served;
-  settings = c.drop_key.ensures.settings;
-  within = c.drop_key.ensures.within;
+  sound = c.drop_hashed.ensures.sound [] c.requires.ready.sound;
+  served = c.drop_hashed.ensures.served;
+  settings = c.drop_hashed.ensures.settings;
+  within = c.drop_hashed.ensures.within;
 }
 
 pub returns-in_err-reply-clause-kept : goal.returns-in_err-reply-clause-kept

@@ -8,51 +8,51 @@ use Rattle.std.proofs.Common.{◌≡◌}
 use Rattle.held.proofs.keyspace.Keyspace.place_sought.Goals as goal
 
 pub returns-in-Err-clause-served : goal.returns-in-Err-clause-served
-returns-in-Err-clause-served g c = subst (Served g.B.BlockStore.step c.args.self.now.store) (sym c.retime_sought.ensures.store) no_step
+returns-in-Err-clause-served g c = subst (Served g.B.BlockStore.step c.args.self.now.store) (sym c.retime.ensures.store) no_step
 
 pub release-requires : goal.release-requires
 release-requires g c =
     let m = g.B.BlockStore.blocks c.args.self.now.store in
     let after = m in
-    subst (λ (b : Blocks). Owned (g.V.Held.refs_of c.swap_value-was.result) b) (sym (ap g.B.BlockStore.blocks c.retime_sought.ensures.store)) (put_owned g.V.Held.refs_of g.V.Held.value_of g.met.V.Held.reads_own c.args.self.now.bases c.retime_sought.new.self.bases c.swap_value-was.new.self c.args.db m after c.in-Some.at c.args.key.now c.swap_value-was.result c.args.value c.args.deadline c.requires.intact c.retime_sought.ensures.changes c.retime_sought.ensures.arranged c.in_default.ensures.times (rw c.in-Some.is at c.requires.seeks.stands) c.swap_value-was.ensures.changes c.swap_value-was.ensures.swaps (c.swap_value-was.ensures.keyed m (c.retime_sought.ensures.arranged.keyed c.args.db)))
+    subst (λ (b : Blocks). Owned (g.V.Held.refs_of c.swap_value-was.result) b) (sym (ap g.B.BlockStore.blocks c.retime.ensures.store)) (put_owned g.V.Held.refs_of g.V.Held.value_of g.met.V.Held.reads_own c.args.self.now.bases c.retime.new.self.bases c.swap_value-was.new.self c.args.db m after c.in-Some.at c.args.key.now c.swap_value-was.result c.args.value c.args.deadline c.requires.intact c.retime.ensures.changes c.retime.ensures.arranged c.in_default.ensures.times (rw c.in-Some.is at c.requires.seeks.stands) c.swap_value-was.ensures.changes c.swap_value-was.ensures.swaps (c.swap_value-was.ensures.keyed m (c.retime.ensures.arranged.keyed c.args.db)))
 
 pub returns-in_default-clause-means : goal.returns-in_default-clause-means
 returns-in_default-clause-means g c =
     let m = g.B.BlockStore.blocks c.args.self.now.store in
     let after = g.B.BlockStore.blocks c.release.new.store in
-    put_over g.V.Held.refs_of g.V.Held.value_of g.met.V.Held.reads_own c.args.self.now.bases c.retime_sought.new.self.bases c.swap_value-was.new.self c.args.db m after c.in-Some.at c.args.key.now c.swap_value-was.result c.args.value c.args.deadline c.requires.intact c.retime_sought.ensures.changes c.retime_sought.ensures.arranged c.in_default.ensures.times (rw c.in-Some.is at c.requires.seeks.stands) c.swap_value-was.ensures.changes c.swap_value-was.ensures.swaps (c.swap_value-was.ensures.keyed m (c.retime_sought.ensures.arranged.keyed c.args.db))
-    (subst (λ (b : Blocks). Changes b after (g.V.Held.refs_of c.swap_value-was.result) []) (ap g.B.BlockStore.blocks c.retime_sought.ensures.store) c.release.ensures.changes)
+    put_over g.V.Held.refs_of g.V.Held.value_of g.met.V.Held.reads_own c.args.self.now.bases c.retime.new.self.bases c.swap_value-was.new.self c.args.db m after c.in-Some.at c.args.key.now c.swap_value-was.result c.args.value c.args.deadline c.requires.intact c.retime.ensures.changes c.retime.ensures.arranged c.in_default.ensures.times (rw c.in-Some.is at c.requires.seeks.stands) c.swap_value-was.ensures.changes c.swap_value-was.ensures.swaps (c.swap_value-was.ensures.keyed m (c.retime.ensures.arranged.keyed c.args.db))
+    (subst (λ (b : Blocks). Changes b after (g.V.Held.refs_of c.swap_value-was.result) []) (ap g.B.BlockStore.blocks c.retime.ensures.store) c.release.ensures.changes)
 
 pub returns-in_default-clause-changes : goal.returns-in_default-clause-changes
 returns-in_default-clause-changes g c =
     let m = g.B.BlockStore.blocks c.args.self.now.store in
     let after = g.B.BlockStore.blocks c.release.new.store in
-    put_changes g.V.Held.refs_of g.V.Held.value_of g.met.V.Held.reads_own c.args.self.now.bases c.retime_sought.new.self.bases c.swap_value-was.new.self c.args.db m after c.in-Some.at c.args.key.now c.swap_value-was.result c.args.value c.args.deadline c.requires.intact c.retime_sought.ensures.changes c.retime_sought.ensures.arranged c.in_default.ensures.times (rw c.in-Some.is at c.requires.seeks.stands) c.swap_value-was.ensures.changes c.swap_value-was.ensures.swaps (c.swap_value-was.ensures.keyed m (c.retime_sought.ensures.arranged.keyed c.args.db))
-    (subst (λ (b : Blocks). Changes b after (g.V.Held.refs_of c.swap_value-was.result) []) (ap g.B.BlockStore.blocks c.retime_sought.ensures.store) c.release.ensures.changes)
+    put_changes g.V.Held.refs_of g.V.Held.value_of g.met.V.Held.reads_own c.args.self.now.bases c.retime.new.self.bases c.swap_value-was.new.self c.args.db m after c.in-Some.at c.args.key.now c.swap_value-was.result c.args.value c.args.deadline c.requires.intact c.retime.ensures.changes c.retime.ensures.arranged c.in_default.ensures.times (rw c.in-Some.is at c.requires.seeks.stands) c.swap_value-was.ensures.changes c.swap_value-was.ensures.swaps (c.swap_value-was.ensures.keyed m (c.retime.ensures.arranged.keyed c.args.db))
+    (subst (λ (b : Blocks). Changes b after (g.V.Held.refs_of c.swap_value-was.result) []) (ap g.B.BlockStore.blocks c.retime.ensures.store) c.release.ensures.changes)
 
 pub returns-in_default-clause-arranged : goal.returns-in_default-clause-arranged
 returns-in_default-clause-arranged g c =
     let m = g.B.BlockStore.blocks c.args.self.now.store in
     let after = g.B.BlockStore.blocks c.release.new.store in
-    put_arranged g.V.Held.refs_of g.V.Held.value_of g.met.V.Held.reads_own c.args.self.now.bases c.retime_sought.new.self.bases c.swap_value-was.new.self c.args.db m after c.in-Some.at c.args.key.now c.swap_value-was.result c.args.value c.args.deadline c.requires.intact c.retime_sought.ensures.changes c.retime_sought.ensures.arranged c.in_default.ensures.times (rw c.in-Some.is at c.requires.seeks.stands) c.swap_value-was.ensures.changes c.swap_value-was.ensures.swaps (c.swap_value-was.ensures.keyed m (c.retime_sought.ensures.arranged.keyed c.args.db))
-    (subst (λ (b : Blocks). Changes b after (g.V.Held.refs_of c.swap_value-was.result) []) (ap g.B.BlockStore.blocks c.retime_sought.ensures.store) c.release.ensures.changes)
+    put_arranged g.V.Held.refs_of g.V.Held.value_of g.met.V.Held.reads_own c.args.self.now.bases c.retime.new.self.bases c.swap_value-was.new.self c.args.db m after c.in-Some.at c.args.key.now c.swap_value-was.result c.args.value c.args.deadline c.requires.intact c.retime.ensures.changes c.retime.ensures.arranged c.in_default.ensures.times (rw c.in-Some.is at c.requires.seeks.stands) c.swap_value-was.ensures.changes c.swap_value-was.ensures.swaps (c.swap_value-was.ensures.keyed m (c.retime.ensures.arranged.keyed c.args.db))
+    (subst (λ (b : Blocks). Changes b after (g.V.Held.refs_of c.swap_value-was.result) []) (ap g.B.BlockStore.blocks c.retime.ensures.store) c.release.ensures.changes)
 
 pub returns-in_default-clause-within : goal.returns-in_default-clause-within
 returns-in_default-clause-within g c =
     let m = g.B.BlockStore.blocks c.args.self.now.store in
     let after = g.B.BlockStore.blocks c.release.new.store in
-    put_within g.V.Held.refs_of g.V.Held.value_of g.met.V.Held.reads_own c.args.self.now.bases c.retime_sought.new.self.bases c.swap_value-was.new.self c.args.db m after c.in-Some.at c.args.key.now c.swap_value-was.result c.args.value c.args.deadline c.requires.intact c.retime_sought.ensures.changes c.retime_sought.ensures.arranged c.in_default.ensures.times (rw c.in-Some.is at c.requires.seeks.stands) c.swap_value-was.ensures.changes c.swap_value-was.ensures.swaps (c.swap_value-was.ensures.keyed m (c.retime_sought.ensures.arranged.keyed c.args.db))
-    (subst (λ (b : Blocks). Changes b after (g.V.Held.refs_of c.swap_value-was.result) []) (ap g.B.BlockStore.blocks c.retime_sought.ensures.store) c.release.ensures.changes)
-    c.retime_sought.ensures.within (c.swap_value-was.ensures.tables m)
+    put_within g.V.Held.refs_of g.V.Held.value_of g.met.V.Held.reads_own c.args.self.now.bases c.retime.new.self.bases c.swap_value-was.new.self c.args.db m after c.in-Some.at c.args.key.now c.swap_value-was.result c.args.value c.args.deadline c.requires.intact c.retime.ensures.changes c.retime.ensures.arranged c.in_default.ensures.times (rw c.in-Some.is at c.requires.seeks.stands) c.swap_value-was.ensures.changes c.swap_value-was.ensures.swaps (c.swap_value-was.ensures.keyed m (c.retime.ensures.arranged.keyed c.args.db))
+    (subst (λ (b : Blocks). Changes b after (g.V.Held.refs_of c.swap_value-was.result) []) (ap g.B.BlockStore.blocks c.retime.ensures.store) c.release.ensures.changes)
+    c.retime.ensures.within (c.swap_value-was.ensures.tables m)
 
 pub returns-in-Err-clause-within : goal.returns-in-Err-clause-within
 returns-in-Err-clause-within g c =
-    subst (λ (b : Blocks). Within g.V.Held.refs_of (one_key c.args.db c.args.key.now) c.args.self.now.bases c.retime_sought.new.self.bases (g.B.BlockStore.blocks c.args.self.now.store) b) (sym (ap g.B.BlockStore.blocks c.retime_sought.ensures.store))
-    (within_keys g.V.Held.refs_of c.args.db (λ other. other ≡ c.args.key.now) c.args.self.now.bases c.retime_sought.new.self.bases (g.B.BlockStore.blocks c.args.self.now.store) (g.B.BlockStore.blocks c.args.self.now.store) c.retime_sought.ensures.within)
+    subst (λ (b : Blocks). Within g.V.Held.refs_of (one_key c.args.db c.args.key.now) c.args.self.now.bases c.retime.new.self.bases (g.B.BlockStore.blocks c.args.self.now.store) b) (sym (ap g.B.BlockStore.blocks c.retime.ensures.store))
+    (within_keys g.V.Held.refs_of c.args.db (λ other. other ≡ c.args.key.now) c.args.self.now.bases c.retime.new.self.bases (g.B.BlockStore.blocks c.args.self.now.store) (g.B.BlockStore.blocks c.args.self.now.store) c.retime.ensures.within)
 
 pub returns-in_default-clause-has : goal.returns-in_default-clause-has
 returns-in_default-clause-has g c =
     let m = g.B.BlockStore.blocks c.args.self.now.store in
     let after = g.B.BlockStore.blocks c.release.new.store in
-    put_only g.V.Held.refs_of g.V.Held.value_of g.met.V.Held.reads_own c.args.self.now.bases c.retime_sought.new.self.bases c.swap_value-was.new.self c.args.db m after c.in-Some.at c.args.key.now c.swap_value-was.result c.args.value c.args.deadline c.requires.intact c.retime_sought.ensures.changes c.retime_sought.ensures.arranged c.in_default.ensures.times (rw c.in-Some.is at c.requires.seeks.stands) c.swap_value-was.ensures.changes c.swap_value-was.ensures.swaps (c.swap_value-was.ensures.keyed m (c.retime_sought.ensures.arranged.keyed c.args.db))
-    (subst (λ (b : Blocks). Changes b after (g.V.Held.refs_of c.swap_value-was.result) []) (ap g.B.BlockStore.blocks c.retime_sought.ensures.store) c.release.ensures.changes)
+    put_only g.V.Held.refs_of g.V.Held.value_of g.met.V.Held.reads_own c.args.self.now.bases c.retime.new.self.bases c.swap_value-was.new.self c.args.db m after c.in-Some.at c.args.key.now c.swap_value-was.result c.args.value c.args.deadline c.requires.intact c.retime.ensures.changes c.retime.ensures.arranged c.in_default.ensures.times (rw c.in-Some.is at c.requires.seeks.stands) c.swap_value-was.ensures.changes c.swap_value-was.ensures.swaps (c.swap_value-was.ensures.keyed m (c.retime.ensures.arranged.keyed c.args.db))
+    (subst (λ (b : Blocks). Changes b after (g.V.Held.refs_of c.swap_value-was.result) []) (ap g.B.BlockStore.blocks c.retime.ensures.store) c.release.ensures.changes)

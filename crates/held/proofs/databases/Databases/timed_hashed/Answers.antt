@@ -1,6 +1,6 @@
 use Rattle.held.specs.Databases.{deadlines_at}
 use Rattle.held.proofs.Timing.{moments_lack}
-use Rattle.held.proofs.databases.Databases.deadline_hashed.Goals as goal
+use Rattle.held.proofs.databases.Databases.timed_hashed.Goals as goal
 
 pub returns-then-has_no_deadline-clause-value : goal.returns-then-has_no_deadline-clause-value
 returns-then-has_no_deadline-clause-value g c =

@@ -7,7 +7,7 @@ use Rattle.held.specs.Scopes.{no_key, Within}
 use Rattle.held.proofs.Within.{within_times}
 use Rattle.held.proofs.Calls.{dropped_within}
 use Rattle.std.proofs.Common.{refl, subst}
-use Rattle.held.proofs.keyspace.Keyspace.drop_key.Goals as goal
+use Rattle.held.proofs.keyspace.Keyspace.drop_hashed.Goals as goal
 
 pub returns-in_default-clause-answer : goal.returns-in_default-clause-answer
 returns-in_default-clause-answer g c =
