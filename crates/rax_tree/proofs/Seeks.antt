@@ -8,11 +8,11 @@ use Rattle.std.specs.declared.cmp.Ordering.TheVariants.{Less}
 use Rattle.rax_tree.specs.declared.radix.Child.{Child}
 use Rattle.rax_tree.specs.declared.radix.Child.TheVariants.{Leaf, Fork}
 use Rattle.rax_tree.specs.Radix.{Shape, Places, child_for, same_bytes, followed_if, walked, Agrees, IsSound}
-use Rattle.rax_tree.specs.Seek.{IsBefore, IsAhead, IsByteAhead, IsBeyond, IsNext, Finds, StandsBelow, StandsAt, HasLevels, IsSeekable, IsFirst, IsFirstBeyond, GoesBeyond}
+use Rattle.rax_tree.specs.Seek.{IsLess, IsAhead, IsByteAhead, IsBeyond, IsNext, Finds, StandsBelow, StandsAt, HasLevels, IsSeekable, IsFirst, IsFirstBeyond, GoesBeyond}
 use Rattle.rax_tree.proofs.Walks.{some_case, bool_case, same_true, same_refl, found_agrees, walked_step}
 use Rattle.rax_tree.proofs.Partings.{some_same}
 
-before_asym : (a b : List ℕ) → IsBefore a b → IsBefore b a → ⊥
+before_asym : (a b : List ℕ) → IsLess a b → IsLess b a → ⊥
 before_asym a b p q = elim (cases_lt p.at q.at) [
   | inl first ↦ let e = q.same p.at first in let l = p.less in omega arith
   | inr later ↦ elim (cases_lt q.at p.at) [

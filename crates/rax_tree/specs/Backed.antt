@@ -8,4 +8,5 @@ use Rattle.rax_tree.specs.Radix.{IsSound, places_of, value_at}
 pub record IsBacked {V : Type 0} (radix : Radix) (values : slab.Slab V) : Type 0 where
   pub sound : IsSound (places_of radix)
   pub live : (key : List ℕ) (at : ℕ) → value_at (places_of radix) key ≡ Some at → IsSome (slab.get values at)
-  pub apart : (key other : List ℕ) (at : ℕ) → value_at (places_of radix) key ≡ Some at → value_at (places_of radix) other ≡ Some at → key ≡ other
+  pub apart : (key other : List ℕ) (at : ℕ) → value_at (places_of radix) key ≡ Some at
+      → value_at (places_of radix) other ≡ Some at → key ≡ other

@@ -8,7 +8,8 @@ use Rattle.rax_tree.specs.declared.radix.Radix.{Radix}
 use Rattle.rax_tree.specs.Radix.{Places, Shape, Leads}
 use Rattle.rax_tree.specs.Backed.{IsBacked}
 
-leads_prop : (places : Places) (place : Option ℕ) (shape : Shape) (byte : ℕ) (child : Child) → IsProp (Leads places place shape byte child)
+leads_prop : (places : Places) (place : Option ℕ) (shape : Shape) (byte : ℕ) (child : Child)
+    → IsProp (Leads places place shape byte child)
 leads_prop places place shape byte (Leaf at value) = hlevel props
 leads_prop places place shape byte (Fork at) = hlevel props
 

@@ -83,8 +83,10 @@ pub record IsSoundBut (spared : Option ℕ) (places : Places) : Type 0 where
   pub standing : IsSome (places None)
   pub rooted : (shape : Shape) → places None ≡ Some shape → shape.depth ≡ 0
   pub shallow : (place : Option ℕ) (shape : Shape) → places place ≡ Some shape → shape.depth < 16
-  pub leads : (place : Option ℕ) (shape : Shape) (byte : ℕ) (child : Child) → places place ≡ Some shape → shape.child byte ≡ Some child → Leads places place shape byte child
-  pub filled : (at : ℕ) (shape : Shape) → places (Some at) ≡ Some shape → (spared ≡ Some at → ⊥) → ((byte : ℕ) → shape.child byte ≡ None) → ⊥
+  pub leads : (place : Option ℕ) (shape : Shape) (byte : ℕ) (child : Child) → places place ≡ Some shape
+      → shape.child byte ≡ Some child → Leads places place shape byte child
+  pub filled : (at : ℕ) (shape : Shape) → places (Some at) ≡ Some shape → (spared ≡ Some at → ⊥)
+      → ((byte : ℕ) → shape.child byte ≡ None) → ⊥
 
 abbrev pub IsSound : Places → Type 0
 IsSound places = IsSoundBut None places
@@ -92,7 +94,8 @@ IsSound places = IsSoundBut None places
 -- the way of a key from a place leads through branches to another place, which it does not pass before
 pub data Passes (places : Places) (key : List ℕ) (to : Option ℕ) : ℕ → ℕ → Option ℕ → Type 0 where
   arrived : (levels : ℕ) → Passes places key to levels levels to
-  onward : (levels left at : ℕ) (place : Option ℕ) → (place ≡ to → ⊥) → child_for (places place) key ≡ Some (Fork at) → Passes places key to levels left (Some at) → Passes places key to (suc levels) left place
+  onward : (levels left at : ℕ) (place : Option ℕ) → (place ≡ to → ⊥) → child_for (places place) key ≡ Some (Fork at)
+      → Passes places key to levels left (Some at) → Passes places key to (suc levels) left place
 
 -- the key begins as all keys below the branch do
 abbrev pub IsBegunAt : Option Shape → List ℕ → Type 0
@@ -150,13 +153,15 @@ IsSpan places (Fork at) prefix depth =
     (shape : Shape) → places (Some at) ≡ Some shape → (prefix ≡ shape.prefix) × (depth ≡ shape.depth)
 
 -- a branch of two children: the one that was there, and a new key
-pub record IsFork (shape : Shape) (span : List ℕ) (depth : ℕ) (parent : Option ℕ) (child : Child) (key : List ℕ) (value : ℕ) : Type 0 where
+pub record IsFork (shape : Shape) (span : List ℕ) (depth : ℕ) (parent : Option ℕ) (child : Child) (key : List ℕ)
+    (value : ℕ) : Type 0 where
   pub prefix_is : shape.prefix ≡ key
   pub depth_is : shape.depth ≡ depth
   pub parent_is : shape.parent ≡ parent
   pub old_child : shape.child (slice_index span depth) ≡ Some child
   pub new_child : shape.child (slice_index key depth) ≡ Some (Leaf key value)
-  pub no_other : (byte : ℕ) → (byte ≡ slice_index span depth → ⊥) → (byte ≡ slice_index key depth → ⊥) → shape.child byte ≡ None
+  pub no_other : (byte : ℕ) → (byte ≡ slice_index span depth → ⊥) → (byte ≡ slice_index key depth → ⊥)
+      → shape.child byte ≡ None
 
 -- the branch, hung below another
 abbrev pub hung_at : Shape → ℕ → Shape
@@ -169,7 +174,8 @@ hung_at shape at = record {
 
 -- a child hangs below a branch of the slab now, and nothing else has changed
 pub record IsHung (old new : Places) (child : Child) (at : ℕ) : Type 0 where
-  pub hung : (x : ℕ) (shape : Shape) → child ≡ Fork x → old (Some x) ≡ Some shape → new (Some x) ≡ Some (hung_at shape at)
+  pub hung : (x : ℕ) (shape : Shape) → child ≡ Fork x → old (Some x) ≡ Some shape
+      → new (Some x) ≡ Some (hung_at shape at)
   pub others : (x : Option ℕ) → ((k : ℕ) → x ≡ Some k → child ≡ Fork k → ⊥) → new x ≡ old x
 
 -- a branch has come between a place and its child
@@ -179,8 +185,10 @@ pub record IsSplit (old new : Places) (place : Option ℕ) (byte at : ℕ) (fork
   pub shape : Shape
   pub was : old place ≡ Some shape
   pub now : new place ≡ Some (relinked shape byte (Some (Fork at)))
-  pub hung : (x : ℕ) (under : Shape) → child ≡ Fork x → old (Some x) ≡ Some under → new (Some x) ≡ Some (hung_at under at)
-  pub others : (x : Option ℕ) → (x ≡ place → ⊥) → (x ≡ Some at → ⊥) → ((k : ℕ) → x ≡ Some k → child ≡ Fork k → ⊥) → new x ≡ old x
+  pub hung : (x : ℕ) (under : Shape) → child ≡ Fork x → old (Some x) ≡ Some under
+      → new (Some x) ≡ Some (hung_at under at)
+  pub others : (x : Option ℕ) → (x ≡ place → ⊥) → (x ≡ Some at → ⊥) → ((k : ℕ) → x ≡ Some k → child ≡ Fork k → ⊥)
+      → new x ≡ old x
 
 -- the byte of the place leads to a child
 abbrev pub LeadsOn : Option Shape → ℕ → Type 0
@@ -214,8 +222,10 @@ pub record IsPruning (places : Places) (key : List ℕ) (levels : ℕ) (place : 
 pub record IsPruned (old new : Places) (place : Option ℕ) : Type 0 where
   pub sound : IsSoundBut place new
   pub walks : (levels : ℕ) (x : Option ℕ) (key : List ℕ) → walked levels new x key ≡ walked levels old x key
-  pub higher : (x : Option ℕ) (shape at_place : Shape) → old place ≡ Some at_place → old x ≡ Some shape → shape.depth < at_place.depth → new x ≡ old x
-  pub stays : (shape : Shape) → old place ≡ Some shape → (after : Shape) × (new place ≡ Some after) × (after.prefix ≡ shape.prefix) × (after.depth ≡ shape.depth) × (after.parent ≡ shape.parent)
+  pub higher : (x : Option ℕ) (shape at_place : Shape) → old place ≡ Some at_place → old x ≡ Some shape
+      → shape.depth < at_place.depth → new x ≡ old x
+  pub stays : (shape : Shape) → old place ≡ Some shape → (after : Shape) × (new place ≡ Some after)
+      × (after.prefix ≡ shape.prefix) × (after.depth ≡ shape.depth) × (after.parent ≡ shape.parent)
 
 -- a branch is gone, and nothing else has changed
 pub record IsGone (old new : Places) (at : ℕ) : Type 0 where

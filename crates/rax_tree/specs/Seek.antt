@@ -5,15 +5,15 @@ use Rattle.rax_tree.specs.declared.radix.Child.TheVariants.{Leaf, Fork}
 use Rattle.rax_tree.specs.Radix.{Agrees, Shape, Places, followed, walked}
 
 -- the first byte at which two keys differ is less in the first of them
-pub record IsBefore (key other : List ℕ) : Type 0 where
+pub record IsLess (key other : List ℕ) : Type 0 where
   pub at : ℕ
   pub same : Agrees at key other
   pub less : slice_index key at < slice_index other at
 
 -- a key comes before another in a direction: upwards or downwards
 abbrev pub IsAhead : Bool → List ℕ → List ℕ → Type 0
-IsAhead true key other = IsBefore key other
-IsAhead false key other = IsBefore other key
+IsAhead true key other = IsLess key other
+IsAhead false key other = IsLess other key
 
 -- a byte comes before another in a direction
 abbrev pub IsByteAhead : Bool → ℕ → ℕ → Type 0

@@ -365,9 +365,9 @@ impl Radix {
         match child {
             Child::Leaf(at, _) => at,
             Child::Fork(at) => match self.branches.get(at) {
-                None => [0; KEY_LEN],
+                None => unreachable!(),
                 Some(branch) => match branch.next(up, None) {
-                    None => [0; KEY_LEN],
+                    None => unreachable!(),
                     Some(below) => self.edge(below, up, levels - 1),
                 },
             },
@@ -463,7 +463,7 @@ impl Radix {
         match place {
             None => self.root.link(byte, child),
             Some(at) => match self.branches.get_mut(at) {
-                None => Ok(()),
+                None => unreachable!(),
                 Some(branch) => branch.link(byte, child),
             },
         }
