@@ -36,7 +36,12 @@ fn steps(dice: &mut Pcg32, bound: u32) -> u32 {
 }
 
 // The bytes answered, where fewer steps of each kind than a bound are planned after each request.
-fn answered(alloc: Global, stream: &[u8], dice: &mut Pcg32, bound: u32) -> Result<MemSink, AllocError> {
+fn answered(
+    alloc: Global,
+    stream: &[u8],
+    dice: &mut Pcg32,
+    bound: u32,
+) -> Result<MemSink, AllocError> {
     let mut plans = Vec::new(alloc);
     let mut moments = Vec::new(alloc);
     for number in 0..COUNT {

@@ -1,4 +1,4 @@
-use Rattle.std.proofs.Common.{◌≡◌, ◌-◌, ◌≤◌, ◌<◌, None}
+use Rattle.std.proofs.Common.{◌≡◌, ◌-◌, ◌≤◌, None}
 use Rattle.defrag.specs.Swept.{IsSwept}
 use Rattle.defrag.specs.Ways.{shape, Way}
 use Rattle.defrag.proofs.walk.Walk.pass_calm.Given as goal
