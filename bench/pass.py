@@ -9,7 +9,7 @@ import sys
 
 # nothing is left beside the sources
 sys.dont_write_bytecode = True
-from set_get import request  # noqa: E402
+from resp import request  # noqa: E402
 
 # the shortest and the longest value, in bytes
 SHORT, LONG = 8, 512

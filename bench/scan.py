@@ -16,7 +16,7 @@ import threading
 
 # nothing is left beside the sources
 sys.dont_write_bytecode = True
-from set_get import request  # noqa: E402
+from resp import request  # noqa: E402
 
 
 class Served:

@@ -45,7 +45,7 @@ compare() {
 }
 
 start_server
-python3 bench/cache.py set "$keys" 0 "$room/prepared" "$room/none" > /dev/null
+python3 bench/workloads.py set "$keys" 0 32 "$room/prepared" "$room/none" > /dev/null
 python3 bench/pipe.py "$room/socket" "$room/prepared" "$room/first" > /dev/null
 alone=$(least run_program "$room/prepared")
 for pattern in '' 'key:*7'; do

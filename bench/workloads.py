@@ -1,0 +1,108 @@
+#!/usr/bin/env python3
+"""Writes requests of one workload in RESP2: those that prepare the keys into one file, and those that are measured into another,
+and prints how many are measured.
+
+usage: workloads.py set|get|incr|setex|expire|mset|mget|append|del|mix KEYS REQUESTS BYTES PREPARED MEASURED
+
+A key has 16 bytes, and a value as many as BYTES says; for INCR a value is a number. MSET and MGET name 10 keys. The mix is of 80
+percent GET, 15 SET and 5 EXPIRE, with few keys that are named often. All keys are there before, but for those that DEL named.
+"""
+import random
+import sys
+
+# nothing is left beside the sources
+sys.dont_write_bytecode = True
+from resp import request  # noqa: E402
+
+# keys of an MSET and an MGET
+GROUP = 10
+SECONDS = b"100000"
+# how uneven the choice of keys of the mix is: the number of a key is that of a power of a fair choice
+SKEW = 4
+
+
+def name(number):
+    return b"key:%012d" % number
+
+
+def value(number, length):
+    return (b"%d" % number)[-length:].rjust(length, b"v")
+
+
+def prepared(kind, keys, length):
+    """A SET of each key."""
+    for i in range(keys):
+        yield request(b"SET", name(i), b"%d" % i if kind == "incr" else value(i, length))
+
+
+def mixed(i, key, dice, length):
+    """GET, SET or EXPIRE of a key."""
+    pick = dice.random()
+    if pick < 0.80:
+        return request(b"GET", key)
+    if pick < 0.95:
+        return request(b"SET", key, value(i, length))
+    return request(b"EXPIRE", key, SECONDS)
+
+
+def one(kind, i, key, dice, keys, length):
+    """A request of a workload."""
+    if kind == "set":
+        return request(b"SET", key, value(i, length))
+    if kind == "setex":
+        return request(b"SETEX", key, SECONDS, value(i, length))
+    if kind == "expire":
+        return request(b"EXPIRE", key, SECONDS)
+    if kind == "append":
+        return request(b"APPEND", key, b"+")
+    if kind == "mget":
+        return request(b"MGET", *[name(dice.randrange(keys)) for _ in range(GROUP)])
+    if kind == "mset":
+        words = [[name(dice.randrange(keys)), value(i, length)] for _ in range(GROUP)]
+        return request(b"MSET", *[word for pair in words for word in pair])
+    if kind == "mix":
+        return mixed(i, key, dice, length)
+    return request(kind.upper().encode(), key)
+
+
+def numbers(kind, keys, count, dice):
+    """The keys that the requests name, one after the other."""
+    if kind == "del":
+        order = list(range(keys))
+        dice.shuffle(order)
+        return order[:count]
+    if kind == "mix":
+        return (int(keys * dice.random() ** SKEW) for _ in range(count))
+    return (dice.randrange(keys) for _ in range(count))
+
+
+def measured(kind, keys, count, length):
+    dice = random.Random(1)
+    for i, number in enumerate(numbers(kind, keys, count, dice)):
+        yield one(kind, i, name(number), dice, keys, length)
+
+
+def write(path, requests):
+    """Writes requests to a file, many at once, and says how many there were."""
+    count = 0
+    batch = []
+    with open(path, "wb") as out:
+        for bytes_of_one in requests:
+            count += 1
+            batch.append(bytes_of_one)
+            if len(batch) == 10_000:
+                out.write(b"".join(batch))
+                batch.clear()
+        out.write(b"".join(batch))
+    return count
+
+
+def main():
+    kind, keys, count, length, first, second = sys.argv[1:]
+    keys, count, length = int(keys), int(count), int(length)
+    write(first, prepared(kind, keys, length))
+    print(write(second, measured(kind, keys, count, length)))
+
+
+if __name__ == "__main__":
+    main()
