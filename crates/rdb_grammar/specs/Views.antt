@@ -21,9 +21,9 @@ text_of (chunks.Number n) = signed_decimal n
 
 abbrev pub head_of : CodeHead → Head
 head_of (heads.Len n) = Len n
-head_of heads.Tiny = Num w8
-head_of heads.Small = Num w16
-head_of heads.Wide = Num w32
+head_of heads.Int8 = Num w8
+head_of heads.Int16 = Num w16
+head_of heads.Int32 = Num w32
 
 abbrev pub value_of : FileValue → Value
 value_of (values.Text chunk) = Str (text_of chunk)

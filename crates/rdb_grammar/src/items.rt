@@ -7,6 +7,7 @@ ghost use Rattle.rdb_grammar.specs.Values.{string_value};
 ghost use Rattle.rdb_grammar.specs.Views.{item_of as item_seen};
 ghost use Rattle.rdb_grammar.specs.Gives.{Gives};
 
+use crate::codes;
 use crate::fault::{LoadKind, Refused};
 use crate::opcodes::{
     database, deadline_in_ms, deadline_in_seconds, frequency, idle_time, name_and_text, sizes,
@@ -55,18 +56,23 @@ fn item_behind(first: u8, rest: &[u8]) -> Result<(Meaning<'_>, &[u8]), Refused>
     ensures { Gives (λ x. (item_seen x.0, x.1.now)) result (branch_read (item_behind_of first) rest.now) }
 {
     match first {
-        0 => text_item_of(rest),
-        248 => idle_time(rest),
-        249 => frequency(rest),
-        250 => name_and_text(rest),
-        251 => sizes(rest),
-        252 => deadline_in_ms(rest),
-        253 => deadline_in_seconds(rest),
-        254 => database(rest),
-        255 => Ok((Meaning::End, rest)),
-        3 | 9 | 10 | 12 | 13 | 14 => refused(LoadKind::OldKind, rest),
-        6 | 7 | 247 => refused(LoadKind::Module, rest),
-        245 | 246 => refused(LoadKind::Functions, rest),
+        codes::STRING => text_item_of(rest),
+        codes::IDLE => idle_time(rest),
+        codes::FREQUENCY => frequency(rest),
+        codes::AUXILIARY => name_and_text(rest),
+        codes::SIZES => sizes(rest),
+        codes::DEADLINE_MS => deadline_in_ms(rest),
+        codes::DEADLINE => deadline_in_seconds(rest),
+        codes::SELECT_DB => database(rest),
+        codes::EOF => Ok((Meaning::End, rest)),
+        codes::OLD_SORTED_SET
+        | codes::HASH_ZIPMAP
+        | codes::LIST_ZIPLIST
+        | codes::SORTED_SET_ZIPLIST
+        | codes::HASH_ZIPLIST
+        | codes::LIST_OF_ZIPLISTS => refused(LoadKind::OldKind, rest),
+        codes::OLD_MODULE | codes::MODULE | codes::MODULE_DATA => refused(LoadKind::Module, rest),
+        codes::FUNCTION | codes::OLD_FUNCTION => refused(LoadKind::Functions, rest),
         _ => refused(LoadKind::Kind, rest),
     }
 }

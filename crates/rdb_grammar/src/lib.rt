@@ -1,6 +1,7 @@
 //! The parts of a file in the RDB format, versions 9 to 11, and what a whole file means.
 #![tactic(auto)]
 
+mod codes;
 mod fault;
 mod file;
 mod items;

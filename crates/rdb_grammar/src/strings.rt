@@ -6,9 +6,9 @@ ghost use Rattle.rdb_grammar.specs.Strings.{head_behind as head_behind_of, head,
 ghost use Rattle.rdb_grammar.specs.Views.{text_of, head_of as head_seen};
 ghost use Rattle.rdb_grammar.specs.Gives.{Gives};
 
-use crate::Memory;
 use crate::fault::{LoadKind, Refused};
 use crate::lengths::{length_behind, part_of};
+use crate::{Memory, codes};
 use itoa::Buffer;
 
 /// The longest string in bytes.
@@ -50,24 +50,24 @@ impl Chunk<'_> {
 #[derive(Clone, Copy, Debug)]
 pub(crate) enum Head {
     Len(u64),
-    Tiny,
-    Small,
-    Wide,
+    Int8,
+    Int16,
+    Int32,
 }
 
 fn head_behind(first: u8, rest: &[u8]) -> Result<(Head, &[u8]), Refused>
     ensures { Gives (λ x. (head_seen x.0, x.1.now)) result (branch_read (head_behind_of first) rest.now) }
 {
-    if first == 192 {
-        return Ok((Head::Tiny, rest));
+    if first == codes::INT8 {
+        return Ok((Head::Int8, rest));
     }
-    if first == 193 {
-        return Ok((Head::Small, rest));
+    if first == codes::INT16 {
+        return Ok((Head::Int16, rest));
     }
-    if first == 194 {
-        return Ok((Head::Wide, rest));
+    if first == codes::INT32 {
+        return Ok((Head::Int32, rest));
     }
-    if first == 195 {
+    if first == codes::LZF {
         return Err(Refused {
             kind: LoadKind::Compressed,
             left: rest.len() + 1,
@@ -118,18 +118,18 @@ fn body_of(head: Head, bytes: &[u8]) -> Result<(Chunk<'_>, &[u8]), Refused>
             let (text, rest) = bytes.split_at(n as usize);
             Ok((Chunk::Part(text), rest))
         }
-        Head::Tiny => {
+        Head::Int8 => {
             let (front, rest) = part_of(bytes, 1)?;
             Ok((Chunk::Number(i8::from_le_bytes([front[0]]) as i64), rest))
         }
-        Head::Small => {
+        Head::Int16 => {
             let (front, rest) = part_of(bytes, 2)?;
             Ok((
                 Chunk::Number(i16::from_le_bytes([front[0], front[1]]) as i64),
                 rest,
             ))
         }
-        Head::Wide => {
+        Head::Int32 => {
             let (front, rest) = part_of(bytes, 4)?;
             let number = i32::from_le_bytes([front[0], front[1], front[2], front[3]]);
             Ok((Chunk::Number(number as i64), rest))
