@@ -18,7 +18,7 @@ use Rattle.rdb_grammar.specs.Gives.{SaysFault}
 use Rattle.rdb_grammar.specs.Gives.IsItemFault.{OfItem, OfSum}
 use Rattle.rdb_reader.specs.declared.items.Progress.{Progress}
 use Rattle.rdb_reader.specs.declared.keys.Put.TheVariants as puts
-use Rattle.rdb_reader.specs.Loads.{keys_below, keys_of, keys_among, Puts, state_at, Holds, IsRead, Reads, load_fault}
+use Rattle.rdb_reader.specs.Loads.{keys_below, keys_of, keys_among, Puts, state_at, Holds, IsRead, ReadsItem, load_fault}
 
 -- ---- the counts
 
@@ -129,7 +129,7 @@ module _ (bytes : List ℕ) (moment : ℕ) (world : World) (p : Progress) (h : H
     }
 
   -- what a fault of an item makes of loading
-  pub fault_read : (later : World) (f : ItemFault) → SaysFault bytes p.at f → Reads bytes moment p world later (Err (load_fault f))
+  pub fault_read : (later : World) (f : ItemFault) → SaysFault bytes p.at f → ReadsItem bytes moment p world later (Err (load_fault f))
   fault_read later faults.Memory i = tt
   fault_read later (faults.Refused what place) (OfItem f) = item_fault bytes moment p.at state what place h.reached f
   fault_read later (faults.Refused what place) (OfSum ended s f) = sum_fault bytes moment p.at state ended what place h.reached s f

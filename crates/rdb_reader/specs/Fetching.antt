@@ -5,15 +5,11 @@ use Rattle.std.specs.Global.{Vec}
 use Rattle.outside.specs.Counts.{Rose}
 use Rattle.outside.specs.Streams.{SourceSeen, TakesAll, TakesNone}
 use Rattle.outside.specs.Files.{Files}
+use Rattle.rdb_reader.specs.Named.{IsFileOf, IsLongFile}
 use Rattle.rdb_reader.specs.declared.fault.LoadFault.{LoadFault}
 use Rattle.rdb_reader.specs.declared.fault.LoadFault.TheVariants as faults
 use Rattle.rdb_reader.specs.declared.fetch.Taken.{Taken}
 use Rattle.rdb_reader.specs.declared.fetch.Taken.TheVariants as taken
-
--- these are the bytes of the host's file of this name, where they are told
-abbrev pub IsFileOf : Files → List ℕ → List ℕ → Type 0
-IsFileOf None name bytes = ⊤
-IsFileOf (Some files) name bytes = files name ≡ Some bytes
 
 -- a piece was taken and kept
 pub record TakesPiece (old new : SourceSeen) (most : ℕ) (bytes bytes' : List ℕ) : Type 0 where
@@ -56,12 +52,6 @@ Fetches left limit bytes (Err (faults.Refused what at)) = ⊥
 Fetches left limit bytes (Err faults.Host) = Unit {0}
 Fetches left limit bytes (Err faults.Limit) = IsLong left limit
 Fetches left limit bytes (Err faults.Memory) = Unit {0}
-
--- the file has more bytes than so many
-pub record IsLongFile (files : Files) (name : List ℕ) (limit : ℕ) : Type 0 where
-  pub bytes : List ℕ
-  pub is : IsFileOf files name bytes
-  pub long : limit < length bytes
 
 -- what `fetch` answers
 abbrev pub FetchesFile : Files → List ℕ → ℕ → Result (Vec ℕ) LoadFault → Type 0

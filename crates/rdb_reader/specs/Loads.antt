@@ -2,14 +2,13 @@
 use Rattle.std.specs.Prelude.{◌≡◌, ℕ, zero, suc, ◌+◌, ◌<◌, ◌≤◌, List, [], ◌∷◌, length, None, Result, Ok, Err, true, false}
 use Rattle.std.specs.FinMap.{len}
 use Rattle.plain_world.specs.Worlds.{World, Database as Keys, Entry, new_world, in_time, look, put, selecting}
-use Rattle.rdb_grammar.specs.declared.fault.LoadKind.{LoadKind}
 use Rattle.rdb_grammar.specs.declared.fault.ItemFault.{ItemFault}
 use Rattle.rdb_grammar.specs.declared.fault.ItemFault.TheVariants as items
 use Rattle.rdb_grammar.specs.Items.{Item, Passed, Deadline, Database, End, Key}
 use Rattle.rdb_grammar.specs.Files.{State, Reached, IsFile, IsFault}
 use Rattle.held.specs.Calls.{IsDeadline}
 use Rattle.outside.specs.Files.{Files}
-use Rattle.rdb_reader.specs.Fetching.{IsFileOf, IsLongFile}
+use Rattle.rdb_reader.specs.Named.{IsFileOf, IsLongFile, RefusesFile}
 use Rattle.rdb_reader.specs.declared.fault.LoadFault.{LoadFault}
 use Rattle.rdb_reader.specs.declared.fault.LoadFault.TheVariants as faults
 use Rattle.rdb_reader.specs.declared.items.Progress.{Progress}
@@ -38,15 +37,18 @@ keys_among (x ∷ xs) = keys_of x + keys_among xs
 
 -- A key that wasn't there was put, or was passed over; or it was there.
 abbrev pub Puts : ℕ → World → World → List ℕ → Entry → Put → Type 0
-Puts moment old new key entry puts.Kept = (look old key ≡ None) × (in_time moment entry.deadline ≡ true) × (new ≡ put old key entry)
-Puts moment old new key entry puts.Passed = (look old key ≡ None) × (in_time moment entry.deadline ≡ false) × (new ≡ old)
+Puts moment old new key entry puts.Kept =
+    (look old key ≡ None) × (in_time moment entry.deadline ≡ true) × (new ≡ put old key entry)
+Puts moment old new key entry puts.Passed =
+    (look old key ≡ None) × (in_time moment entry.deadline ≡ false) × (new ≡ old)
 Puts moment old new key entry puts.Twice = (look old key ≡ None) → ⊥
 
 -- what the items so far have made
 abbrev pub state_at : World → Progress → State
 state_at world so_far = record { world = selecting world so_far.db; deadline = so_far.deadline }
 
--- So far the bytes are a header and whole items, which lead to this world. Of their keys so many are kept, and the others passed over.
+-- So far the bytes are a header and whole items, which lead to this world. Of their keys so many are kept, and the
+-- others passed over.
 pub record Holds (bytes : List ℕ) (moment : ℕ) (world : World) (so_far : Progress) : Type 0 where
   pub reached : Reached bytes moment so_far.at (state_at world so_far)
   pub items : so_far.keys + so_far.passed ≡ keys_among reached.items
@@ -68,13 +70,14 @@ pub record IsRead (bytes : List ℕ) (moment : ℕ) (world : World) (loaded : Lo
   pub passed : loaded.keys + loaded.passed ≡ keys_among file.reached.items
 
 -- the next item is read
-abbrev pub Reads : List ℕ → ℕ → Progress → World → World → Result Read LoadFault → Type 0
-Reads bytes moment old before after (Ok (read.More new)) = Holds bytes moment after new × (old.at < new.at)
-Reads bytes moment old before after (Ok read.End) = IsRead bytes moment after (record { keys = old.keys; passed = old.passed })
-Reads bytes moment old before after (Err (faults.Refused what place)) = IsFault bytes moment what place
-Reads bytes moment old before after (Err faults.Host) = ⊥
-Reads bytes moment old before after (Err faults.Limit) = ⊥
-Reads bytes moment old before after (Err faults.Memory) = Unit {0}
+abbrev pub ReadsItem : List ℕ → ℕ → Progress → World → World → Result Read LoadFault → Type 0
+ReadsItem bytes moment old before after (Ok (read.More new)) = Holds bytes moment after new × (old.at < new.at)
+ReadsItem bytes moment old before after (Ok read.End) =
+    IsRead bytes moment after (record { keys = old.keys; passed = old.passed })
+ReadsItem bytes moment old before after (Err (faults.Refused what place)) = IsFault bytes moment what place
+ReadsItem bytes moment old before after (Err faults.Host) = ⊥
+ReadsItem bytes moment old before after (Err faults.Limit) = ⊥
+ReadsItem bytes moment old before after (Err faults.Memory) = Unit {0}
 
 -- all items are read
 abbrev pub ReadsAll : List ℕ → ℕ → World → Result Loaded LoadFault → Type 0
@@ -91,17 +94,11 @@ pub record LoadsFile (files : Files) (name : List ℕ) (limit moment : ℕ) (wor
   pub few : length bytes ≤ limit
   pub read : IsRead bytes moment world loaded
 
--- the file has this first fault
-pub record RefusesFile (files : Files) (name : List ℕ) (limit moment : ℕ) (what : LoadKind) (at : ℕ) : Type 0 where
-  pub bytes : List ℕ
-  pub is : IsFileOf files name bytes
-  pub few : length bytes ≤ limit
-  pub fault : IsFault bytes moment what at
-
 -- what `load` answers, and the world that it leaves: after a fault the new one
 abbrev pub Loads : Files → List ℕ → ℕ → ℕ → World → Result Loaded LoadFault → Type 0
 Loads files name limit moment world (Ok loaded) = LoadsFile files name limit moment world loaded
-Loads files name limit moment world (Err (faults.Refused what at)) = RefusesFile files name limit moment what at × (world ≡ new_world)
+Loads files name limit moment world (Err (faults.Refused what at)) =
+    RefusesFile files name limit moment what at × (world ≡ new_world)
 Loads files name limit moment world (Err faults.Host) = world ≡ new_world
 Loads files name limit moment world (Err faults.Limit) = IsLongFile files name limit × (world ≡ new_world)
 Loads files name limit moment world (Err faults.Memory) = world ≡ new_world

@@ -7,7 +7,7 @@ ghost use Rattle.keyspace.specs.Databases.{means, SameSettings};
 ghost use Rattle.keyspace.specs.Sound.{Sound};
 ghost use Rattle.keyspace.specs.Scopes.{anything, Within};
 ghost use Rattle.keyspace.specs.Forms.{AreWhole};
-ghost use Rattle.rdb_reader.specs.Loads.{Holds, Reads, ReadsAll, load_fault};
+ghost use Rattle.rdb_reader.specs.Loads.{Holds, ReadsItem, ReadsAll, load_fault};
 
 use crate::fault::LoadFault;
 use crate::keys::{Put, put_key};
@@ -72,7 +72,7 @@ fn read_item<B: BlockStore>(
 ) -> Result<Read, LoadFault>
     requires held { Holds bytes.now moment (means 0 keyspace.old.bases (B.blocks keyspace.old.store)) so_far }
     requires sound { Sound keyspace.old.bases (B.blocks keyspace.old.store) }
-    ensures reads { Reads bytes.now moment so_far (means 0 keyspace.old.bases (B.blocks keyspace.old.store)) (means 0 keyspace.new.bases (B.blocks keyspace.new.store)) result }
+    ensures reads { ReadsItem bytes.now moment so_far (means 0 keyspace.old.bases (B.blocks keyspace.old.store)) (means 0 keyspace.new.bases (B.blocks keyspace.new.store)) result }
     ensures sound { Sound keyspace.new.bases (B.blocks keyspace.new.store) }
     ensures served { Served B.step keyspace.old.store keyspace.new.store }
     ensures settings { SameSettings keyspace.old.bases keyspace.new.bases }

@@ -27,9 +27,10 @@ use Rattle.redis_core.specs.Engines.{HasNoKey, Keeps}
 use Rattle.redis_core.specs.declared.background.StepsDone.{StepsDone}
 use Rattle.outside.specs.declared.pacing.Plan.{Plan}
 use Rattle.redis_core_cli.specs.Engines.{Engine, world_of, IsFirst, Begun}
-use Rattle.redis_core_cli.specs.Given.{options_read}
+use Rattle.redis_core_cli.specs.WordsRead.{options_read}
 use Rattle.redis_core_cli.specs.declared.words.Options as words
-use Rattle.redis_core_cli.specs.Starting.{IsLoaded, NotLoaded, BeginsWith, Starts, CountsHost, is_host, ending_by}
+use Rattle.redis_core_cli.specs.Started.{Starts, ending_by}
+use Rattle.redis_core_cli.specs.Starting.{IsLoaded, NotLoaded, BeginsWith, CountsHost, is_host}
 use Rattle.redis_core_cli.specs.declared.ending.Ending.{Ending}
 
 -- an engine without a key that did the work of a plan holds the world of a server that was just begun

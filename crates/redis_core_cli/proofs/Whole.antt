@@ -8,7 +8,7 @@ use Rattle.plain_world.specs.Worlds.{World}
 use Rattle.rdb_grammar.specs.Files.{IsFile, IsFault}
 use Rattle.rdb_grammar.specs.declared.fault.LoadKind.{LoadKind}
 use Rattle.rdb_grammar.proofs.OneWorld.{exactly_one}
-use Rattle.rdb_reader.specs.Fetching.{IsFileOf}
+use Rattle.rdb_reader.specs.Named.{IsFileOf}
 use Rattle.redis_core.specs.Engines.{quits}
 use Rattle.resp_frames.specs.Ends.{End, Frames}
 use Rattle.serving.specs.Exactly as exactly
@@ -17,7 +17,7 @@ use Rattle.serving.specs.declared.ending.Ended.{Ended}
 use Rattle.serving.proofs.Said.{ends_exactly, completes}
 use Rattle.redis_core_cli.specs.Given.{Options, Given, Wrong, Run, Outside}
 use Rattle.redis_core_cli.specs.Notes.{Notes, refused_line, line_of}
-use Rattle.redis_core_cli.specs.Running.{Fails, Runs, begun, not_begun, RunsOf, RunsWords, read, unread}
+use Rattle.redis_core_cli.specs.Running.{Fails, RunsOptions, begun, not_begun, RunsOf, RunsWords, read, unread}
 use Rattle.redis_core_cli.specs.Starting.{Standing, IsLoaded, BeginsWith, Begins, NotLoaded, NotBegun, UsesHost, is_host}
 use Rattle.redis_core_cli.specs.Statuses.{status_of, ending_of}
 use Rattle.redis_core_cli.specs.Headline.{may_answer, never, standing_clock, Concludes, NoHostFault, NoOutputFault, CountsFaults, NotesStatus, IsTold, IsAbsent, AtFirst, CanBegin, Excused, IsRefused, Exactly, Completes}
@@ -112,7 +112,7 @@ module _ (files : Files) (limit : ℕ) (name : List ℕ) (moment : ℕ) where
 
 module _ (before after : Outside) (noted noted' : SinkSeen) (ending : Ending) (line : Notes noted noted' (line_of ending)) where
   abbrev Ran : Options → Type 0
-  Ran options = Runs Begins may_answer may_answer never standing_clock options before after ending
+  Ran options = RunsOptions Begins may_answer may_answer never standing_clock options before after ending
 
   abbrev RanOf : Given → Type 0
   RanOf given = RunsOf Begins may_answer may_answer never standing_clock given before after ending

@@ -23,15 +23,16 @@ use Rattle.serving.specs.Timed as timed
 use Rattle.serving.specs.declared.ending.Ended.{Ended}
 use Rattle.serving.specs.declared.ending.Ended.TheVariants as served
 use Rattle.redis_core_cli.specs.Engines.{Engine, world_of, IsFirst}
-use Rattle.redis_core_cli.specs.Given.{Options, Given, Wrong, Run, Outside, options_read, given_read}
+use Rattle.redis_core_cli.specs.Given.{Options, Given, Wrong, Run, Outside}
+use Rattle.redis_core_cli.specs.WordsRead.{options_read, given_read}
 use Rattle.redis_core_cli.specs.Headline.{Clocked, MayAnswer, may_answer, never, standing_clock}
 use Rattle.redis_core_cli.specs.Lent.{Goes, AnswersLent, Lent}
 use Rattle.redis_core_cli.specs.Notes.{Notes, line_of}
 use Rattle.redis_core_cli.specs.Running as running
-use Rattle.redis_core_cli.specs.Running.{Runs, begun, not_begun, RunsOf, RunsWords, unread, ReadsNoMore}
+use Rattle.redis_core_cli.specs.Running.{RunsOptions, begun, not_begun, RunsOf, RunsWords, unread, ReadsNoMore}
 use Rattle.redis_core_cli.specs.Starting.{Standing, BeginsWith, Begins}
 use Rattle.redis_core_cli.specs.Statuses.{status_of, ending_of}
-use Rattle.redis_core_cli.specs.Stepped.{standing_of, works, Steps, StepsLast, goes, goes_cut, is_spent, engine_clock, BeginsEngine, RunsEngine, Finishes}
+use Rattle.redis_core_cli.specs.Stepped.{standing_of, works, Steps, StepsLast, goes, goes_cut, is_spent, engine_clock, BeginsEngine, RunsEngine, RunsNoted}
 use Rattle.redis_core_cli.specs.declared.words.Given as words
 use Rattle.redis_core_cli.specs.declared.words.Given.TheVariants as read
 use Rattle.redis_core_cli.specs.declared.words.Options as words_options
@@ -155,7 +156,7 @@ reads_none served.Memory clock = tt
 reads_none served.WriteFault clock = tt
 
 -- a run of the engine is one of its worlds
-pub run_seen : (pacers : List PacerSeen) (options : Options) (before after : Outside) (ending : Ending) → Runs (BeginsEngine pacers) goes goes_cut is_spent engine_clock options before after ending → Runs Begins may_answer may_answer never standing_clock options before after ending
+pub run_seen : (pacers : List PacerSeen) (options : Options) (before after : Outside) (ending : Ending) → RunsOptions (BeginsEngine pacers) goes goes_cut is_spent engine_clock options before after ending → RunsOptions Begins may_answer may_answer never standing_clock options before after ending
 run_seen pacers options before after ending (begun first last ended b host s reads is) =
     let w = served_as (goes options first) (goes_cut options first) (may_answer options (standing_of first)) (may_answer options (standing_of first)) quits is_spent never standing_of (λ asked replies last p. path_answers options.seed asked replies first last b.is.seed_is p)
     (λ asked replies last p. cut_answers options.seed asked replies first last b.is.seed_is p) options.max_input before.input after.input before.output after.output last ended s in
@@ -186,12 +187,12 @@ conducted {P = P} seen all given front effort are none = ap (λ n. map (λ p. se
     map_both (p ∷ ps) = ap (λ l. tuned (seen p) effort ∷ l) (map_both ps)
 
 -- what finishes with the options that were read is what was given
-pub finishes_as : (pacers : List PacerSeen) (given read : Given) (before after : Outside) (noted noted' : SinkSeen) (ending : Ending) → given ≡ read → Finishes pacers read before after noted noted' ending → Finishes pacers given before after noted noted' ending
-finishes_as pacers given read before after noted noted' ending e f = let P : Given → Type 0 = λ g. Finishes pacers g before after noted noted' ending in subst P (sym e) f
+pub finishes_as : (pacers : List PacerSeen) (given read : Given) (before after : Outside) (noted noted' : SinkSeen) (ending : Ending) → given ≡ read → RunsNoted pacers read before after noted noted' ending → RunsNoted pacers given before after noted noted' ending
+finishes_as pacers given read before after noted noted' ending e f = let P : Given → Type 0 = λ g. RunsNoted pacers g before after noted noted' ending in subst P (sym e) f
 
 -- a run with the options that were read is one of what was given
-pub run_read : (pacers : List PacerSeen) (given : words.Given) (options : words_options.Options) (before after : Outside) (noted noted' : SinkSeen) (ending : Ending) → given ≡ read.Run options → Finishes pacers (Run (options_read options)) before after noted noted' ending → Finishes pacers (given_read given) before after noted noted' ending
-run_read pacers given options before after noted noted' ending e f = let P : words.Given → Type 0 = λ g. Finishes pacers (given_read g) before after noted noted' ending in subst P (sym e) f
+pub run_read : (pacers : List PacerSeen) (given : words.Given) (options : words_options.Options) (before after : Outside) (noted noted' : SinkSeen) (ending : Ending) → given ≡ read.Run options → RunsNoted pacers (Run (options_read options)) before after noted noted' ending → RunsNoted pacers (given_read given) before after noted noted' ending
+run_read pacers given options before after noted noted' ending e f = let P : words.Given → Type 0 = λ g. RunsNoted pacers (given_read g) before after noted noted' ending in subst P (sym e) f
 
 -- ---- an engine that is lent
 

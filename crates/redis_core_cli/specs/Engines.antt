@@ -19,9 +19,10 @@ Engine = State ClassHeap
 abbrev pub world_of : Engine → World
 world_of engine = engines.world_of heap_blocks engine
 
--- Its hashes have this seed and its values these limits, the first expiry step is the turn of database 0, no walk is open, its
--- tables come from none, its values are encoded as those written whole, and its keyspace is sound: each live block of the store is owned exactly once. The store was served placings by the heap's rule, returns and
--- writes alone, from one without a block or a slab.
+-- Its hashes have this seed and its values these limits, the first expiry step is the turn of database 0, no walk is
+-- open, its tables come from none, its values are encoded as those written whole, and its keyspace is sound: each live
+-- block of the store is owned exactly once. The store was served placings by the heap's rule, returns and writes alone,
+-- from one without a block or a slab.
 pub record IsFirst (seed : ℕ) (limits : Limits) (engine : Engine) : Type 0 where
   pub seed_is : engine.bases.seed ≡ seed
   pub limits_are : engine.bases.limits ≡ limits

@@ -1,5 +1,5 @@
 -- What a run is given: what its words ask for, and what stands outside.
-use Rattle.std.specs.Prelude.{ℕ, ◌^◌, ◌-◌, ◌≤◌, nat_le, List, [], ◌∷◌, map, fold, Option, Some, None, Bool, true, ◌&&◌, codes, if◌then◌else◌}
+use Rattle.std.specs.Prelude.{ℕ, ◌^◌, ◌-◌, nat_le, List, [], ◌∷◌, map, fold, Option, Some, Bool, true, ◌&&◌, codes, if◌then◌else◌}
 use Rattle.std.specs.List.{list_all}
 use Rattle.std.specs.Option.{option_map_or}
 use Rattle.std.specs.Str.Parse.{digits_value}
@@ -7,16 +7,13 @@ use Rattle.clap.specs.Faults.{fault_of}
 use Rattle.clap.specs.Simple.{App, on_top, new_app, new_rule, with_rule, matches_of}
 use Rattle.clap.specs.ValueTests.{is_numeral}
 use Rattle.clap.specs.Walk.{Row, first_of, is_empty}
-use Rattle.object_codec.specs.Limits.{AreInRange}
 use Rattle.object_codec.specs.declared.limits.Limits.{Limits}
 use Rattle.outside.specs.Clocks.{Answers}
 use Rattle.outside.specs.Files.{HostSeen}
 use Rattle.outside.specs.Streams.{SourceSeen, SinkSeen}
-use Rattle.redis_core_cli.specs.declared.words as words
-use Rattle.redis_core_cli.specs.declared.words.Given.TheVariants as read
 
--- the name of the file that is loaded, where there is one; the seed of hashes and random picks; the effort of background
--- work; the limits of packed forms; and how many bytes are taken at most from the input, and from a file
+-- the name of the file that is loaded, where there is one; the seed of hashes and random picks; the effort of
+-- background work; the limits of packed forms; and how many bytes are taken at most from the input, and from a file
 pub record Options : Type 0 where
   pub file : Option (List ℕ)
   pub seed : ℕ
@@ -29,7 +26,8 @@ pub data Given : Type 0 where
   Wrong : Given
   Run : Options → Given
 
--- an option that takes a number: its name, the least and the most that it may be, and what it is where the words don't say
+-- an option that takes a number: its name, the least and the most that it may be, and what it is where the words don't
+-- say
 pub record Number : Type 0 where
   pub name : List ℕ
   pub least : ℕ
@@ -86,11 +84,14 @@ with_option app name = with_rule app (record (new_rule name) { long = Some name 
 
 -- clap's command that has these options and no other argument, and takes the words behind the program's name
 abbrev pub command : App
-command = fold with_option (on_top (λ shape. record shape { no_binary_name = true }) (new_app (codes "redis-core"))) (load ∷ map (λ number. number.name) numbers)
+command =
+    fold with_option (on_top (λ shape. record shape { no_binary_name = true }) (new_app (codes "redis-core")))
+    (load ∷ map (λ number. number.name) numbers)
 
 -- one or more digits, whose number is in the option's range
 abbrev pub is_number : Number → List ℕ → Bool
-is_number number text = is_numeral text && (nat_le number.least (digits_value 10 text) && nat_le (digits_value 10 text) number.most)
+is_number number text =
+    is_numeral text && (nat_le number.least (digits_value 10 text) && nat_le (digits_value 10 text) number.most)
 
 -- what the command matched has no number of another form
 abbrev pub is_right : List Row → Number → Bool
@@ -111,28 +112,22 @@ limits_of rows = record {
 }
 
 abbrev pub options_of : List Row → Options
-options_of rows = record { file = first_of load rows; seed = value_of rows seed; effort = value_of rows effort; limits = limits_of rows; max_input = value_of rows max_input }
+options_of rows = record {
+  file = first_of load rows;
+  seed = value_of rows seed;
+  effort = value_of rows effort;
+  limits = limits_of rows;
+  max_input = value_of rows max_input;
+}
 
 -- what the command matched, where it takes the words
 abbrev pub given_of : List Row → Given
 given_of rows = if list_all (is_right rows) numbers then Run (options_of rows) else Wrong
 
--- what the words behind the program's name ask for: wrong ones are those that the command doesn't take, and those with a
--- wrong number
+-- what the words behind the program's name ask for: wrong ones are those that the command doesn't take, and those with
+-- a wrong number
 unfoldable pub given_by : List (List ℕ) → Given
 given_by words = if is_empty (fault_of command words) then given_of (matches_of command words) else Wrong
-
--- an option of the code's table
-abbrev pub number_read : words.Number.Number → Number
-number_read number = numbered number.name.now number.least number.most number.usual
-
--- what was read of the words
-abbrev pub options_read : words.Options.Options → Options
-options_read options = record { file = elim options.file [ None ↦ None | Some name ↦ Some name.now ]; seed = options.seed; effort = options.effort; limits = options.limits; max_input = options.max_input }
-
-abbrev pub given_read : words.Given.Given → Given
-given_read read.Wrong = Wrong
-given_read (read.Run options) = Run (options_read options)
 
 -- the host of files, the input, the output, and the answers of the clock that follow, where they are told
 pub record Outside : Type 0 where
@@ -140,11 +135,3 @@ pub record Outside : Type 0 where
   pub input : SourceSeen
   pub output : SinkSeen
   pub clock : Option Answers
-
--- what is read of words is in range
-abbrev pub AreUsable : words.Options.Options → Type 0
-AreUsable options = AreInRange options.limits × (options.max_input ≤ 2 ^ 62)
-
-abbrev pub AreTaken : words.Given.Given → Type 0
-AreTaken read.Wrong = Unit {0}
-AreTaken (read.Run options) = AreUsable options

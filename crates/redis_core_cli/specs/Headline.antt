@@ -11,7 +11,7 @@ use Rattle.plain_model.specs.Coverage.{IsCovered}
 use Rattle.plain_model.specs.Runs.{run, Call, Turn, calls_of, replies_of, moment_after}
 use Rattle.rdb_grammar.specs.Files.{IsFile, IsFault}
 use Rattle.rdb_grammar.specs.declared.fault.LoadKind.{LoadKind}
-use Rattle.rdb_reader.specs.Loads.{RefusesFile}
+use Rattle.rdb_reader.specs.Named.{RefusesFile}
 use Rattle.redis_core.specs.Engines.{quits}
 use Rattle.resp_frames.specs.Ends.{End, Frames}
 use Rattle.serving.specs.declared.ending.Ended.{Ended}
@@ -24,18 +24,20 @@ use Rattle.redis_core_cli.specs.Starting.{Standing, Begins}
 use Rattle.redis_core_cli.specs.Statuses.{status_of, ending_of}
 use Rattle.redis_core_cli.specs.declared.ending.Ending.{Ending}
 
--- The clock is read once for each request, whose moment is the greatest of the answers so far: from a last moment and the
--- answers that follow to those after the requests.
+-- The clock is read once for each request, whose moment is the greatest of the answers so far: from a last moment and
+-- the answers that follow to those after the requests.
 abbrev pub Clocked : ℕ → Option Answers → List Words → List Call → ℕ → Option Answers → Type 0
 Clocked last clock [] [] last' clock' = (last' ≡ last) × (clock' ≡ clock)
 Clocked last clock (words ∷ asked) (call ∷ calls) last' clock' =
-    (now : ℕ) × (mid : Option Answers) × Tells clock now mid × (call.words ≡ words) × (call.moment ≡ moment_after last now) × Clocked call.moment mid asked calls last' clock'
+    (now : ℕ) × (mid : Option Answers) × Tells clock now mid × (call.words ≡ words)
+    × (call.moment ≡ moment_after last now) × Clocked call.moment mid asked calls last' clock'
 Clocked last clock [] (call ∷ calls) last' clock' = ⊥
 Clocked last clock (words ∷ asked) [] last' clock' = ⊥
 
--- From here on, a plain map may answer the requests by these replies, and each complete scan among them covers all that stayed
--- throughout it.
-pub record MayAnswer (seed : ℕ) (first : Standing) (asked : List Words) (replies : List (List Part)) (last : Standing) : Type 0 where
+-- From here on, a plain map may answer the requests by these replies, and each complete scan among them covers all that
+-- stayed throughout it.
+pub record MayAnswer (seed : ℕ) (first : Standing) (asked : List Words) (replies : List (List Part)) (last : Standing)
+    : Type 0 where
   pub turns : List Turn
   pub clocked : Clocked first.last first.clock asked (calls_of turns) last.last last.clock
   pub are : replies_of turns ≡ replies
@@ -71,14 +73,15 @@ abbrev pub NamesNoFile : Given → Type 0
 NamesNoFile Wrong = ⊤
 NamesNoFile (Run options) = options.file ≡ None
 
--- A fault of the host, the input or the output is counted exactly where it ends the run, and none comes that surely doesn't.
--- Where no file is named the host stays as it was.
+-- A fault of the host, the input or the output is counted exactly where it ends the run, and none comes that surely
+-- doesn't. Where no file is named the host stays as it was.
 pub record CountsFaults (given : Given) (before after : Outside) (status : ℕ) : Type 0 where
   pub read : RoseAt 4 status before.input.faults after.input.faults
   pub write : RoseAt 5 status before.output.faults after.output.faults
   pub host : RoseAt 6 status before.host.reading.faults after.host.reading.faults
   pub sure_read : before.input.sure ≡ true → status ≡ 4 → ⊥
-  pub sure_host : (options : Options) (name : List ℕ) → given ≡ Run options → options.file ≡ Some name → before.host.reading.sure ≡ true → IsListed before.host.files name → status ≡ 6 → ⊥
+  pub sure_host : (options : Options) (name : List ℕ) → given ≡ Run options → options.file ≡ Some name
+      → before.host.reading.sure ≡ true → IsListed before.host.files name → status ≡ 6 → ⊥
   pub no_file : NamesNoFile given → after.host ≡ before.host
 
 -- the line of an ending of this status is put, or a front of it where the notes failed
@@ -136,29 +139,40 @@ pub record Exactly (given : Given) (before after : Outside) (noted noted' : Sink
   pub wrong : given ≡ Wrong → (status ≡ 1) ⊎ (status ≡ 8)
   pub wrong_alone : status ≡ 1 → given ≡ Wrong
   -- a file of at most the limit's bytes with this first fault
-  pub refused : (options : Options) (name bytes : List ℕ) (what : LoadKind) (at : ℕ) → given ≡ Run options → options.file ≡ Some name → IsTold before.host.files name bytes → length bytes ≤ options.max_input
-      → AtFirst before.clock (λ moment. IsFault bytes moment what at) → Excused status ⊎ ((status ≡ 7) × Notes noted noted' (refused_line what at))
+  pub refused : (options : Options) (name bytes : List ℕ) (what : LoadKind) (at : ℕ) → given ≡ Run options
+      → options.file ≡ Some name → IsTold before.host.files name bytes → length bytes ≤ options.max_input
+      → AtFirst before.clock (λ moment. IsFault bytes moment what at)
+      → Excused status ⊎ ((status ≡ 7) × Notes noted noted' (refused_line what at))
   pub refused_alone : status ≡ 7 → IsRefused given before noted noted'
   -- a file of more bytes than the limit
-  pub long : (options : Options) (name bytes : List ℕ) → given ≡ Run options → options.file ≡ Some name → IsTold before.host.files name bytes → options.max_input < length bytes → Excused status ⊎ (status ≡ 9)
+  pub long : (options : Options) (name bytes : List ℕ) → given ≡ Run options → options.file ≡ Some name
+      → IsTold before.host.files name bytes → options.max_input < length bytes → Excused status ⊎ (status ≡ 9)
   -- a name that the host has no file of
-  pub absent : (options : Options) (name : List ℕ) → given ≡ Run options → options.file ≡ Some name → IsAbsent before.host.files name → Excused status
+  pub absent : (options : Options) (name : List ℕ) → given ≡ Run options → options.file ≡ Some name
+      → IsAbsent before.host.files name → Excused status
   -- a run that can begin ends as its input does
   pub served : (options : Options) → given ≡ Run options → CanBegin before options options.file
-      → Excused status ⊎ ((ended : Ended) × (status ≡ status_of (ending_of ended)) × ServesExactly quits options.max_input before.input after.input ended)
+      → Excused status ⊎ ((ended : Ended) × (status ≡ status_of (ending_of ended))
+      × ServesExactly quits options.max_input before.input after.input ended)
 
 -- no fault of the host: none comes that surely doesn't, or none was counted
 abbrev pub NoHostFault : Outside → Outside → Type 0
-NoHostFault before after = (before.host.reading.sure ≡ true) ⊎ (Rose before.host.reading.faults after.host.reading.faults → ⊥)
+NoHostFault before after =
+    (before.host.reading.sure ≡ true) ⊎ (Rose before.host.reading.faults after.host.reading.faults → ⊥)
 
 -- no fault of the output: whatever a plain map may answer fits, or none was counted
 abbrev pub NoOutputFault : Options → Outside → Outside → List Words → Type 0
 NoOutputFault options before after asked =
-    ((first : Standing) → Begins options before first → AllFit (may_answer options first) asked before.output.room) ⊎ (Rose before.output.faults after.output.faults → ⊥)
+    ((first : Standing) → Begins options before first → AllFit (may_answer options first) asked before.output.room)
+    ⊎ (Rose before.output.faults after.output.faults → ⊥)
 
--- with words that are taken, no file or one that can be loaded, an input of fewer bytes than the limit that ends after a
--- whole request or holds a QUIT before any fault, and no fault counted, the run ends with status 0, unless memory wanted
+-- with words that are taken, no file or one that can be loaded, an input of fewer bytes than the limit that ends after
+-- a whole request or holds a QUIT before any fault, and no fault counted, the run ends with status 0, unless memory
+-- wanted
 abbrev pub Completes : Given → Outside → Outside → ℕ → Type 0
 Completes given before after status =
-    (options : Options) (bytes : List ℕ) (asked : List Words) (end : End) → given ≡ Run options → CanBegin before options options.file → before.input.told ≡ Some bytes → Frames bytes asked end → EndsWell quits asked end → length bytes < options.max_input
-    → NoHostFault before after → NoReadFault before.input after.input → NoOutputFault options before after asked → (status ≡ 0) ⊎ (status ≡ 8)
+    (options : Options) (bytes : List ℕ) (asked : List Words) (end : End) → given ≡ Run options
+    → CanBegin before options options.file → before.input.told ≡ Some bytes → Frames bytes asked end
+    → EndsWell quits asked end → length bytes < options.max_input
+    → NoHostFault before after → NoReadFault before.input after.input → NoOutputFault options before after asked
+    → (status ≡ 0) ⊎ (status ≡ 8)

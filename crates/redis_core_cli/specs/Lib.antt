@@ -1,8 +1,10 @@
 pub mod Given
+pub mod WordsRead
 pub mod Statuses
 pub mod Engines
 pub mod Notes
 pub mod Starting
+pub mod Started
 pub mod Running
 pub mod Stepped
 pub mod Headline

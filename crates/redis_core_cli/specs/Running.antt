@@ -29,18 +29,24 @@ ReadsNoMore served.Memory last after = Unit {0}
 ReadsNoMore served.WriteFault last after = Unit {0}
 ReadsNoMore ended last after = after ≡ last
 
--- From a first state some replies are allowed to requests, on the way to a last one, also where the last of them met a fault.
-module _ {E : Type 0} (Begins : Options → Outside → E → Type 0) (Allowed AllowedCut : Options → E → List Words → List (List Part) → E → Type 0) (spent : E → Bool) (clock_of : E → Option Answers) where
+-- From a first state some replies are allowed to requests, on the way to a last one, also where the last of them met a
+-- fault.
+module _ {E : Type 0} (Begins : Options → Outside → E → Type 0)
+    (Allowed AllowedCut : Options → E → List Words → List (List Part) → E → Type 0) (spent : E → Bool)
+    (clock_of : E → Option Answers) where
   -- it begins with a state, and replies that are allowed from there are written; or it doesn't begin
-  pub data Runs (options : Options) (before after : Outside) (ending : Ending) : Type 0 where
-    begun : (first last : E) (ended : Ended) → Begins options before first → UsesHost options.file before.host after.host false
-        → Served (Allowed options first) (AllowedCut options first) quits spent options.max_input before.input after.input before.output after.output last ended → ReadsNoMore ended (clock_of last) after.clock → ending ≡ ending_of ended → Runs options before after ending
-    not_begun : Fails options before after ending → Runs options before after ending
+  pub data RunsOptions (options : Options) (before after : Outside) (ending : Ending) : Type 0 where
+    begun : (first last : E) (ended : Ended) → Begins options before first
+        → UsesHost options.file before.host after.host false
+        → Served (Allowed options first) (AllowedCut options first) quits spent options.max_input before.input after.input
+        before.output after.output last ended
+        → ReadsNoMore ended (clock_of last) after.clock → ending ≡ ending_of ended → RunsOptions options before after ending
+    not_begun : Fails options before after ending → RunsOptions options before after ending
 
   -- wrong words touch nothing
   abbrev pub RunsOf : Given → Outside → Outside → Ending → Type 0
   RunsOf Wrong before after ending = (ending ≡ endings.Usage) × (after ≡ before)
-  RunsOf (Run options) before after ending = Runs options before after ending
+  RunsOf (Run options) before after ending = RunsOptions options before after ending
 
   -- the words are read, or memory wants, which touches nothing
   pub data RunsWords (given : Given) (before after : Outside) (ending : Ending) : Type 0 where

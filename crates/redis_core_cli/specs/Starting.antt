@@ -1,16 +1,12 @@
 -- How a run begins.
-use Rattle.std.specs.Prelude.{◌≡◌, ℕ, ◌≤◌, List, length, Option, Some, None, Result, Ok, Err, Bool, true, false}
+use Rattle.std.specs.Prelude.{◌≡◌, ℕ, ◌≤◌, List, length, Option, Some, None, Bool, true, false}
 use Rattle.outside.specs.Clocks.{Answers}
 use Rattle.outside.specs.Counts.{Rose}
 use Rattle.outside.specs.Files.{Files, HostSeen, IsListed}
 use Rattle.plain_world.specs.Worlds.{World, new_world}
 use Rattle.rdb_grammar.specs.Files.{IsFile}
-use Rattle.rdb_reader.specs.Fetching.{IsFileOf, IsLongFile}
-use Rattle.rdb_reader.specs.Loads.{RefusesFile}
-use Rattle.rdb_reader.specs.declared.fault.LoadFault.{LoadFault}
-use Rattle.rdb_reader.specs.declared.fault.LoadFault.TheVariants as faults
+use Rattle.rdb_reader.specs.Named.{IsFileOf, IsLongFile, RefusesFile}
 use Rattle.serving.specs.Timed.{ReadsMoment}
-use Rattle.redis_core_cli.specs.Engines.{Engine, world_of, IsFirst}
 use Rattle.redis_core_cli.specs.Given.{Options, Outside}
 use Rattle.redis_core_cli.specs.declared.ending.Ending.{Ending}
 use Rattle.redis_core_cli.specs.declared.ending.Ending.TheVariants as endings
@@ -38,8 +34,8 @@ pub record Begins (options : Options) (before : Outside) (first : Standing) : Ty
   pub moment : ReadsMoment before.clock first.clock first.last
   pub world : BeginsWith before.host.files options.max_input options.file first.last first.world
 
--- why the file of a name is not loaded at a moment: a fault of the host, the file's first fault, more bytes than the limit,
--- or want of memory
+-- why the file of a name is not loaded at a moment: a fault of the host, the file's first fault, more bytes than the
+-- limit, or want of memory
 abbrev pub NotLoaded : Files → ℕ → List ℕ → ℕ → Ending → Type 0
 NotLoaded files limit name moment endings.Host = Unit {0}
 NotLoaded files limit name moment (endings.Refused what at) = RefusesFile files name limit moment what at
@@ -60,7 +56,8 @@ NotBegun files limit (Some name) moment ending = NotLoaded files limit name mome
 
 -- the host's count of faults rose exactly where it failed, as it doesn't where that is sure
 abbrev pub CountsHost : HostSeen → HostSeen → List ℕ → Bool → Type 0
-CountsHost before after name true = Rose before.reading.faults after.reading.faults × ((before.reading.sure ≡ true) × IsListed before.files name → ⊥)
+CountsHost before after name true =
+    Rose before.reading.faults after.reading.faults × ((before.reading.sure ≡ true) × IsListed before.files name → ⊥)
 CountsHost before after name false = after.reading.faults ≡ before.reading.faults
 
 -- a host is left alone where no file is named
@@ -81,25 +78,3 @@ is_host endings.WriteFault = false
 is_host (endings.Refused what at) = false
 is_host endings.Memory = false
 is_host endings.Limit = false
-
--- the ending by a fault of the loading
-abbrev pub ending_by : LoadFault → Ending
-ending_by (faults.Refused what at) = endings.Refused what at
-ending_by faults.Host = endings.Host
-ending_by faults.Limit = endings.Limit
-ending_by faults.Memory = endings.Memory
-
--- what `load_file` answers, at this moment
-abbrev pub LoadsNamed : Files → ℕ → List ℕ → ℕ → World → Result (Unit {0}) Ending → Type 0
-LoadsNamed files limit name moment world (Ok x) = IsLoaded files limit name moment world
-LoadsNamed files limit name moment world (Err ending) = NotLoaded files limit name moment ending
-
--- what `start` answers, at this moment: an engine that begins the run, with the options' seed and limits
-abbrev pub Starts : Files → Options → ℕ → Result Engine Ending → Type 0
-Starts files options moment (Ok engine) = BeginsWith files options.max_input options.file moment (world_of engine) × IsFirst options.seed options.limits engine × (engine.last ≡ moment)
-Starts files options moment (Err ending) = NotBegun files options.max_input options.file moment ending
-
--- whether a run is ended by a fault of the host before it begins
-abbrev pub host_failed : {A : Type 0} → Result A Ending → Bool
-host_failed (Ok x) = false
-host_failed (Err ending) = is_host ending

@@ -17,7 +17,7 @@ use Rattle.serving.specs.declared.ending.Ended.{Ended}
 use Rattle.redis_core_cli.specs.Engines.{Engine, world_of, IsFirst}
 use Rattle.redis_core_cli.specs.Given.{Options, Given, Outside}
 use Rattle.redis_core_cli.specs.Notes.{Notes, line_of}
-use Rattle.redis_core_cli.specs.Running.{Runs, RunsOf, RunsWords}
+use Rattle.redis_core_cli.specs.Running.{RunsOptions, RunsOf, RunsWords}
 use Rattle.redis_core_cli.specs.Starting.{Standing, Begins}
 use Rattle.redis_core_cli.specs.Statuses.{status_of, ending_of}
 use Rattle.redis_core_cli.specs.declared.ending.Ending.{Ending}
@@ -28,7 +28,8 @@ standing_of timed = record { world = world_of timed.engine; last = timed.engine.
 
 -- the work of a plan, whatever comes of it
 abbrev pub works : ℕ → Plan → Engine → Engine → Type 0
-works moment plan old new = (done : StepsDone) × EngineRests heap_blocks heap_slabs IsClassHeapStep moment plan old new done
+works moment plan old new =
+    (done : StepsDone) × EngineRests heap_blocks heap_slabs IsClassHeapStep moment plan old new done
 
 -- a request is answered at the moment that the clock tells, and then what the pacers plan is done
 abbrev pub Steps : Timed Engine → Words → List Part → Timed Engine → Type 0
@@ -38,9 +39,10 @@ Steps = TimedStep (Executes heap_blocks heap_slabs IsClassHeapStep) works quits
 abbrev pub StepsLast : Timed Engine → Words → List Part → Timed Engine → Type 0
 StepsLast = TimedCut (Executes heap_blocks heap_slabs IsClassHeapStep) works quits
 
--- The run begins with an engine that holds the world and has the seed and the limits, sound over a store that was served from the first
--- block on. Each pacer was tuned to the effort.
-pub record BeginsEngine (pacers : List PacerSeen) (options : Options) (before : Outside) (first : Timed Engine) : Type 0 where
+-- The run begins with an engine that holds the world and has the seed and the limits, sound over a store that was
+-- served from the first block on. Each pacer was tuned to the effort.
+pub record BeginsEngine (pacers : List PacerSeen) (options : Options) (before : Outside) (first : Timed Engine)
+    : Type 0 where
   pub begins : Begins options before (standing_of first)
   pub is : IsFirst options.seed options.limits first.engine
   pub paced : first.pacers ≡ map (λ p. tuned p options.effort) pacers
@@ -65,7 +67,8 @@ abbrev pub RunsEngine : List PacerSeen → Given → Outside → Outside → End
 RunsEngine pacers = RunsOf (BeginsEngine pacers) goes goes_cut is_spent engine_clock
 
 -- the same, with its line in the notes
-pub record Finishes (pacers : List PacerSeen) (given : Given) (before after : Outside) (noted noted' : SinkSeen) (ending : Ending) : Type 0 where
+pub record RunsNoted (pacers : List PacerSeen) (given : Given) (before after : Outside) (noted noted' : SinkSeen)
+    (ending : Ending) : Type 0 where
   pub run : RunsEngine pacers given before after ending
   pub line : Notes noted noted' (line_of ending)
 

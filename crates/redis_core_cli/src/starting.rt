@@ -3,8 +3,9 @@
 ghost use Rattle.std.specs.Prelude.{◌≡◌, ◌≤◌, ◌^◌, IfOk, IfErr, is_err};
 ghost use Rattle.object_codec.specs.Limits.{AreInRange};
 ghost use Rattle.redis_core_cli.specs.Engines.{world_of, IsFirst, Begun};
-ghost use Rattle.redis_core_cli.specs.Given.{options_read};
-ghost use Rattle.redis_core_cli.specs.Starting.{Starts, LoadsNamed, UsesHost, CountsHost, host_failed, ending_by};
+ghost use Rattle.redis_core_cli.specs.WordsRead.{options_read};
+ghost use Rattle.redis_core_cli.specs.Starting.{UsesHost, CountsHost};
+ghost use Rattle.redis_core_cli.specs.Started.{Starts, LoadsNamed, host_failed, ending_by};
 
 use crate::ending::Ending;
 use crate::words::Options;

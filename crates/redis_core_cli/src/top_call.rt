@@ -2,9 +2,10 @@
 
 ghost use Rattle.std.specs.Prelude.{◌≡◌, ◌^◌, ◌≤◌, map, string_bytes};
 ghost use Rattle.object_codec.specs.Limits.{AreInRange};
-ghost use Rattle.redis_core_cli.specs.Given.{AreTaken, given_by, given_read, options_read};
+ghost use Rattle.redis_core_cli.specs.Given.{given_by};
+ghost use Rattle.redis_core_cli.specs.WordsRead.{AreTaken, given_read, options_read};
 ghost use Rattle.redis_core_cli.specs.Given.{Run};
-ghost use Rattle.redis_core_cli.specs.Stepped.{Finishes, StepsStatus};
+ghost use Rattle.redis_core_cli.specs.Stepped.{RunsNoted, StepsStatus};
 ghost use Rattle.redis_core_cli.specs.Headline.{Concludes, CountsFaults, Exactly, Completes, NotesStatus};
 
 use crate::ending::{Ending, served_to};
@@ -29,7 +30,7 @@ fn run<H: Host, I: Source, O: Sink, N: Sink>(
 ) -> Ending
     requires limits { AreInRange options.limits }
     requires limit { options.max_input ≤ 2 ^ 62 }
-    ensures { Finishes (map (λ b. (⟦<dyn Pacer as Pacer>⟧ b.vtable).seen b.value) pacers.items) (Run (options_read options.entry)) (record { host = H.seen host.old; input = I.seen input.old; output = O.seen output.old; clock = answers clock.old })
+    ensures { RunsNoted (map (λ b. (⟦<dyn Pacer as Pacer>⟧ b.vtable).seen b.value) pacers.items) (Run (options_read options.entry)) (record { host = H.seen host.old; input = I.seen input.old; output = O.seen output.old; clock = answers clock.old })
         (record { host = H.seen host.new; input = I.seen input.new; output = O.seen output.new; clock = answers clock.new }) (N.seen notes.old) (N.seen notes.new) result }
 {
     let moment = moment_of(clock);
@@ -66,7 +67,7 @@ pub fn run_given<H: Host, I: Source, O: Sink, N: Sink>(
     pacers: Vec<Box<dyn Pacer>>,
 ) -> Ending
     requires { AreTaken given }
-    ensures { Finishes (map (λ b. (⟦<dyn Pacer as Pacer>⟧ b.vtable).seen b.value) pacers.items) (given_read given.entry) (record { host = H.seen host.old; input = I.seen input.old; output = O.seen output.old; clock = answers clock.old })
+    ensures { RunsNoted (map (λ b. (⟦<dyn Pacer as Pacer>⟧ b.vtable).seen b.value) pacers.items) (given_read given.entry) (record { host = H.seen host.old; input = I.seen input.old; output = O.seen output.old; clock = answers clock.old })
         (record { host = H.seen host.new; input = I.seen input.new; output = O.seen output.new; clock = answers clock.new }) (N.seen notes.old) (N.seen notes.new) result }
 {
     match given {

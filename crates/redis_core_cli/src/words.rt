@@ -7,7 +7,8 @@ ghost use Rattle.clap.specs.Matches.{found_of};
 ghost use Rattle.clap.specs.Simple.{app_of};
 ghost use Rattle.clap.specs.Walk.{rows_of};
 ghost use Rattle.object_codec.specs.Limits.{AreInRange};
-ghost use Rattle.redis_core_cli.specs.Given.{AreTaken, AreUsable, command, given_by, given_of, given_read, is_number, is_right, limits_of, number_read, numbers, options_of, options_read, sizes, value_of, with_option};
+ghost use Rattle.redis_core_cli.specs.Given.{command, given_by, given_of, is_number, is_right, limits_of, numbers, options_of, sizes, value_of, with_option};
+ghost use Rattle.redis_core_cli.specs.WordsRead.{AreTaken, AreUsable, given_read, number_read, options_read};
 
 use clap::error::ErrorKind;
 use clap::{Arg, ArgMatches, Command};

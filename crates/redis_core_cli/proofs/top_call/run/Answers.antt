@@ -1,4 +1,4 @@
-use Rattle.redis_core_cli.specs.Given.{options_read}
+use Rattle.redis_core_cli.specs.WordsRead.{options_read}
 use Rattle.redis_core_cli.specs.Running.{begun, not_begun}
 use Rattle.redis_core_cli.proofs.Worlds.{begins_engine, conducted, reads_none}
 use Rattle.redis_core_cli.proofs.top_call.run.Goals as goal

@@ -2,7 +2,7 @@ use Rattle.std.proofs.Common.{◌≡◌, rules, arith, sym, ap, subst, ◌∙◌
 use Rattle.std.specs.Str.Parse.{IsNumeral, digits_value}
 use Rattle.int_text.specs.Decimal.{IsU64Text}
 use Rattle.redis_core_cli.proofs.Readings.{number_passes, no_number}
-use Rattle.redis_core_cli.specs.Given.{number_read}
+use Rattle.redis_core_cli.specs.WordsRead.{number_read}
 use Rattle.redis_core_cli.proofs.words.number_of.Goals as goal
 
 pub returns-in-None-clause-none : goal.returns-in-None-clause-none

@@ -4,7 +4,7 @@ use Rattle.clap.specs.Matches.{found_of}
 use Rattle.clap.specs.Walk.{rows_of}
 use Rattle.clap.proofs.WalkLemmas.{first_value-rows}
 use Rattle.redis_core_cli.proofs.Readings.{unsaid, said_some, said_none}
-use Rattle.redis_core_cli.specs.Given.{number_read}
+use Rattle.redis_core_cli.specs.WordsRead.{number_read}
 use Rattle.redis_core_cli.proofs.words.read_number.Goals as goal
 
 pub returns-in-None-clause-some : goal.returns-in-None-clause-some
