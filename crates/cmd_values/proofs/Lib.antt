@@ -2,3 +2,4 @@ pub mod Ranges
 pub mod StringLemmas
 pub mod Lowering
 pub mod Pairs
+pub mod Sought

@@ -12,10 +12,10 @@ ghost use Rattle.keyspace.specs.Values.{IsRaw};
 ghost use Rattle.keyspace.specs.Commands.{Ready, Held, Kept, sight};
 ghost use Rattle.cmd_values.specs.Found.{Gives, IsThere, Becomes};
 
-use crate::strings::look::{length_at, length_reply};
+use crate::strings::look::{length_at, length_reply, length_sought};
 use crate::strings::writing::put_string;
 use blocks::BlockStore;
-use keyspace::{Keyspace, Lifted, Value};
+use keyspace::{Keyspace, Lifted, Value, seek};
 use plain_model::{Ctx, LONGEST, Memory, Refusal, Reply};
 
 // Appends to the string at a key.
@@ -94,7 +94,7 @@ pub fn append<B: BlockStore>(
             if tail.len() > LONGEST {
                 return Reply::refused(alloc, Refusal::ValueOutOfRange);
             }
-            put_string(keyspace, at, key, tail)?;
+            put_string(keyspace, at, key, None, tail)?;
             length_reply(alloc, tail.len())
         }
         Some(length) => {
@@ -123,12 +123,13 @@ pub fn setrange<B: BlockStore>(
     ensures forms { IfOk result (λ reply. Formed B.blocks Raw keyspace.old keyspace.new) }
 {
     let alloc = keyspace.alloc();
-    match length_at(keyspace, at, key) {
+    let found = seek(keyspace, at, key);
+    match length_sought(keyspace, at, key, found) {
         None => {
             if piece.is_empty() {
                 return length_reply(alloc, 0);
             }
-            put_string(keyspace, at, key, &[])?;
+            put_string(keyspace, at, key, Some(found), &[])?;
             write_there(keyspace, at, key, place, piece)?;
             length_reply(alloc, place as usize + piece.len())
         }

@@ -52,7 +52,7 @@ fn set_for_units<B: BlockStore>(
     match time.due(at.moment) {
         None => Reply::refused(alloc, Refusal::InvalidExpireTime),
         Some(due) => {
-            put_lasting(keyspace, at, key, value, Some(from_zero(due)))?;
+            put_lasting(keyspace, at, key, None, value, Some(from_zero(due)))?;
             Reply::simple(alloc, Line::ok())
         }
     }

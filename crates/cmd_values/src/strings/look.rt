@@ -61,6 +61,28 @@ pub fn length_at<B: BlockStore>(keyspace: &Keyspace<B>, at: &Ctx, key: &[u8]) ->
     }
 }
 
+/// The length in bytes of the string at a key that was sought, where there is one.
+pub fn length_sought<B: BlockStore>(
+    keyspace: &Keyspace<B>,
+    at: &Ctx,
+    key: &[u8],
+    found: SoughtAt,
+) -> Option<usize>
+    requires ready { Ready B.blocks keyspace.now at.now }
+    requires sees { Sees B.blocks keyspace.now at.now key.now found }
+    ensures { HasLength (sight B.blocks keyspace.now at.now) key.now result }
+{
+    // what was found tells the key
+    let _ = key;
+    match found.there {
+        None => None,
+        Some(item) => {
+            let text = keyspace.value_at(at.db, item).as_text();
+            Some(length_of(&keyspace.store, text))
+        }
+    }
+}
+
 /// A length in bytes as a reply.
 pub fn length_reply(alloc: Global, length: usize) -> Result<Reply, Memory>
     requires { length < 2 ^ 63 }

@@ -1,8 +1,9 @@
 //! Commands that write strings whole.
 
 ghost use Rattle.std.specs.Prelude.{◌≡◌, ◌<◌, ◌≤◌, List, ℕ, Bool, IfOk, OnOk, IfSome, is_some};
-ghost use Rattle.plain_world.specs.Worlds.{Str, look, stand};
-ghost use Rattle.held.specs.Calls.{IsDeadline};
+ghost use Rattle.plain_world.specs.Worlds.{Str, deadline_of, look, stand};
+ghost use Rattle.held.specs.Calls.{IsDeadline, Seeks};
+ghost use Rattle.keyspace.specs.Seeking.{Sees};
 ghost use Rattle.plain_model.specs.Outcomes.{leaves};
 ghost use Rattle.plain_model.specs.StringSteps.{replace, replace_all, any_there, allows, set_outcome};
 ghost use Rattle.plain_model.specs.declared.command.Condition.{Condition};
@@ -10,32 +11,52 @@ ghost use Rattle.plain_model.specs.declared.command.StringCommand.TheVariants as
 ghost use Rattle.keyspace.specs.Scopes.{one_key, no_key, some_keys, first_words};
 ghost use Rattle.keyspace.specs.Forms.{Whole, Formed};
 ghost use Rattle.keyspace.specs.Commands.{Ready, Held, Kept, sight};
-ghost use Rattle.cmd_values.specs.Found.{Gives, IsSetReply, IsLifetime};
+ghost use Rattle.cmd_values.specs.Found.{Gives, IsSetReply, IsLifetime, OldValue};
 
 use crate::strings::lasting::from_zero;
 use crate::strings::look::{old_value, sought_value};
 use blocks::BlockStore;
-use keyspace::{Keyspace, Value, deadline_at, seek};
+use keyspace::{Keyspace, Sought, SoughtAt, Value, deadline_at, seek};
 use plain_model::{Bytes, Condition, Ctx, Lifetime, Line, Memory, Refusal, Reply, SetOptions};
 use string_object::Text;
 
+// What a search for a key finds. It is made here where it wasn't made before.
+fn sought_of<B: BlockStore>(
+    keyspace: &Keyspace<B>,
+    at: &Ctx,
+    key: &[u8],
+    found: Option<SoughtAt>,
+) -> Sought
+    requires ready { Ready B.blocks keyspace.now at.now }
+    requires sees { IfSome found (λ found. Sees B.blocks keyspace.now at.now key.now found) }
+    ensures { Seeks keyspace.now.bases (B.blocks keyspace.now.store) at.now.db key.now result }
+{
+    match found {
+        None => keyspace.seek(at.db, key),
+        Some(found) => found.sought,
+    }
+}
+
 /// Lets a string stand at a key, with this deadline in milliseconds or without one; by one that is past already nothing
-/// stands there.
+/// stands there. What was found of the key is handed in where it was sought before.
 pub fn put_lasting<B: BlockStore>(
     keyspace: &mut Keyspace<B>,
     at: &Ctx,
     key: &[u8],
+    found: Option<SoughtAt>,
     value: &[u8],
     deadline: Option<u64>,
 ) -> Result<(), Memory>
     requires ready { Ready B.blocks keyspace.old at.now }
+    requires sees { IfSome found (λ found. Sees B.blocks keyspace.old at.now key.now found) }
     requires latest { IsDeadline deadline }
     ensures world { OnOk result (sight B.blocks keyspace.new at.now ≡ stand (sight B.blocks keyspace.old at.now) at.now.moment key.now (record { value = Str value.now; deadline = deadline })) }
     ensures held { Held B.blocks B.step (one_key at.now.db key.now) keyspace.old keyspace.new }
     ensures forms { OnOk result (Formed B.blocks Whole keyspace.old keyspace.new) }
 {
+    let sought = sought_of(keyspace, at, key, found);
     let text = Text::make(&mut keyspace.store, value)?;
-    keyspace.put(at.db, key, Value::Text(text), deadline)
+    keyspace.put_sought(at.db, key, sought, Value::Text(text), deadline)
 }
 
 /// Lets a string stand at a key, without a deadline.
@@ -43,14 +64,16 @@ pub fn put_string<B: BlockStore>(
     keyspace: &mut Keyspace<B>,
     at: &Ctx,
     key: &[u8],
+    found: Option<SoughtAt>,
     value: &[u8],
 ) -> Result<(), Memory>
     requires ready { Ready B.blocks keyspace.old at.now }
+    requires sees { IfSome found (λ found. Sees B.blocks keyspace.old at.now key.now found) }
     ensures world { OnOk result (sight B.blocks keyspace.new at.now ≡ replace (sight B.blocks keyspace.old at.now) key.now value.now) }
     ensures held { Held B.blocks B.step (one_key at.now.db key.now) keyspace.old keyspace.new }
     ensures forms { OnOk result (Formed B.blocks Whole keyspace.old keyspace.new) }
 {
-    put_lasting(keyspace, at, key, value, None)
+    put_lasting(keyspace, at, key, found, value, None)
 }
 
 // Whether something stands at a key.
@@ -61,15 +84,56 @@ fn is_there<B: BlockStore>(keyspace: &Keyspace<B>, at: &Ctx, key: &[u8]) -> bool
     keyspace.look(at.db, key, at.moment).is_some()
 }
 
-// Whether SET writes. Only NX and XX look for the key.
-fn writes<B: BlockStore>(keyspace: &Keyspace<B>, at: &Ctx, key: &[u8], condition: Condition) -> bool
+// Whether something stands at a key, by what was found of it, where it was sought before.
+fn is_seen<B: BlockStore>(
+    keyspace: &Keyspace<B>,
+    at: &Ctx,
+    key: &[u8],
+    found: Option<SoughtAt>,
+) -> bool
     requires ready { Ready B.blocks keyspace.now at.now }
+    requires sees { IfSome found (λ found. Sees B.blocks keyspace.now at.now key.now found) }
+    ensures { result ≡ is_some (look (sight B.blocks keyspace.now at.now) key.now) }
+{
+    match found {
+        None => is_there(keyspace, at, key),
+        Some(found) => found.there.is_some(),
+    }
+}
+
+// Whether SET writes. Only NX and XX ask for the key.
+fn writes<B: BlockStore>(
+    keyspace: &Keyspace<B>,
+    at: &Ctx,
+    key: &[u8],
+    found: Option<SoughtAt>,
+    condition: Condition,
+) -> bool
+    requires ready { Ready B.blocks keyspace.now at.now }
+    requires sees { IfSome found (λ found. Sees B.blocks keyspace.now at.now key.now found) }
     ensures { result ≡ allows condition (is_some (look (sight B.blocks keyspace.now at.now) key.now)) }
 {
     match condition {
         Condition::Always => true,
-        Condition::IfMissing => !is_there(keyspace, at, key),
-        Condition::IfThere => is_there(keyspace, at, key),
+        Condition::IfMissing => !is_seen(keyspace, at, key, found),
+        Condition::IfThere => is_seen(keyspace, at, key, found),
+    }
+}
+
+// The string at a key as a reply, by what was found of the key, where it was sought before.
+fn seen_value<B: BlockStore>(
+    keyspace: &Keyspace<B>,
+    at: &Ctx,
+    key: &[u8],
+    found: Option<SoughtAt>,
+) -> Result<Reply, Memory>
+    requires ready { Ready B.blocks keyspace.now at.now }
+    requires sees { IfSome found (λ found. Sees B.blocks keyspace.now at.now key.now found) }
+    ensures { IfOk result (λ reply. OldValue (sight B.blocks keyspace.now at.now) key.now reply) }
+{
+    match found {
+        None => old_value(keyspace, at, key),
+        Some(found) => sought_value(keyspace, at, key, found),
     }
 }
 
@@ -78,14 +142,16 @@ fn set_reply<B: BlockStore>(
     keyspace: &Keyspace<B>,
     at: &Ctx,
     key: &[u8],
+    found: Option<SoughtAt>,
     get: bool,
     written: bool,
 ) -> Result<Reply, Memory>
     requires ready { Ready B.blocks keyspace.now at.now }
+    requires sees { IfSome found (λ found. Sees B.blocks keyspace.now at.now key.now found) }
     ensures { IfOk result (λ reply. IsSetReply (sight B.blocks keyspace.now at.now) key.now get written reply) }
 {
     if get {
-        return old_value(keyspace, at, key);
+        return seen_value(keyspace, at, key, found);
     }
     if written {
         return Reply::simple(keyspace.alloc(), Line::ok());
@@ -93,20 +159,43 @@ fn set_reply<B: BlockStore>(
     Reply::null(keyspace.alloc())
 }
 
+// The deadline of a key that is there, by what was found of it, where it was sought before.
+fn seen_deadline<B: BlockStore>(
+    keyspace: &Keyspace<B>,
+    at: &Ctx,
+    key: &[u8],
+    found: Option<SoughtAt>,
+) -> Option<u64>
+    requires ready { Ready B.blocks keyspace.now at.now }
+    requires sees { IfSome found (λ found. Sees B.blocks keyspace.now at.now key.now found) }
+    ensures value { result ≡ deadline_of (look (sight B.blocks keyspace.now at.now) key.now) }
+    ensures latest { IsDeadline result }
+{
+    match found {
+        None => deadline_at(keyspace, at, key),
+        Some(found) => match found.there {
+            None => None,
+            Some(_) => found.deadline,
+        },
+    }
+}
+
 // The deadline that SET gives, or none. `None` where 64 bits with a sign don't hold it.
 fn lifetime_at<B: BlockStore>(
     keyspace: &Keyspace<B>,
     at: &Ctx,
     key: &[u8],
+    found: Option<SoughtAt>,
     lifetime: Lifetime,
 ) -> Option<Option<u64>>
     requires ready { Ready B.blocks keyspace.now at.now }
+    requires sees { IfSome found (λ found. Sees B.blocks keyspace.now at.now key.now found) }
     ensures is { IsLifetime (sight B.blocks keyspace.now at.now) at.now.moment key.now lifetime result }
     ensures latest { IfSome result (λ deadline. IsDeadline deadline) }
 {
     match lifetime {
         Lifetime::Forever => Some(None),
-        Lifetime::Kept => Some(deadline_at(keyspace, at, key)),
+        Lifetime::Kept => Some(seen_deadline(keyspace, at, key, found)),
         Lifetime::Until(time) => match time.due(at.moment) {
             None => None,
             Some(due) => Some(Some(from_zero(due))),
@@ -119,22 +208,41 @@ fn set_lasting<B: BlockStore>(
     keyspace: &mut Keyspace<B>,
     at: &Ctx,
     key: &[u8],
+    found: Option<SoughtAt>,
     value: &[u8],
     options: SetOptions,
     deadline: Option<u64>,
 ) -> Result<Reply, Memory>
     requires ready { Ready B.blocks keyspace.old at.now }
+    requires sees { IfSome found (λ found. Sees B.blocks keyspace.old at.now key.now found) }
     requires latest { IsDeadline deadline }
     ensures gives { IfOk result (λ reply. set_outcome (sight B.blocks keyspace.old at.now) at.now.moment key.now (record { value = Str value.now; deadline = deadline }) options.condition options.get ≡ leaves reply (sight B.blocks keyspace.new at.now)) }
     ensures kept { Kept B.blocks B.step (one_key at.now.db key.now) keyspace.old keyspace.new result }
     ensures forms { IfOk result (λ reply. Formed B.blocks Whole keyspace.old keyspace.new) }
 {
-    let written = writes(keyspace, at, key, options.condition);
-    let reply = set_reply(keyspace, at, key, options.get, written)?;
+    let written = writes(keyspace, at, key, found, options.condition);
+    let reply = set_reply(keyspace, at, key, found, options.get, written)?;
     if written {
-        put_lasting(keyspace, at, key, value, deadline)?;
+        put_lasting(keyspace, at, key, found, value, deadline)?;
     }
     Ok(reply)
+}
+
+// What is found of the key of SET where its options ask for what stands there, so that it is sought once. Without them the key is
+// sought where the value is put.
+fn found_by<B: BlockStore>(
+    keyspace: &Keyspace<B>,
+    at: &Ctx,
+    key: &[u8],
+    options: SetOptions,
+) -> Option<SoughtAt>
+    requires ready { Ready B.blocks keyspace.now at.now }
+    ensures { IfSome result (λ found. Sees B.blocks keyspace.now at.now key.now found) }
+{
+    match (options.condition, options.get, options.lifetime) {
+        (Condition::Always, false, Lifetime::Forever | Lifetime::Until(_)) => None,
+        _ => Some(seek(keyspace, at, key)),
+    }
 }
 
 /// `SET key value [NX or XX] [GET] [EX s, PX ms, EXAT s, PXAT ms or KEEPTTL]`: OK, or null where nothing is written; with
@@ -151,9 +259,10 @@ pub fn set<B: BlockStore>(
     ensures kept { Kept B.blocks B.step (one_key at.now.db key.now) keyspace.old keyspace.new result }
     ensures forms { IfOk result (λ reply. Formed B.blocks Whole keyspace.old keyspace.new) }
 {
-    match lifetime_at(keyspace, at, key, options.lifetime) {
+    let found = found_by(keyspace, at, key, options);
+    match lifetime_at(keyspace, at, key, found, options.lifetime) {
         None => Reply::refused(keyspace.alloc(), Refusal::InvalidExpireTime),
-        Some(deadline) => set_lasting(keyspace, at, key, value, options, deadline),
+        Some(deadline) => set_lasting(keyspace, at, key, found, value, options, deadline),
     }
 }
 
@@ -169,10 +278,11 @@ pub fn setnx<B: BlockStore>(
     ensures kept { Kept B.blocks B.step (one_key at.now.db key.now) keyspace.old keyspace.new result }
     ensures forms { IfOk result (λ reply. Formed B.blocks Whole keyspace.old keyspace.new) }
 {
-    if is_there(keyspace, at, key) {
+    let found = Some(seek(keyspace, at, key));
+    if is_seen(keyspace, at, key, found) {
         return Reply::number(keyspace.alloc(), 0);
     }
-    put_string(keyspace, at, key, value)?;
+    put_string(keyspace, at, key, found, value)?;
     Reply::number(keyspace.alloc(), 1)
 }
 
@@ -188,8 +298,9 @@ pub fn getset<B: BlockStore>(
     ensures kept { Kept B.blocks B.step (one_key at.now.db key.now) keyspace.old keyspace.new result }
     ensures forms { IfOk result (λ reply. Formed B.blocks Whole keyspace.old keyspace.new) }
 {
-    let reply = old_value(keyspace, at, key)?;
-    put_string(keyspace, at, key, value)?;
+    let found = Some(seek(keyspace, at, key));
+    let reply = seen_value(keyspace, at, key, found)?;
+    put_string(keyspace, at, key, found, value)?;
     Ok(reply)
 }
 
@@ -237,7 +348,7 @@ fn put_pairs<B: BlockStore>(
 {
     let mut rest = pairs;
     'pairs: while let Some((pair, others)) = rest.split_first() {
-        put_string(keyspace, at, pair.0.as_slice(), pair.1.as_slice())?;
+        put_string(keyspace, at, pair.0.as_slice(), None, pair.1.as_slice())?;
         rest = others;
     }
     Ok(())
