@@ -1,5 +1,5 @@
 -- What a hash's body depends on, and a body that takes another's place.
-use Rattle.std.proofs.Common.{◌≡◌, ◌≢◌, ℕ, ◌+◌, ◌<◌, ◌≤◌, List, [], ◌∷◌, ◌++◌, length, Option, Some, None, unwrap_or, refl, sym, ap, ◌∙◌, subst, arith}
+use Rattle.std.proofs.Common.{◌≡◌, ◌≢◌, ℕ, ◌≤◌, List, [], ◌++◌, length, Some, unwrap_or, refl, sym, ap, ◌∙◌, subst, arith}
 use Rattle.std.proofs.lemmas.List.{append-nil}
 use Rattle.std.specs.FinMap.{len, len-empty}
 use Rattle.std.specs.Ordering.{nat_cmp}
@@ -10,7 +10,7 @@ use Rattle.blocks.proofs.Times.{times-append}
 use Rattle.blocks.proofs.Change.{live-once, Changes-beside, Changes-owned, Changes-both, Owned-others}
 use Rattle.object_codec.specs.declared.limits.Limits.{Limits}
 use Rattle.object_codec.specs.declared.form.Form.TheVariants.{Listpack, Hashtable}
-use Rattle.pack_pairs.specs.Pairs.{Pair, IsOnce, pairs, map_of_pairs, longest}
+use Rattle.pack_pairs.specs.Pairs.{IsOnce, pairs, map_of_pairs, longest}
 use Rattle.pack_pairs.proofs.Maps.{map_len}
 use Rattle.rehash_dict.specs.Table.{table_len}
 use Rattle.rehash_dict.specs.Keyed.{hash_of}
@@ -20,8 +20,8 @@ use Rattle.hash_object.specs.declared.fields.Body.{Body}
 use Rattle.hash_object.specs.declared.fields.Body.TheVariants.{Empty, Pack, Table}
 use Rattle.hash_object.specs.declared.fields.Fields.{Fields}
 use Rattle.hash_object.specs.Maps.{FieldMap}
-use Rattle.hash_object.specs.Hashed.{FieldTable, blocks_of}
-use Rattle.hash_object.specs.Fields.{IsFields, IsBody, IsFieldPack, IsChanged, fields, fields_of, listed_of, refs, refs_of_body, form_of_body, tables, tables_of, no_tables}
+use Rattle.hash_object.specs.Hashed.{FieldTable}
+use Rattle.hash_object.specs.Fields.{IsFields, IsBody, IsFieldPack, IsChanged, fields_of, listed_of, refs, refs_of_body, form_of_body, tables, tables_of, no_tables}
 use Rattle.hash_object.proofs.Tables.{self, table_kept, fields_kept}
 
 module _ (a b : Blocks) (limits : Limits) (seed : ℕ) where

@@ -1,5 +1,5 @@
 -- A hash whose fields and values are copied.
-use Rattle.std.proofs.Common.{◌≡◌, ℕ, suc, ◌+◌, ◌<◌, List, [], ◌∷◌, length, take, Result, Ok, Err, OnOk, Option, Some, None, IsSome, unwrap_or, get_or, refl, sym, ap, ◌∙◌, subst, arith}
+use Rattle.std.proofs.Common.{◌≡◌, ℕ, suc, ◌<◌, List, [], ◌∷◌, length, take, Result, Ok, Err, OnOk, Option, Some, None, IsSome, unwrap_or, get_or, refl, sym, ap, ◌∙◌, subst, arith}
 use Rattle.std.proofs.lemmas.List.{take_all}
 use Rattle.std.specs.FinMap.{insert, get, empty}
 use Rattle.blocks.specs.declared.BlockRef.{BlockRef}
@@ -10,7 +10,6 @@ use Rattle.pack_pairs.proofs.Lists.{no_pair}
 use Rattle.pack_pairs.proofs.Maps.{get_pairs, once_before, map_more}
 use Rattle.rehash_dict.specs.Table.{Element, item}
 use Rattle.rehash_dict.specs.Keyed.{Keyed, Lacks, hash_of}
-use Rattle.rehash_dict.proofs.Fresh.{placed_bytes}
 use Rattle.rehash_dict.proofs.Growing.{Grown-same}
 use Rattle.hash_object.specs.declared.fields.Packed.{Packed}
 use Rattle.hash_object.specs.declared.fields.Body.{Body}

@@ -6,3 +6,8 @@ pub mod Placing
 pub mod Listed
 pub mod Ranks
 pub mod Copies
+pub mod Spans
+pub mod Marks
+pub mod Settling
+pub mod Moving
+pub mod Depends

@@ -1,5 +1,5 @@
 -- The fields and values of a hash in its own order, and their item numbers.
-use Rattle.std.proofs.Common.{◌≡◌, ℕ, zero, suc, ◌+◌, ◌<◌, ◌≤◌, Bool, true, false, cond, List, [], ◌∷◌, length, Option, Some, None, IsSome, is_some, unwrap_or, flat_map, slice_get, slice_index_or, count_by, refl, sym, ap, ◌∙◌, subst, arith, inl, inr}
+use Rattle.std.proofs.Common.{◌≡◌, ℕ, zero, suc, ◌+◌, ◌<◌, ◌≤◌, Bool, true, false, cond, List, [], ◌∷◌, length, Option, Some, None, IsSome, is_some, unwrap_or, flat_map, slice_get, slice_index_or, count_by, refl, sym, ap, ◌∙◌, arith, inl, inr}
 use Rattle.std.specs.Cmp.Lexicographic.{nat_list_cmp_total}
 use Rattle.std.specs.FinMap.{get, len, len-insert}
 use Rattle.std.proofs.lemmas.Bool.{cases_Bool, cond-true, cond-false}
@@ -7,7 +7,7 @@ use Rattle.blocks.specs.declared.BlockRef.{BlockRef}
 use Rattle.blocks.specs.Blocks.{Blocks, bytes_at}
 use Rattle.blocks.proofs.Sums.{count_cons}
 use Rattle.object_codec.specs.declared.limits.Limits.{Limits}
-use Rattle.pack_pairs.specs.Pairs.{Pair, IsOnce, pairs, second_of, map_of_pairs}
+use Rattle.pack_pairs.specs.Pairs.{Pair, IsOnce, second_of, map_of_pairs}
 use Rattle.pack_pairs.proofs.Maps.{tied, tied-true, tied-same, get_pairs, map_len}
 use Rattle.rehash_dict.specs.Table.{Element, item}
 use Rattle.rehash_dict.specs.MapOf.{pair_of, map_of}

@@ -1,12 +1,11 @@
 -- Bodies that are placed for a hash with a field more, with another value, or with a field less.
-use Rattle.std.proofs.Common.{◌≡◌, ◌≢◌, ℕ, ◌+◌, ◌<◌, ◌≤◌, max, Bool, true, false, not, cond, List, [], ◌∷◌, ◌++◌, length, Option, Some, None, is_some, unwrap_or, Result, Ok, Err, refl, sym, ap, ◌∙◌, subst, arith}
+use Rattle.std.proofs.Common.{◌≡◌, ◌≢◌, ℕ, ◌+◌, ◌<◌, ◌≤◌, max, Bool, true, false, not, cond, List, [], ◌∷◌, length, Option, Some, None, is_some, unwrap_or, Result, Ok, Err, refl, sym, ap, ◌∙◌, subst, arith}
 use Rattle.std.specs.List.{remove as removed}
 use Rattle.std.specs.Ordering.{nat_cmp}
 use Rattle.std.specs.Cmp.Lexicographic.{slice_cmp, nat_list_cmp_total}
-use Rattle.std.proofs.lemmas.Bool.{cond-true, cond-false}
 use mir.Val.{bool_byte}
 use Rattle.std.specs.Prelude.{IfSome, IfOk}
-use Rattle.std.specs.FinMap.{insert, remove, entries, len, get, get-empty, contains_key, len-insert, empty_of_len}
+use Rattle.std.specs.FinMap.{insert, remove, entries, len, get-empty, contains_key, len-insert, empty_of_len}
 use Rattle.blocks.specs.declared.BlockRef.{BlockRef}
 use Rattle.blocks.specs.Blocks.{Blocks, bytes_at, with_block, Changes}
 use Rattle.blocks.proofs.Change.{Changes-same}
@@ -15,7 +14,7 @@ use Rattle.object_codec.specs.declared.limits.Limits.{Limits}
 use Rattle.object_codec.specs.declared.form.Form.{Form}
 use Rattle.object_codec.specs.declared.form.Form.TheVariants.{Listpack, Hashtable}
 use Rattle.object_codec.specs.Forms.{FitsHash, IsLeast}
-use Rattle.pack_pairs.specs.Pairs.{Pair, IsPairPack, FitsPair, IsOnce, IsFirst, pairs, second_of, seconded, map_of_pairs, longest}
+use Rattle.pack_pairs.specs.Pairs.{Pair, IsPairPack, FitsPair, IsOnce, IsFirst, pairs, map_of_pairs, longest}
 use Rattle.pack_pairs.proofs.Lists.{length_removed}
 use Rattle.pack_pairs.proofs.Packs.{pair_fits}
 use Rattle.pack_pairs.proofs.Maps.{get_pairs, first_inside, first_second, map_last, map_seconded, map_removed, once_last, once_seconded, once_removed, map_len, longest_last, longest_seconded, longest_removed}
@@ -30,7 +29,7 @@ use Rattle.hash_object.specs.declared.fields.Fields.{Fields}
 use Rattle.hash_object.specs.Maps.{FieldMap, IsRisen}
 use Rattle.hash_object.specs.Hashed.{FieldTable, IsHashed, no_fields}
 use Rattle.hash_object.specs.Fields.{IsFields, IsBody, IsFieldPack, IsPlacedBody, IsIndex, fields, fields_of, listed_of, put_in, form_of, form_of_body, no_tables, tables_of}
-use Rattle.hash_object.proofs.Bodies.{body_len, len_of, IsListed, is_listed}
+use Rattle.hash_object.proofs.Bodies.{len_of, IsListed, is_listed}
 use Rattle.hash_object.proofs.Forms.{map_short, risen_put}
 
 -- ---- a list with a pair more, or with another value

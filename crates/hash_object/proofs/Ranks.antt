@@ -1,5 +1,5 @@
 -- How many elements of a dictionary stand before an item number, and which pair each is in the dictionary's order.
-use Rattle.std.proofs.Common.{add-one, ◌≡◌, ℕ, zero, suc, ◌+◌, ◌<◌, List, [], ◌∷◌, take, length, Option, Some, None, IsSome, is_some, slice_index_or, count_by, refl, sym, ap, ◌∙◌, subst, arith}
+use Rattle.std.proofs.Common.{add-one, ◌≡◌, ℕ, zero, suc, ◌+◌, ◌<◌, [], ◌∷◌, take, length, Option, Some, None, IsSome, is_some, slice_index_or, count_by, refl, sym, ap, ◌∙◌, subst, arith}
 use Rattle.std.specs.Prelude.{MatchOption}
 use Rattle.blocks.specs.declared.BlockRef.{BlockRef}
 use Rattle.blocks.specs.Blocks.{Blocks, bytes_at}

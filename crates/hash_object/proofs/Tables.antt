@@ -1,14 +1,14 @@
 -- A dictionary of field and value blocks: what it depends on, and what becomes of it where a field is put in, given another value, or
 -- taken out.
-use Rattle.std.proofs.Common.{◌≡◌, ◌≢◌, ℕ, zero, suc, ◌+◌, ◌<◌, ◌≤◌, List, [], ◌∷◌, Option, Some, None, IsSome, is_some, unwrap_or, flat_map, refl, sym, ap, ◌∙◌, subst, arith, inl, inr}
+use Rattle.std.proofs.Common.{◌≡◌, ℕ, zero, suc, ◌+◌, ◌≤◌, List, [], ◌∷◌, Option, Some, None, IsSome, unwrap_or, flat_map, refl, sym, ap, ◌∙◌, subst, arith, inl, inr}
 use Rattle.std.specs.FinMap.{insert, remove, empty, get}
 use Rattle.std.proofs.lemmas.Bool.{cond-true}
 use Rattle.blocks.specs.declared.BlockRef.{BlockRef}
-use Rattle.blocks.specs.Blocks.{Blocks, times, live, with_block, bytes_at, IsIn, Changes, Owned}
+use Rattle.blocks.specs.Blocks.{Blocks, times, with_block, bytes_at, IsIn, Changes, Owned}
 use Rattle.blocks.proofs.Refs.{ref_eq-refl, with_block-same, with_block-other}
 use Rattle.blocks.proofs.Times.{times-append}
 use Rattle.blocks.proofs.Change.{one, other_than, live-is, live-once, Changes-beside, Changes-counted, Changes-owned, Changes-then, Changes-same, Counts-ended, Owned-others}
-use Rattle.rehash_dict.specs.Table.{Element, Table, at_item, item}
+use Rattle.rehash_dict.specs.Table.{Element, at_item, item}
 use Rattle.rehash_dict.specs.Keyed.{Keyed, Lacks, Stands, hash_of, key_of, key_tables}
 use Rattle.rehash_dict.specs.Steps.{Adds, Swaps, Removes}
 use Rattle.rehash_dict.specs.Grown.{Grown}

@@ -1,5 +1,5 @@
 -- What contracts see of a hash over a store.
-use Rattle.std.specs.Prelude.{◌≡◌, ℕ, zero, suc, ◌≤◌, ◌++◌, List, [], ◌∷◌, length, Option, Some, None, MatchOption}
+use Rattle.std.specs.Prelude.{◌≡◌, ℕ, ◌≤◌, ◌++◌, List, [], ◌∷◌, length, Option, Some, None, MatchOption}
 use Rattle.std.specs.FinMap.{empty}
 use Rattle.blocks.specs.declared.BlockRef.{BlockRef}
 use Rattle.blocks.specs.Blocks.{Blocks, bytes_at, Changes, Owned}
@@ -11,7 +11,6 @@ use Rattle.pack_pairs.specs.Pairs.{Pair, IsPairPack, IsOnce, IsFirst, pairs, sec
 use Rattle.rehash_dict.specs.Keyed.{Keyed, hash_of, key_tables}
 use Rattle.rehash_dict.specs.Tables.{Tables}
 use Rattle.rehash_dict.specs.Grown.{Grown}
-use Rattle.hash_object.specs.declared.fields.Packed.{Packed}
 use Rattle.hash_object.specs.declared.fields.Body.{Body}
 use Rattle.hash_object.specs.declared.fields.Body.TheVariants.{Empty, Pack, Table}
 use Rattle.hash_object.specs.declared.fields.Fields.{Fields}
@@ -96,7 +95,8 @@ pub record KeepsSettings (old new : Fields) : Type 0 where
   pub limits : new.limits ≡ old.limits
   pub seed : new.seed ≡ old.seed
 
--- The hash has these fields and values now, over the blocks that it owns, and its tables come from the old ones by edits.
+-- The hash has these fields and values now, over the blocks that it owns, and its tables come from the old ones by
+-- edits.
 pub record IsChanged (before after : Blocks) (old new : Fields) (map : FieldMap) : Type 0 where
   pub sound : IsFields after new
   pub fields_are : fields after new ≡ map

@@ -40,11 +40,12 @@ pub record IsArranged (blocks : Blocks) (f : Fields) : Type 0 where
   pub once : IsOnce (listed blocks f)
   pub found : (k v : List ℕ) → get (fields blocks f) k ≡ Some v → (at : ℕ) × (pair_at blocks f at ≡ Some (k, v))
   pub pair : (at : ℕ) (k v : List ℕ) → pair_at blocks f at ≡ Some (k, v) → get (fields blocks f) k ≡ Some v
-  pub apart : (at other : ℕ) (k v w : List ℕ) → pair_at blocks f at ≡ Some (k, v) → pair_at blocks f other ≡ Some (k, w) → at ≡ other
+  pub apart : (at other : ℕ) (k v w : List ℕ) → pair_at blocks f at ≡ Some (k, v)
+      → pair_at blocks f other ≡ Some (k, w) → at ≡ other
   pub below : (at : ℕ) → IsSome (pair_at blocks f at) → at < top_of f
 
--- The pair at an index of the order stands at this place of the form: at the offset of its field in a listpack, at the item number of an
--- element of a dictionary.
+-- The pair at an index of the order stands at this place of the form: at the offset of its field in a listpack, at the
+-- item number of an element of a dictionary.
 abbrev pub IsPlace : Blocks → Body → ℕ → ℕ → Type 0
 IsPlace blocks Empty index place = ⊥
 IsPlace blocks (Pack packed) index place = IsPairAt (bytes_at blocks packed.at) index place

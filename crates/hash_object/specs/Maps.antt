@@ -1,5 +1,5 @@
--- Finite maps from byte strings to byte strings, and which form such a map has. (Redis command reference, data type Hashes: records
--- structured as collections of field-value pairs.)
+-- Finite maps from byte strings to byte strings, and which form such a map has. (Redis command reference, data type
+-- Hashes: records structured as collections of field-value pairs.)
 use Rattle.std.specs.Prelude.{ℕ, List}
 use Rattle.std.specs.Ordering.{nat_cmp}
 use Rattle.std.specs.Cmp.Lexicographic.{slice_cmp}

@@ -4,7 +4,7 @@ ghost use Rattle.std.specs.Prelude.{◌≡◌, ℕ, ◌<◌, ◌↔◌, Some, Is
 ghost use Rattle.blocks.specs.Blocks.{Blocks};
 ghost use Rattle.listpack.specs.Element.{element_text};
 ghost use Rattle.hash_object.specs.Fields.{IsFields};
-ghost use Rattle.hash_object.specs.Items.{IsArranged, pair_at, top_of};
+ghost use Rattle.hash_object.specs.Items.{pair_at, top_of};
 
 use crate::Fields;
 use crate::fields::Body;
@@ -59,8 +59,3 @@ impl Fields {
         }
     }
 }
-
-/// Law: each field stands once in a hash's own order, with its value, and has exactly one item number.
-pub fn fields_law()
-    ensures { (m : Blocks) (f : Fields) → IsFields m f → IsArranged m f }
-{}

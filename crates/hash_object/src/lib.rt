@@ -8,13 +8,18 @@ mod entries;
 mod fields;
 mod hashed;
 mod items;
+mod laws;
 mod packs;
+mod relocating;
 mod removing;
+mod scanning;
+#[cfg(test)]
+mod scarce;
 mod setting;
 #[cfg(test)]
 mod tests;
 
-pub use blocks::Memory;
+pub use blocks::{Memory, Moved};
 pub use cursor::Cursor;
 pub use fields::Fields;
-pub use items::fields_law;
+pub use laws::fields_laws;

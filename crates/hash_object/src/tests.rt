@@ -6,12 +6,13 @@ ghost use Rattle.blocks.specs.Plain.{plain_blocks};
 ghost use Rattle.object_codec.specs.Limits.{AreInRange};
 ghost use Rattle.hash_object.specs.Fields.{IsFields};
 
-use crate::{Fields, Memory};
-use blocks::PlainStore;
+use crate::scarce::Scarce;
+use crate::{Fields, Memory, Moved, fields_laws};
 use itoa::Buffer;
 use listpack::Element;
 use object_codec::{Form, Limits};
 use pack_pairs::text;
+use scan_cursor::page;
 use std::alloc::Global;
 use std::marker::Model;
 use std::test::Fail;
@@ -19,7 +20,7 @@ use std::test::Fail;
 // A hash in its store.
 #[derive(Drop)]
 struct Held {
-    store: PlainStore,
+    store: Scarce,
     hash: Fields,
 }
 
@@ -32,7 +33,7 @@ impl Model for Held {
 
     ghost view = { λ held. 0 };
 
-    ghost invariant = { λ held. IsFields (plain_blocks held.store) held.hash };
+    ghost invariant = { λ held. IsFields (plain_blocks held.store.plain) held.hash };
 }
 
 fn limits(hash_entries: u32, hash_value: u32) -> Limits
@@ -52,8 +53,8 @@ fn limits(hash_entries: u32, hash_value: u32) -> Limits
 }
 
 // Whether a hash has this value at this field.
-fn has_pair(hash: &Fields, store: &PlainStore, pair: (Element<'_>, Element<'_>)) -> bool
-    requires { IsFields (plain_blocks store.now) hash.now }
+fn has_pair(hash: &Fields, store: &Scarce, pair: (Element<'_>, Element<'_>)) -> bool
+    requires { IsFields (plain_blocks store.now.plain) hash.now }
 {
     let (field, value) = pair;
     let mut field_room = Buffer::new();
@@ -68,8 +69,8 @@ fn has_pair(hash: &Fields, store: &PlainStore, pair: (Element<'_>, Element<'_>))
 }
 
 // How many fields a walk meets, each with the value that the hash has.
-fn walked(hash: &Fields, store: &PlainStore) -> usize
-    requires { IsFields (plain_blocks store.now) hash.now }
+fn walked(hash: &Fields, store: &Scarce) -> usize
+    requires { IsFields (plain_blocks store.now.plain) hash.now }
 {
     let mut count: usize = 0;
     let mut next = hash.first(store);
@@ -87,8 +88,8 @@ fn walked(hash: &Fields, store: &PlainStore) -> usize
 }
 
 // How many item numbers have a field, each with the value that the hash has.
-fn numbered(hash: &Fields, store: &PlainStore) -> usize
-    requires { IsFields (plain_blocks store.now) hash.now }
+fn numbered(hash: &Fields, store: &Scarce) -> usize
+    requires { IsFields (plain_blocks store.now.plain) hash.now }
 {
     let mut count: usize = 0;
     for item in 0..hash.top() {
@@ -104,7 +105,7 @@ impl Held {
         requires { AreInRange limits }
     {
         Held {
-            store: PlainStore::new(alloc),
+            store: Scarce::new(alloc),
             hash: Fields::new(alloc, limits, 7),
         }
     }
@@ -159,6 +160,49 @@ impl Held {
         let Held { mut store, hash } = self;
         hash.release(&mut store);
     }
+
+    // Gives the fields of the numbers below one their numbers for values.
+    fn set_numbers(&mut self, count: u32) -> Result<(), Memory> {
+        for n in 0..count {
+            let mut room = Buffer::new();
+            let text = room.format(n).as_bytes();
+            self.set(text, text)?;
+        }
+        Ok(())
+    }
+
+    // How many of the numbers below one have themselves for values.
+    fn count_numbers(&self, count: u32) -> usize {
+        let mut there: usize = 0;
+        for n in 0..count {
+            let mut room = Buffer::new();
+            let text = room.format(n).as_bytes();
+            there = there.saturating_add(usize::from(self.has(text, text)));
+        }
+        there
+    }
+
+    fn relocate(&mut self, from: u128) -> Moved {
+        self.hash.relocate_part(&mut self.store, from, 32)
+    }
+
+    // Whether a copy has the form of the hash, and meets as many fields.
+    fn is_copied(&mut self) -> Result<bool, Memory> {
+        let copy = self.hash.copy(&mut self.store)?;
+        let is_same = copy.form() == self.hash.form()
+            && walked(&copy, &self.store) == self.hash.len();
+        copy.release(&mut self.store);
+        Ok(is_same)
+    }
+
+    // Whether the hash has the numbers below one and no other field, in this form.
+    fn is_whole(&self, count: u32, form: Form) -> bool {
+        let count = count as usize;
+        self.hash.form() == form
+            && self.hash.len() == count
+            && self.count_numbers(64) == count
+            && self.meets(count)
+    }
 }
 
 // Whether so many fields have one form, and with one more another.
@@ -177,27 +221,14 @@ fn rises_behind(alloc: Global, limits: Limits, count: u32, forms: [Form; 2]) -> 
     Ok(held.hash.form() == forms[1] && held.hash.len() == count as usize + 1)
 }
 
-// Whether a copy of a hash of these fields has its form and meets as many.
-fn is_copied(alloc: Global, limits: Limits, rows: &[(&[u8], &[u8], Form)]) -> Result<bool, Memory>
-    requires { AreInRange limits }
-{
-    let mut held = Held::new(alloc, limits);
-    held.rises(rows)?;
-    let Held { mut store, hash } = held;
-    let copy = hash.copy(&mut store)?;
-    let is_same = copy.form() == hash.form() && walked(&copy, &store) == rows.len();
-    copy.release(&mut store);
-    Ok(is_same)
-}
-
-// Forms at each limit and one past it: numbers of fields at 512, the default, at 0 and at 1,024, lengths at 64, the default, at 0 and at
-// 4,096, the most.
+// Forms at each limit and one past it: numbers of fields at 512, the default, at 0 and at 4,096, the most, lengths at 64, the default,
+// at 0 and at 4,096.
 #[test]
 fn forms_rise(rt: HostRuntime) -> Result<(), Fail> {
     let alloc = rt.alloc();
     let forms = [Form::Listpack, Form::Hashtable];
     assert!(rt; rises_behind(alloc, limits(512, 64), 512, forms)?);
-    assert!(rt; rises_behind(alloc, limits(1024, 4096), 1024, forms)?);
+    assert!(rt; rises_behind(alloc, limits(4096, 4096), 4096, forms)?);
     assert!(rt; rises_behind(alloc, limits(0, 64), 0, forms)?);
     let by_field: [(&[u8], &[u8], Form); 4] = [
         (b"12", b"-7", Form::Listpack),
@@ -263,9 +294,8 @@ fn fields_are_taken_out(rt: HostRuntime) -> Result<(), Fail> {
     ];
     for rows in [few.as_slice(), many.as_slice()] {
         let mut held = Held::new(alloc, limits(3, 2));
-        assert!(rt; is_copied(alloc, limits(3, 2), rows)?);
         assert!(rt; held.rises(rows)?);
-        assert!(rt; held.meets(3));
+        assert!(rt; held.meets(3) && held.is_copied()?);
         assert!(rt; !held.remove(b"none")?);
         assert!(rt; held.leave(rows)?);
         assert_eq!(rt; held.hash.len(), 0);
@@ -386,4 +416,118 @@ fn edits_agree_with_a_plain_list(rt: HostRuntime) {
     for (entries, value) in [(4, 64), (30, 64), (64, 40), (64, 64)] {
         assert!(rt; agrees_under_edits(alloc, limits(entries, value)));
     }
+}
+
+// A hash by an index of a listpack and by item numbers of a dictionary, and its pages: a listpack is one page, and none goes on from it.
+#[test]
+fn fields_have_item_numbers(rt: HostRuntime) -> Result<(), Fail> {
+    fields_laws();
+    let mut held = Held::new(rt.alloc(), limits(3, 64));
+    for count in 0..=3u32 {
+        held.set_numbers(count)?;
+        let all = page(rt.alloc(), &held.hash, 5, 1)?;
+        assert_eq!(rt; all.next, 0);
+        assert_eq!(rt; all.items.len(), count as usize);
+        assert_eq!(rt; held.hash.top(), count as usize);
+    }
+    held.set_numbers(5)?;
+    assert!(rt; held.hash.form() == Form::Hashtable);
+    assert_eq!(rt; page(rt.alloc(), &held.hash, 0, 5)?.items.len(), 5);
+    assert!(rt; held.remove(b"3")?);
+    assert_eq!(rt; held.hash.top(), 5);
+    assert!(rt; !held.hash.is_entry(3) && held.hash.is_entry(4));
+    assert!(rt; held.meets(4));
+    Ok(())
+}
+
+// Marks of the block of a listpack and of those of fields and values, passed at most 32 at a time, vacant item numbers among them.
+#[test]
+fn blocks_are_passed_by_marks(rt: HostRuntime) -> Result<(), Fail> {
+    let passed = |next, used| Moved { next, used };
+    let mut packed = Held::new(rt.alloc(), limits(512, 64));
+    assert_eq!(rt; packed.relocate(0), passed(None, 0));
+    assert_eq!(rt; packed.hash.calm_blocks(&packed.store, 32), Some(0));
+    packed.set(b"f", b"v")?;
+    assert_eq!(rt; packed.relocate(0), passed(None, 1));
+    assert_eq!(rt; packed.relocate(1), passed(None, 0));
+    assert_eq!(rt; packed.hash.calm_blocks(&packed.store, 32), Some(1));
+    let mut hashed = Held::new(rt.alloc(), limits(0, 0));
+    hashed.set_numbers(20)?;
+    assert!(rt; hashed.remove(b"3")?);
+    let rows = [
+        (0, Some(33), 32),
+        (1, Some(34), 32),
+        (6, Some(39), 32),
+        (7, None, 32),
+        (8, None, 32),
+        (33, None, 7),
+        (40, None, 0),
+    ];
+    for (from, next, used) in rows {
+        assert_eq!(rt; hashed.relocate(from), passed(next, used));
+    }
+    assert_eq!(rt; hashed.hash.calm_blocks(&hashed.store, 38), None);
+    assert_eq!(rt; hashed.hash.calm_blocks(&hashed.store, 39), Some(39));
+    assert!(rt; hashed.meets(19));
+    Ok(())
+}
+
+// A call that can want memory, on the field of a number.
+#[derive(Clone, Copy)]
+enum Call {
+    Set(u32, &'static [u8]),
+    Remove(u32),
+    Copy,
+}
+
+impl Held {
+    fn call(&mut self, call: Call) -> Result<bool, Memory> {
+        match call {
+            Call::Set(n, value) => self.set(Buffer::new().format(n).as_bytes(), value),
+            Call::Remove(n) => self.remove(Buffer::new().format(n).as_bytes()),
+            Call::Copy => self.is_copied(),
+        }
+    }
+
+    // How many placings a call takes on a hash of the numbers below one, which is whole each time that the store refuses the next one.
+    fn placings(&mut self, count: u32, call: Call) -> Option<usize> {
+        let form = self.hash.form();
+        for left in 0..64usize {
+            self.store.left = left;
+            let answer = self.call(call);
+            self.store.left = usize::MAX;
+            if let Ok(is_right) = answer {
+                return if is_right { Some(left) } else { None };
+            }
+            if !self.is_whole(count, form) {
+                return None;
+            }
+        }
+        None
+    }
+}
+
+// Calls by the number of their placings, each of which is refused in its turn: a listpack takes one, a conversion two for each field
+// and one for the value that is overwritten or two for a new field, and so does a dictionary. The answer is whether the field is new
+// or was there.
+#[test]
+fn refused_calls_leave_all(rt: HostRuntime) -> Result<(), Fail> {
+    let rows = [
+        (0, Call::Set(9, b"v".as_slice()), 1),
+        (2, Call::Set(9, b"v"), 1),
+        (2, Call::Set(9, &[b'v'; 65]), 6),
+        (3, Call::Set(9, b"v"), 8),
+        (4, Call::Set(9, b"v"), 2),
+        (3, Call::Remove(1), 1),
+        (4, Call::Remove(1), 0),
+        (0, Call::Copy, 0),
+        (3, Call::Copy, 1),
+        (4, Call::Copy, 8),
+    ];
+    for (count, call, placings) in rows {
+        let mut held = Held::new(rt.alloc(), limits(3, 64));
+        held.set_numbers(count)?;
+        assert_eq!(rt; held.placings(count, call), Some(placings));
+    }
+    Ok(())
 }

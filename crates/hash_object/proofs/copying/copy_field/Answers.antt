@@ -1,4 +1,4 @@
-use Rattle.std.proofs.Common.{◌≡◌, List, ℕ, [], Option, unwrap_or, sym, ap, ◌∙◌, subst}
+use Rattle.std.proofs.Common.{List, ℕ, [], Option, unwrap_or, sym, ap, ◌∙◌, subst}
 use Rattle.std.specs.FinMap.{insert}
 use Rattle.blocks.specs.Blocks.{no_step}
 use Rattle.rehash_dict.specs.Keyed.{Lacks}

@@ -1,4 +1,4 @@
-use Rattle.std.proofs.Common.{◌≡◌, sym, subst, add-one, arith, suc}
+use Rattle.std.proofs.Common.{sym, subst, add-one, arith, suc}
 use Rattle.blocks.specs.Blocks.{no_step, Served}
 use Rattle.blocks.proofs.Serve.{Served-then}
 use Rattle.pack_pairs.specs.Pairs.{map_of_pairs}

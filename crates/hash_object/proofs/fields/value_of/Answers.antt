@@ -1,4 +1,4 @@
-use Rattle.std.proofs.Common.{◌≡◌, List, ℕ, [], Option, Some, unwrap_or, sym, ap, ◌∙◌}
+use Rattle.std.proofs.Common.{List, ℕ, [], Option, Some, unwrap_or, ap, ◌∙◌}
 use Rattle.hash_object.proofs.Tables.{fields_lacks, value_live, found_value}
 use Rattle.hash_object.proofs.fields.value_of.Goals as goal
 

@@ -1,4 +1,4 @@
-use Rattle.std.proofs.Common.{◌≡◌, ℕ, ◌+◌, Option, List, [], None, length, take, get_or, sym, ap, ◌∙◌, subst, arith, rules}
+use Rattle.std.proofs.Common.{◌≡◌, ℕ, ◌+◌, Option, List, [], length, take, get_or, sym, ap, ◌∙◌, subst, arith, rules}
 use Rattle.std.specs.Prelude.{MatchOption}
 use Rattle.std.proofs.lemmas.List.{take_all}
 use Rattle.std.specs.FinMap.{get, insert}
@@ -6,12 +6,12 @@ use Rattle.blocks.specs.Blocks.{Blocks, no_step, Changes}
 use Rattle.blocks.proofs.Change.{Changes-then}
 use Rattle.blocks.proofs.Serve.{Served-then}
 use Rattle.listpack.specs.Element.{element_text}
-use Rattle.pack_pairs.specs.Pairs.{Pair, IsPairAt, IsOnce, pairs, second_of, map_of_pairs}
+use Rattle.pack_pairs.specs.Pairs.{Pair, IsPairAt, pairs, second_of, map_of_pairs}
 use Rattle.pack_pairs.proofs.Lists.{no_pair}
 use Rattle.pack_pairs.proofs.Packs.{pair_inside}
 use Rattle.pack_pairs.proofs.Maps.{get_pairs, once_before, map_more}
 use Rattle.hash_object.specs.Hashed.{no_fields, IsHashed, fields_in, blocks_of}
-use Rattle.hash_object.proofs.Tables.{new_is, new_hashed, hashed_then, hashed_owned, lacks_field, all_same}
+use Rattle.hash_object.proofs.Tables.{new_is, new_hashed, hashed_then, lacks_field, all_same}
 use Rattle.hash_object.proofs.hashed.hash_pack.Goals as goal
 
 pub loop-init : goal.loop-init

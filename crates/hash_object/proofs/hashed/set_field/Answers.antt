@@ -1,4 +1,4 @@
-use Rattle.std.proofs.Common.{◌≡◌, not, is_some, sym, ap}
+use Rattle.std.proofs.Common.{not, is_some, sym, ap}
 use Rattle.hash_object.proofs.Tables.{fields_lacks, found_value}
 use Rattle.hash_object.proofs.hashed.set_field.Goals as goal
 

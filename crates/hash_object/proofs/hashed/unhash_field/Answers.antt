@@ -1,4 +1,4 @@
-use Rattle.std.proofs.Common.{◌≡◌, is_some, sym, ap, subst}
+use Rattle.std.proofs.Common.{is_some, sym, ap, subst}
 use Rattle.blocks.specs.Blocks.{no_step}
 use Rattle.rehash_dict.specs.Tables.{IsSettled}
 use Rattle.rehash_dict.specs.Keyed.{key_tables}

@@ -4,4 +4,4 @@ use Rattle.hash_object.specs.Items.{IsCursor}
 use Rattle.hash_object.proofs.tests.walked.Given as goal
 
 abbrev pub invariant-loop : goal.invariant-loop
-invariant-loop l = IfSome l.next (λ cursor. IsCursor (plain_blocks l.store) l.hash cursor)
+invariant-loop l = IfSome l.next (λ cursor. IsCursor (plain_blocks l.store.plain) l.hash cursor)

@@ -1,6 +1,4 @@
-use Rattle.std.proofs.Common.{ap}
 use Rattle.blocks.specs.Blocks.{no_step}
-use Rattle.hash_object.specs.Fields.{refs_of_body}
 use Rattle.hash_object.proofs.Copies.{empty_copied, pack_copied}
 use Rattle.hash_object.proofs.fields.Fields.copy_body.Goals as goal
 

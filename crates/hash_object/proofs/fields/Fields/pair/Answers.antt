@@ -1,4 +1,4 @@
-use Rattle.std.proofs.Common.{◌≡◌, List, ℕ, [], Option, unwrap_or, sym, ap, ◌∙◌, subst}
+use Rattle.std.proofs.Common.{List, ℕ, [], Option, unwrap_or, sym, ap, ◌∙◌, subst}
 use Rattle.blocks.specs.Blocks.{Owned}
 use Rattle.hash_object.specs.declared.fields.Body.{Body}
 use Rattle.hash_object.specs.Fields.{IsBody, refs_of_body}

@@ -1,4 +1,4 @@
-use Rattle.std.proofs.Common.{◌≡◌, ◌+◌, ◌-◌, List, ℕ, [], Option, Some, length, unwrap_or, sym, ap, ◌∙◌, subst, arith}
+use Rattle.std.proofs.Common.{◌-◌, List, ℕ, [], Option, Some, length, unwrap_or, sym, ap, ◌∙◌, arith}
 use Rattle.std.specs.List.{remove as removed}
 use Rattle.blocks.specs.Blocks.{no_step, with_block}
 use Rattle.pack_pairs.specs.Pairs.{pairs}

@@ -1,4 +1,4 @@
-use Rattle.std.proofs.Common.{◌≡◌, [], subst}
+use Rattle.std.proofs.Common.{[], subst}
 use Rattle.std.specs.FinMap.{insert}
 use Rattle.blocks.specs.Blocks.{Blocks, Changes}
 use Rattle.blocks.proofs.Change.{Changes-then}

@@ -1,8 +1,8 @@
-use Rattle.std.proofs.Common.{◌≡◌, ◌+◌, ◌≤◌, max, length, sym, ap, ◌∙◌, subst, arith}
+use Rattle.std.proofs.Common.{◌+◌, max, length, subst, arith}
 use Rattle.object_codec.specs.declared.form.Form.{Form}
 use Rattle.object_codec.specs.declared.form.Form.TheVariants.{Listpack, Hashtable}
 use Rattle.object_codec.specs.Forms.{IsLeast, FitsHash}
-use Rattle.std.specs.FinMap.{len, insert}
+use Rattle.std.specs.FinMap.{insert}
 use Rattle.hash_object.specs.Maps.{IsRisen}
 use Rattle.hash_object.specs.Fields.{fields, form_of}
 use Rattle.hash_object.proofs.Placing.{place_count, place_few, place_rises, more_is, form_of_placed}

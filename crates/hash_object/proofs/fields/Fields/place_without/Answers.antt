@@ -1,5 +1,4 @@
-use Rattle.std.proofs.Common.{◌≡◌, refl, sym, ap, ◌∙◌, is_some}
-use Rattle.std.specs.FinMap.{contains_key}
+use Rattle.std.proofs.Common.{refl, sym, ap, ◌∙◌, is_some}
 use Rattle.blocks.specs.Blocks.{no_step}
 use Rattle.hash_object.proofs.Placing.{none_there, field_there}
 use Rattle.hash_object.proofs.fields.Fields.place_without.Goals as goal

@@ -1,12 +1,12 @@
-use Rattle.std.proofs.Common.{◌≡◌, is_some, [], sym, ap, ◌∙◌, subst, refl}
-use Rattle.std.specs.FinMap.{remove, len}
+use Rattle.std.proofs.Common.{is_some, [], sym, ap, ◌∙◌, subst, refl}
+use Rattle.std.specs.FinMap.{remove}
 use Rattle.blocks.specs.Blocks.{Changes}
 use Rattle.blocks.proofs.Serve.{Served-then}
 use Rattle.rehash_dict.specs.Keyed.{hash_of}
 use Rattle.rehash_dict.specs.Grown.{Grown}
 use Rattle.rehash_dict.specs.Tables.{IsSettled}
 use Rattle.hash_object.specs.declared.fields.Body.{Body}
-use Rattle.hash_object.specs.Fields.{IsChanged, fields, refs_of_body, form_of, form_of_body, tables_of}
+use Rattle.hash_object.specs.Fields.{IsChanged, fields, refs_of_body, form_of_body, tables_of}
 use Rattle.hash_object.proofs.Bodies.{body_changed, packed_tables, listed_ofpack}
 use Rattle.hash_object.proofs.Placing.{placed_settled}
 use Rattle.hash_object.proofs.fields.Fields.remove.Goals as goal

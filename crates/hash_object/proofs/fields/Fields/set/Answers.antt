@@ -1,4 +1,4 @@
-use Rattle.std.proofs.Common.{◌≡◌, not, refl, sym, ap, ◌∙◌, subst, []}
+use Rattle.std.proofs.Common.{not, sym, ap, ◌∙◌, subst, []}
 use Rattle.std.specs.FinMap.{insert, contains_key}
 use Rattle.blocks.specs.Blocks.{Changes}
 use Rattle.blocks.proofs.Serve.{Served-then}
