@@ -1,0 +1,5 @@
+pub mod Ranking
+pub mod Scored
+pub mod Relocation
+pub mod Laws
+pub mod Copied

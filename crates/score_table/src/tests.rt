@@ -1,0 +1,345 @@
+// Expected orders are those of the Redis command reference (sorted sets: by score, then by the members' bytes), and those of a plain
+// vector under the same edits.
+
+ghost use Rattle.std.specs.Prelude.{◌≤◌};
+ghost use Rattle.blocks.specs.Plain.{plain_blocks};
+ghost use Rattle.score_table.specs.Scored.{IsScoreTable};
+
+use crate::{Memory, ScoreTable, score_table_laws};
+use blocks::{BlockStore, PlainStore};
+use std::alloc::Global;
+use std::marker::Model;
+use std::mem;
+use std::process::Abort;
+use std::test::Fail;
+
+// A table of scores in its store.
+#[derive(Drop)]
+struct Held {
+    store: PlainStore,
+    table: ScoreTable,
+}
+
+impl Model for Held {
+    ghost use Rattle.std.specs.Prelude.{ℕ};
+    ghost use Rattle.blocks.specs.Plain.{plain_blocks};
+    ghost use Rattle.score_table.specs.Scored.{IsScoreTable};
+
+    ghost Value = { ℕ };
+
+    ghost view = { λ held. 0 };
+
+    ghost invariant = { λ held. IsScoreTable (plain_blocks held.store) held.table };
+}
+
+impl Held {
+    fn new(alloc: Global) -> Held {
+        Held {
+            store: PlainStore::new(alloc),
+            table: ScoreTable::new(alloc, 7),
+        }
+    }
+
+    fn set(&mut self, score: i64, member: &[u8]) -> Result<bool, Memory> {
+        self.table.set(&mut self.store, score, member)
+    }
+
+    // Puts a member in that isn't there, and answers whether it is new.
+    fn add(&mut self, score: i64, member: &[u8]) -> Result<bool, Memory> {
+        match self.table.score(&self.store, member) {
+            Some(_) => Ok(false),
+            None => {
+                self.table.add(&mut self.store, score, member)?;
+                Ok(true)
+            }
+        }
+    }
+
+    fn take_out(&mut self, member: &[u8]) -> Option<i64> {
+        self.table.take_out(&mut self.store, member)
+    }
+
+    fn shrink(&mut self) -> Result<bool, Memory> {
+        self.table.shrink()
+    }
+
+    fn settle_item(&mut self, item: usize) {
+        self.table.settle_item(&mut self.store, item);
+    }
+
+    // Puts a copy in the place of the table, which is given back.
+    fn copied(&mut self, alloc: Global) -> Result<(), Memory> {
+        let copy = self.table.copy(alloc, 9, &mut self.store)?;
+        mem::replace(&mut self.table, copy).release(&mut self.store);
+        Ok(())
+    }
+
+    fn score(&self, member: &[u8]) -> Option<i64> {
+        self.table.score(&self.store, member)
+    }
+
+    fn rank(&self, member: &[u8]) -> Option<usize> {
+        self.table.rank(&self.store, member)
+    }
+
+    // Whether this pair stands at a rank.
+    fn is_at(&self, rank: usize, score: i64, member: &[u8]) -> bool {
+        match self.table.at_rank(rank) {
+            Some((found, block)) => found == score && self.store.bytes(block) == member,
+            None => false,
+        }
+    }
+
+    // Whether this pair has an item number.
+    fn is_item(&self, item: usize, score: i64, member: &[u8]) -> bool {
+        if !self.table.is_entry(item) {
+            return false;
+        }
+        let (found, block) = self.table.entry(item);
+        found == score && self.store.bytes(block) == member
+    }
+
+    fn release(self) {
+        let Held { mut store, table } = self;
+        table.release(&mut store);
+    }
+}
+
+// Whether these pairs stand in this order, and there are no others.
+fn compare(rt: &impl Abort, held: &Held, rows: &[(i64, &[u8])]) {
+    assert_eq!(rt; held.table.len(), rows.len());
+    assert!(rt; held.table.at_rank(rows.len()).is_none());
+    assert!(rt; held.table.cursor(rows.len()).is_none());
+    let mut cursor = held.table.cursor(0);
+    for (rank, (score, member)) in rows.iter().enumerate() {
+        assert!(rt; held.is_at(rank, *score, member));
+        assert_eq!(rt; held.rank(member), Some(rank));
+        assert_eq!(rt; held.score(member), Some(*score));
+        cursor = match cursor {
+            Some(at) => {
+                assert_eq!(rt; at.rank(), rank);
+                assert_eq!(rt; held.table.at_rank(rank), Some(at.get()));
+                at.next()
+            }
+            None => panic!(rt; "the walk ends too early"),
+        };
+    }
+    assert!(rt; cursor.is_none());
+}
+
+// Members with the same score stand by their bytes, a prefix first.
+#[test]
+fn pairs_stand_in_order(rt: HostRuntime) -> Result<(), Fail> {
+    score_table_laws();
+    let mut held = Held::new(rt.alloc());
+    compare(&rt, &held, &[]);
+    let rows: [(i64, &[u8]); 7] = [
+        (3, b"c"),
+        (1, b"b"),
+        (1, b"ab"),
+        (1, b""),
+        (-5, b"z"),
+        (1, b"a"),
+        (i64::MAX, b"0"),
+    ];
+    for (score, member) in rows {
+        assert!(rt; held.add(score, member)?);
+        assert!(rt; !held.set(score, member)?);
+    }
+    let ordered: [(i64, &[u8]); 7] = [
+        (-5, b"z"),
+        (1, b""),
+        (1, b"a"),
+        (1, b"ab"),
+        (1, b"b"),
+        (3, b"c"),
+        (i64::MAX, b"0"),
+    ];
+    compare(&rt, &held, &ordered);
+    let below = [
+        (i64::MIN, 0),
+        (-5, 0),
+        (-4, 1),
+        (1, 1),
+        (2, 5),
+        (3, 5),
+        (4, 6),
+        (i64::MAX, 6),
+    ];
+    for (least, count) in below {
+        assert_eq!(rt; held.table.below(least), count);
+    }
+    held.release();
+    Ok(())
+}
+
+// Scores that change, and members that are taken out.
+#[test]
+fn scores_change(rt: HostRuntime) -> Result<(), Fail> {
+    let mut held = Held::new(rt.alloc());
+    assert!(rt; held.set(2, b"a")?);
+    assert!(rt; held.set(1, b"b")?);
+    compare(&rt, &held, &[(1, b"b"), (2, b"a")]);
+    assert!(rt; !held.set(0, b"a")?);
+    compare(&rt, &held, &[(0, b"a"), (1, b"b")]);
+    assert!(rt; !held.set(1, b"a")?);
+    compare(&rt, &held, &[(1, b"a"), (1, b"b")]);
+    assert_eq!(rt; held.take_out(b"c"), None);
+    assert_eq!(rt; held.take_out(b"a"), Some(1));
+    assert_eq!(rt; held.take_out(b"a"), None);
+    assert_eq!(rt; held.score(b"a"), None);
+    assert_eq!(rt; held.rank(b"a"), None);
+    compare(&rt, &held, &[(1, b"b")]);
+    Ok(())
+}
+
+// Item numbers are given in the order of the members' coming, and stay.
+#[test]
+fn members_have_item_numbers(rt: HostRuntime) -> Result<(), Fail> {
+    let mut held = Held::new(rt.alloc());
+    for (score, member) in [(5, b"a"), (4, b"b"), (3, b"c")] {
+        assert!(rt; held.set(score, member)?);
+    }
+    assert_eq!(rt; held.take_out(b"b"), Some(4));
+    assert!(rt; !held.set(9, b"c")?);
+    assert_eq!(rt; held.table.top(), 3);
+    assert_eq!(rt; held.table.table().len(), 2);
+    for item in 0..4 {
+        held.settle_item(item);
+    }
+    assert!(rt; held.is_item(0, 5, b"a") && held.is_item(2, 9, b"c"));
+    assert!(rt; !held.table.is_entry(1) && !held.table.is_entry(3));
+    compare(&rt, &held, &[(5, b"a"), (9, b"c")]);
+    Ok(())
+}
+
+// A copy has the members of its table with their scores, over blocks of its own, and item numbers of its own.
+#[test]
+fn copies_stand_alone(rt: HostRuntime) -> Result<(), Fail> {
+    let mut held = Held::new(rt.alloc());
+    held.copied(rt.alloc())?;
+    compare(&rt, &held, &[]);
+    for (score, member) in [(5, b"a"), (4, b"b"), (5, b"c")] {
+        assert!(rt; held.set(score, member)?);
+    }
+    assert_eq!(rt; held.take_out(b"a"), Some(5));
+    held.copied(rt.alloc())?;
+    compare(&rt, &held, &[(4, b"b"), (5, b"c")]);
+    assert_eq!(rt; held.table.top(), 2);
+    assert!(rt; held.is_item(0, 4, b"b") && held.is_item(1, 5, b"c"));
+    Ok(())
+}
+
+// Where memory is refused a call leaves all, and goes through when it is asked again.
+#[test]
+fn a_refusal_leaves_all(rt: HostRuntime) -> Result<(), Fail> {
+    let mut held = Held::new(rt.alloc());
+    for n in 0..60u8 {
+        let score = i64::from(n % 7);
+        if held.set(score, &[n]).is_err() {
+            assert_eq!(rt; held.score(&[n]), None);
+            assert_eq!(rt; held.table.len(), n as usize);
+            assert!(rt; held.set(score, &[n])?);
+        }
+        assert_eq!(rt; held.table.len(), n as usize + 1);
+    }
+    if held.set(-1, &[59]).is_err() {
+        assert_eq!(rt; held.score(&[59]), Some(3));
+        assert!(rt; !held.set(-1, &[59])?);
+    }
+    assert!(rt; held.is_at(0, -1, &[59]));
+    for n in 2..60u8 {
+        assert!(rt; held.take_out(&[n]).is_some());
+    }
+    let began = match held.shrink() {
+        Ok(began) => began,
+        Err(_) => held.shrink()?,
+    };
+    assert!(rt; began);
+    compare(&rt, &held, &[(0, &[0]), (1, &[1])]);
+    Ok(())
+}
+
+// A table of scores beside the plain scores that it should have. Each member is one byte.
+#[derive(Drop)]
+struct Twin {
+    held: Held,
+    scores: [Option<i64>; 64],
+}
+
+impl Twin {
+    // How many plain pairs stand before one.
+    fn place(&self, score: i64, member: usize) -> usize {
+        let mut count: usize = 0;
+        for n in 0..64usize {
+            if let Some(other) = self.scores[n] {
+                if other < score || (other == score && n < member) {
+                    count = count.saturating_add(1);
+                }
+            }
+        }
+        count
+    }
+
+    // Sets a score in both or takes a member out of both, and tells whether the answer is right. A call that finds no memory leaves
+    // all.
+    fn edit(&mut self, number: usize, score: i64, sets: bool) -> bool {
+        let n = number % 64;
+        let member = [n as u8];
+        if !sets {
+            let right = self.held.take_out(&member) == self.scores[n];
+            self.scores[n] = None;
+            return right;
+        }
+        match self.held.set(score, &member) {
+            Ok(new) => {
+                let right = new == self.scores[n].is_none();
+                self.scores[n] = Some(score);
+                right
+            }
+            Err(_) => true,
+        }
+    }
+
+    fn agrees(&self) -> bool {
+        let mut count: usize = 0;
+        for n in 0..64usize {
+            let member = [n as u8];
+            let rank = self.held.rank(&member);
+            match self.scores[n] {
+                Some(score) => {
+                    let place = self.place(score, n);
+                    if rank != Some(place) || !self.held.is_at(place, score, &member) {
+                        return false;
+                    }
+                    count = count.saturating_add(1);
+                }
+                None => {
+                    if rank.is_some() {
+                        return false;
+                    }
+                }
+            }
+        }
+        self.held.table.len() == count
+    }
+}
+
+#[test]
+fn edits_agree_with_plain_scores(rt: HostRuntime) {
+    let mut twin = Twin {
+        held: Held::new(rt.alloc()),
+        scores: [None; 64],
+    };
+    let mut seed: u32 = 7;
+    for round in 0..600 {
+        seed = seed.wrapping_mul(1664525).wrapping_add(1013904223);
+        let grows = round / 200 != 1;
+        let sets = (seed >> 13 & 3 != 0) == grows;
+        let score = i64::from(seed >> 24 & 7) - 3;
+        assert!(rt; twin.edit((seed >> 16) as usize, score, sets));
+        if round % 50 == 49 {
+            assert!(rt; twin.agrees());
+        }
+    }
+}
