@@ -1,0 +1,9 @@
+pub mod Orders
+pub mod Keys
+pub mod Forms
+pub mod Bodies
+pub mod Placing
+pub mod Listed
+pub mod Depends
+pub mod Walks
+pub mod Copies

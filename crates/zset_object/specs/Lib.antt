@@ -1,0 +1,5 @@
+pub mod Orders
+pub mod Packed
+pub mod Scored
+pub mod Items
+pub mod Laws

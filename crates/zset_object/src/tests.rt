@@ -1,0 +1,434 @@
+// Expected answers and encodings are those of the Redis command reference (ZADD, ZSCORE, ZRANK, ZCOUNT, ZREM, ZCARD, OBJECT ENCODING),
+// and those of a plain list under the same edits.
+
+ghost use Rattle.std.specs.Prelude.{◌≤◌};
+ghost use Rattle.blocks.specs.Plain.{plain_blocks};
+ghost use Rattle.object_codec.specs.Limits.{AreInRange};
+ghost use Rattle.zset_object.specs.Scored.{IsScored};
+
+use crate::{Memory, Scored};
+use blocks::PlainStore;
+use itoa::Buffer;
+use listpack::Element;
+use object_codec::{Form, Limits};
+use pack_pairs::text;
+use std::alloc::Global;
+use std::cmp::Ordering;
+use std::marker::Model;
+use std::test::Fail;
+
+// A sorted set in its store.
+#[derive(Drop)]
+struct Held {
+    store: PlainStore,
+    set: Scored,
+}
+
+impl Model for Held {
+    ghost use Rattle.std.specs.Prelude.{ℕ};
+    ghost use Rattle.blocks.specs.Plain.{plain_blocks};
+    ghost use Rattle.zset_object.specs.Scored.{IsScored};
+
+    ghost Value = { ℕ };
+
+    ghost view = { λ held. 0 };
+
+    ghost invariant = { λ held. IsScored (plain_blocks held.store) held.set };
+}
+
+fn limits(zset_entries: u32, zset_value: u32) -> Limits
+    requires entries { zset_entries ≤ 4096 }
+    requires value { zset_value ≤ 4096 }
+    ensures { AreInRange result }
+{
+    Limits {
+        hash_entries: 512,
+        set_entries: 128,
+        zset_entries,
+        hash_value: 64,
+        set_value: 64,
+        zset_value,
+        set_intset: 512,
+    }
+}
+
+// Whether a sorted set has this score of this member.
+fn has_pair(set: &Scored, store: &PlainStore, pair: (Element<'_>, i64)) -> bool
+    requires { IsScored (plain_blocks store.now) set.now }
+{
+    let (member, score) = pair;
+    let mut room = Buffer::new();
+    set.score(store, text(member, &mut room)) == Some(score)
+}
+
+// How many members a walk along the ranks meets, each with the score that the sorted set has.
+fn walked(set: &Scored, store: &PlainStore) -> usize
+    requires { IsScored (plain_blocks store.now) set.now }
+{
+    let mut count: usize = 0;
+    let mut next = set.cursor(store, 0);
+    for _ in 0..=set.len() {
+        match next {
+            Some(cursor) => {
+                let is_there = has_pair(set, store, set.pair(store, &cursor));
+                count = count.saturating_add(usize::from(is_there));
+                next = set.next(store, &cursor);
+            }
+            None => return count,
+        }
+    }
+    count
+}
+
+// How many item numbers have a member, each with the score that the sorted set has.
+fn numbered(set: &Scored, store: &PlainStore) -> usize
+    requires { IsScored (plain_blocks store.now) set.now }
+{
+    let mut count: usize = 0;
+    for item in 0..set.top() {
+        if set.is_entry(item) && has_pair(set, store, set.at(store, item)) {
+            count = count.saturating_add(1);
+        }
+    }
+    count
+}
+
+impl Held {
+    fn new(alloc: Global, limits: Limits) -> Held
+        requires { AreInRange limits }
+    {
+        Held {
+            store: PlainStore::new(alloc),
+            set: Scored::new(alloc, limits, 7),
+        }
+    }
+
+    fn set(&mut self, member: &[u8], score: i64) -> Result<bool, Memory> {
+        self.set.set(&mut self.store, member, score)
+    }
+
+    fn remove(&mut self, member: &[u8]) -> Result<bool, Memory> {
+        self.set.remove(&mut self.store, member)
+    }
+
+    fn score(&self, member: &[u8]) -> Option<i64> {
+        self.set.score(&self.store, member)
+    }
+
+    fn rank(&self, member: &[u8]) -> Option<usize> {
+        self.set.rank(&self.store, member)
+    }
+
+    fn below(&self, least: i64) -> usize {
+        self.set.below(&self.store, least)
+    }
+
+    // Whether this member stands at the rank with this score.
+    fn has_at(&self, rank: usize, member: &[u8], score: i64) -> bool {
+        match self.set.at_rank(&self.store, rank) {
+            Some((element, found)) => {
+                let mut room = Buffer::new();
+                text(element, &mut room) == member && found == score
+            }
+            None => false,
+        }
+    }
+
+    // Whether the member has the score and the rank, by each call that looks it up.
+    fn ranks(&self, rank: usize, member: &[u8], score: i64) -> bool {
+        self.score(member) == Some(score)
+            && self.rank(member) == Some(rank)
+            && self.has_at(rank, member, score)
+    }
+
+    // Whether these members stand in this order, by each call that looks them up, by item numbers and by a walk.
+    fn stands(&self, order: &[(&[u8], i64)]) -> bool {
+        for (rank, (member, score)) in order.iter().enumerate() {
+            if !self.ranks(rank, member, *score) {
+                return false;
+            }
+        }
+        self.set.len() == order.len() && self.meets(order.len())
+    }
+
+    // Whether walks and item numbers meet so many members.
+    fn meets(&self, count: usize) -> bool {
+        walked(&self.set, &self.store) == count && numbered(&self.set, &self.store) == count
+    }
+
+    fn lacks(&self, member: &[u8]) -> bool {
+        self.score(member).is_none() && self.rank(member).is_none()
+    }
+
+    // Whether each member is new in its turn, has its score then, and the sorted set its form.
+    fn rises(&mut self, rows: &[(&[u8], i64, Form)]) -> Result<bool, Memory> {
+        for (member, score, form) in rows {
+            if !self.set(member, *score)?
+                || self.set.form() != *form
+                || self.score(member) != Some(*score)
+            {
+                return Ok(false);
+            }
+        }
+        Ok(true)
+    }
+
+    fn release(self) {
+        let Held { mut store, set } = self;
+        set.release(&mut store);
+    }
+}
+
+// Whether a copy of a sorted set of these members has its form and meets as many.
+fn is_copied(alloc: Global, limits: Limits, rows: &[(&[u8], i64, Form)]) -> Result<bool, Memory>
+    requires { AreInRange limits }
+{
+    let mut held = Held::new(alloc, limits);
+    held.rises(rows)?;
+    let Held { mut store, set } = held;
+    let copy = set.copy(&mut store)?;
+    let is_same = copy.form() == set.form() && walked(&copy, &store) == rows.len();
+    copy.release(&mut store);
+    Ok(is_same)
+}
+
+// Whether so many members have one form, and with one more another.
+fn rises_behind(alloc: Global, limits: Limits, count: u32, forms: [Form; 2]) -> Result<bool, Memory>
+    requires limits { AreInRange limits }
+    requires few { count ≤ 4096 }
+{
+    let mut held = Held::new(alloc, limits);
+    for n in 0..=count {
+        held.set(Buffer::new().format(n).as_bytes(), -(n as i64))?;
+        if n + 1 == count && held.set.form() != forms[0] {
+            return Ok(false);
+        }
+    }
+    Ok(held.set.form() == forms[1] && held.set.len() == count as usize + 1)
+}
+
+// Forms at each limit and one past it: numbers of members at 128, the default, at 0 and at 512, and then lengths at 64, the default, at 0
+// and at 4,096, the most.
+#[test]
+fn forms_rise(rt: HostRuntime) -> Result<(), Fail> {
+    let alloc = rt.alloc();
+    let forms = [Form::Listpack, Form::Skiplist];
+    assert!(rt; rises_behind(alloc, limits(128, 64), 128, forms)?);
+    assert!(rt; rises_behind(alloc, limits(512, 4096), 512, forms)?);
+    assert!(rt; rises_behind(alloc, limits(0, 64), 0, forms)?);
+    Ok(())
+}
+
+#[test]
+fn forms_rise_by_length(rt: HostRuntime) -> Result<(), Fail> {
+    let alloc = rt.alloc();
+    let by_member: [(&[u8], i64, Form); 4] = [
+        (b"12", -7, Form::Listpack),
+        (&[7; 64], i64::MAX, Form::Listpack),
+        (&[7; 65], 0, Form::Skiplist),
+        (b"b", i64::MIN, Form::Skiplist),
+    ];
+    assert!(rt; Held::new(alloc, limits(128, 64)).rises(&by_member)?);
+    assert!(rt; is_copied(alloc, limits(128, 64), &by_member)?);
+    assert!(rt; is_copied(alloc, limits(128, 64), &by_member[..2])?);
+    let none: [(&[u8], i64, Form); 2] = [(b"", 1, Form::Listpack), (b"a", 1, Form::Skiplist)];
+    assert!(rt; Held::new(alloc, limits(4096, 0)).rises(&none)?);
+    let most: [(&[u8], i64, Form); 2] = [
+        (&[1; 4096], i64::MIN, Form::Listpack),
+        (&[1; 4097], 2, Form::Skiplist),
+    ];
+    assert!(rt; Held::new(alloc, limits(4096, 4096)).rises(&most)?);
+    Ok(())
+}
+
+// A member, its new score or none where it is taken out, and the members and scores in their order then.
+type Step<'a> = (&'a [u8], Option<i64>, &'a [(&'a [u8], i64)]);
+
+// Whether the members stand in the order of each step after it.
+fn stand_in_order(alloc: Global, limits: Limits, steps: &[Step<'_>]) -> Result<bool, Memory>
+    requires { AreInRange limits }
+{
+    let mut held = Held::new(alloc, limits);
+    for (member, score, order) in steps {
+        match score {
+            Some(score) => {
+                let _new = held.set(member, *score)?;
+            }
+            None => {
+                let _was = held.remove(member)?;
+            }
+        }
+        if !held.stands(order) {
+            return Ok(false);
+        }
+    }
+    held.release();
+    Ok(true)
+}
+
+// Members of one score by their bytes, a number's text among them, and a score that changes, in each form.
+#[test]
+fn members_stand_in_order(rt: HostRuntime) -> Result<(), Fail> {
+    let steps: [Step<'_>; 7] = [
+        (b"b", Some(2), &[(b"b", 2)]),
+        (b"12", Some(2), &[(b"12", 2), (b"b", 2)]),
+        (b"a", Some(3), &[(b"12", 2), (b"b", 2), (b"a", 3)]),
+        (b"a", Some(-5), &[(b"a", -5), (b"12", 2), (b"b", 2)]),
+        (b"none", None, &[(b"a", -5), (b"12", 2), (b"b", 2)]),
+        (b"12", None, &[(b"a", -5), (b"b", 2)]),
+        (b"", Some(2), &[(b"a", -5), (b"", 2), (b"b", 2)]),
+    ];
+    let alloc = rt.alloc();
+    assert!(rt; stand_in_order(alloc, limits(128, 64), &steps)?);
+    assert!(rt; stand_in_order(alloc, limits(2, 64), &steps)?);
+    assert!(rt; stand_in_order(alloc, limits(0, 64), &steps)?);
+    Ok(())
+}
+
+// A sorted set beside the list of its scores by the numbers of their members.
+#[derive(Drop)]
+struct Twin {
+    held: Held,
+    scores: [Option<i64>; 64],
+}
+
+// The member of a number: its text, or so many bytes.
+fn member_of<'a>(n: usize, buffer: &'a mut Buffer, filler: &'a [u8; 64]) -> &'a [u8] {
+    if n % 2 == 0 {
+        buffer.format(n).as_bytes()
+    } else {
+        &filler[..n % 64]
+    }
+}
+
+// Whether the member of one number stands before that of another, by these scores.
+fn stands_before(scores: [i64; 2], numbers: [usize; 2], filler: &[u8; 64]) -> bool {
+    if scores[0] != scores[1] {
+        return scores[0] < scores[1];
+    }
+    let mut one = Buffer::new();
+    let mut other = Buffer::new();
+    let order = member_of(numbers[0], &mut one, filler).cmp(member_of(
+        numbers[1], &mut other, filler,
+    ));
+    match order {
+        Ordering::Less => true,
+        _ => false,
+    }
+}
+
+impl Twin {
+    fn new(alloc: Global, limits: Limits) -> Twin
+        requires { AreInRange limits }
+    {
+        Twin {
+            held: Held::new(alloc, limits),
+            scores: [None; 64],
+        }
+    }
+
+    // Gives a member a score, and tells whether the answer is right. A call that finds no memory leaves all as it was.
+    fn set(&mut self, number: usize, filler: &[u8; 64], score: i64) -> bool {
+        let n = number % 64;
+        let mut buffer = Buffer::new();
+        match self.held.set(member_of(n, &mut buffer, filler), score) {
+            Ok(new) => {
+                let wanted = self.scores[n].is_none();
+                self.scores[n] = Some(score);
+                new == wanted
+            }
+            Err(_) => true,
+        }
+    }
+
+    // Takes a member out, and tells whether the answer is right. A table that finds no memory is left without the member.
+    fn remove(&mut self, number: usize, filler: &[u8; 64]) -> bool {
+        let n = number % 64;
+        let mut buffer = Buffer::new();
+        let form = self.held.set.form();
+        match self.held.remove(member_of(n, &mut buffer, filler)) {
+            Ok(was) => {
+                let wanted = self.scores[n].is_some();
+                self.scores[n] = None;
+                was == wanted
+            }
+            Err(_) => {
+                if form == Form::Skiplist {
+                    self.scores[n] = None;
+                }
+                true
+            }
+        }
+    }
+
+    // How many members stand before the one of a number with this score, and how many have a lower score.
+    fn counts(&self, n: usize, score: i64, filler: &[u8; 64]) -> (usize, usize) {
+        let mut before: usize = 0;
+        let mut below: usize = 0;
+        for other in 0..64usize {
+            if let Some(another) = self.scores[other] {
+                if stands_before([another, score], [other, n], filler) {
+                    before = before.saturating_add(1);
+                }
+                if another < score {
+                    below = below.saturating_add(1);
+                }
+            }
+        }
+        (before, below)
+    }
+
+    // Whether the sorted set has each score at its rank, and no more members.
+    fn agrees(&self, filler: &[u8; 64]) -> bool {
+        let mut count: usize = 0;
+        for n in 0..64usize {
+            let mut buffer = Buffer::new();
+            let member = member_of(n, &mut buffer, filler);
+            let is_right = match self.scores[n] {
+                Some(score) => {
+                    let (before, below) = self.counts(n, score, filler);
+                    self.held.ranks(before, member, score) && self.held.below(score) == below
+                }
+                None => self.held.lacks(member),
+            };
+            if !is_right {
+                return false;
+            }
+            if self.scores[n].is_some() {
+                count = count.saturating_add(1);
+            }
+        }
+        self.held.set.len() == count && self.held.meets(count)
+    }
+}
+
+// Whether a sorted set agrees with a plain list under seeded edits.
+fn agrees_under_edits(alloc: Global, limits: Limits) -> bool
+    requires { AreInRange limits }
+{
+    let filler = [b'x'; 64];
+    let mut twin = Twin::new(alloc, limits);
+    let mut seed: u32 = 7;
+    for round in 0..300 {
+        seed = seed.wrapping_mul(1664525).wrapping_add(1013904223);
+        let n = (seed >> 16) as usize;
+        let is_right = if seed >> 13 & 3 == 0 {
+            twin.remove(n, &filler)
+        } else {
+            twin.set(n, &filler, (seed >> 8 & 15) as i64 - 8)
+        };
+        if !is_right || round % 30 == 29 && !twin.agrees(&filler) {
+            return false;
+        }
+    }
+    true
+}
+
+// By limits at which a sorted set changes its form soon, late, by the length of a member, and never.
+#[test]
+fn edits_agree_with_a_plain_list(rt: HostRuntime) {
+    let alloc = rt.alloc();
+    for (entries, value) in [(4, 64), (30, 64), (64, 40), (64, 64)] {
+        assert!(rt; agrees_under_edits(alloc, limits(entries, value)));
+    }
+}
