@@ -63,6 +63,10 @@ impl BlockStore for Scarce {
         self.plain.wants_move(at)
     }
 
+    fn is_calm(&self) -> bool {
+        self.plain.is_calm()
+    }
+
     fn move_block(&mut self, at: BlockRef) -> Option<BlockRef> {
         self.plain.move_block(at)
     }
