@@ -1,5 +1,6 @@
 -- What is seen of a key that is sought.
-use Rattle.std.proofs.Common.{◌≡◌, ℕ, List, Option, None, Some, true, false, IfSome, IfNone, sym, ap, ◌∙◌}
+use Rattle.std.proofs.Common.{◌≡◌, inl, inr, ℕ, List, Option, None, Some, true, false, IfSome, IfNone, refl, sym, ap, ◌∙◌, subst}
+use Rattle.std.proofs.lemmas.Bool.{cases_eq}
 use Rattle.std.specs.FinMap.{get}
 use Rattle.blocks.specs.declared.BlockRef.{BlockRef}
 use Rattle.blocks.specs.Blocks.{Blocks}
@@ -8,12 +9,66 @@ use Rattle.plain_world.proofs.Lives.{look_in_time}
 use Rattle.expiry.specs.Timed.{moments}
 use Rattle.expiry.specs.Changes.{HasDeadline}
 use Rattle.held.specs.declared.seeking.Sought.{Sought}
-use Rattle.held.specs.Table.{Stands, Lacks}
-use Rattle.held.specs.Databases.{ReadsOwn, Bases, table_at, deadlines_at, means}
+use Rattle.rehash_dict.specs.Keyed.{hash_of}
+use Rattle.held.specs.Table.{Table, Element, item, Stands, Lacks, Swaps}
+use Rattle.held.specs.declared.databases.Base.{Base}
+use Rattle.held.specs.Databases.{ReadsOwn, Bases, table_at, deadlines_at, means, ChangesTable}
 use Rattle.held.specs.Sound.{IsArranged}
 use Rattle.held.specs.Calls.{StandsAt, HasUntil, Seeks, Sees}
-use Rattle.held.proofs.Timing.{untimed}
+use Rattle.held.proofs.Timing.{some_same, untimed}
 use Rattle.held.proofs.Calls.{look_stands, look_lacks, look_nothing, look_past, deadline_seen, deadline_latest}
+
+module _ {V : Type 0} (old new : Table V) (at : ℕ) (was value : V) (s : Swaps old new at was value) (m : Blocks) (key : List ℕ) where
+  -- a key stands where it stood, whatever becomes of a value
+  swapped_stands : (place : ℕ) → Stands m old place key → Stands m new place key
+  swapped_stands place h = elim (cases_eq place at) [
+    | inl here ↦ record {
+      element = record { key = s.key; hash = s.hash; value = value };
+      found = ap (item new) here ∙ s.updates.changed;
+      bytes =
+          ap (λ (e : Element V). m e.key) (some_same (item old at) _ h.element s.found (ap (item old) (sym here) ∙ h.found)) ∙ h.bytes;
+    }
+    | inr other ↦ record { element = h.element; found = s.updates.others place other ∙ h.found; bytes = h.bytes }
+  ]
+
+  swapped_lacks : Lacks m old key → Lacks m new key
+  swapped_lacks h = record {
+    each = λ place e found is. elim (cases_eq place at) [
+      | inl here ↦
+          (let same = some_same (item new at) _ e s.updates.changed (ap (item new) (sym here) ∙ found) in
+          h.each at (record { key = s.key; hash = s.hash; value = was }) s.found (ap (λ (x : Element V). m x.key) same ∙ is))
+      | inr other ↦ h.each place e (sym (s.updates.others place other) ∙ found) is
+    ];
+  }
+
+  pub stands_swapped : (found : Option ℕ) → IfSome found (λ place. Stands m old place key) → IfSome found (λ place. Stands m new place key)
+  stands_swapped None h = tt
+  stands_swapped (Some place) h = swapped_stands place h
+
+  pub lacks_swapped : (found : Option ℕ) → IfNone found (Lacks m old key) → IfNone found (Lacks m new key)
+  lacks_swapped None h = swapped_lacks h
+  lacks_swapped (Some place) h = tt
+
+module _ {V : Type 0} where
+  -- what was found of a key stands after a value took the place of another
+  pub kept_sought : (old new : Bases V) (db at : ℕ) (was value : V) (m : Blocks) → ChangesTable old new db → Swaps (table_at old db) (table_at new db) at was value
+      → (number : ℕ) (key : List ℕ) (sought : Sought) → Seeks old m number key sought → Seeks new m number key sought
+  kept_sought old new db at was value m c s number key sought seeks = elim (cases_eq number db) [
+    | inl here ↦
+        subst (λ n. Seeks new m n key sought) (sym here)
+        (let here_seeks : Seeks old m db key sought = subst (λ n. Seeks old m n key sought) here seeks in
+        record {
+          hashed = here_seeks.hashed ∙ ap (λ seed. hash_of seed key) (sym s.seed);
+          stands = stands_swapped (table_at old db) (table_at new db) at was value s m key sought.item here_seeks.stands;
+          lacks = lacks_swapped (table_at old db) (table_at new db) at was value s m key sought.item here_seeks.lacks;
+        })
+    | inr other ↦
+        (let same : table_at old number ≡ table_at new number = sym (ap (λ (base : Base V). base.keys) (c.base.others number other)) in record {
+          hashed = seeks.hashed ∙ ap (λ (table : Table V). hash_of table.seed key) same;
+          stands = subst (λ table. IfSome sought.item (λ place. Stands m table place key)) same seeks.stands;
+          lacks = subst (λ table. IfNone sought.item (Lacks m table key)) same seeks.lacks;
+        })
+  ]
 
 module _ {V : Type 0} (refs_of : V → List BlockRef) (value_of : Blocks → V → Value) (own : ReadsOwn refs_of value_of) where
   -- a key that is there at a moment is seen with its deadline

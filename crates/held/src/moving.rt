@@ -9,28 +9,58 @@ ghost use Rattle.held.specs.Calls.{HasValue, HasOnly, IsDeadline, Seeks};
 ghost use Rattle.held.specs.Scopes.{one_key, two_keys, Within};
 ghost use Rattle.held.specs.Written.{Written};
 
-use crate::{Held, Keyspace, SoughtAt};
+use crate::{Held, Keyspace, Sought, SoughtAt};
 use blocks::{BlockStore, Memory};
 use std::alloc::AllocError;
 
 impl<V: Held, B: BlockStore> Keyspace<V, B> {
-    /// Moves what stands at a key that was sought, its deadline with it, to another key of this or another database. What stood there is
-    /// released, and its deadline goes. A key that is gone moves too.
-    ///
-    /// The answer is whether the key is there; where it isn't, nothing changes. Where both are one key of one database nothing
-    /// changes either. `Memory` leaves the keys and their deadlines.
+    /// Moves what stands at a key, its deadline with it, to another key of this or another database, as `rename_sought` does.
     pub fn rename(
         &mut self,
         db: usize,
         from: &[u8],
-        found: SoughtAt,
         to_db: usize,
         to: &[u8],
     ) -> Result<bool, Memory>
         requires db { db < 16 }
         requires to_db { to_db < 16 }
         requires intact { IsIntact V.refs_of self.old.bases (B.blocks self.old.store) [] }
+        ensures answer { IfOk result (λ there. there ≡ is_some (look (means V.value_of db self.old.bases (B.blocks self.old.store)) from.now)) }
+        ensures means { OnOk result (((db ≡ to_db) × (from.now ≡ to.now) → ⊥) → (entry : Entry) → look (means V.value_of db self.old.bases (B.blocks self.old.store)) from.now ≡ Some entry → means V.value_of db self.new.bases (B.blocks self.new.store) ≡ put_in (remove (means V.value_of db self.old.bases (B.blocks self.old.store)) from.now) to_db to.now entry) }
+        ensures same { db ≡ to_db → from.now ≡ to.now → (self.new.bases ≡ self.old.bases) × (self.new.store ≡ self.old.store) }
+        ensures writes { OnOk result ((out : List BlockRef) → SoundBeside V.refs_of self.old.bases (B.blocks self.old.store) out → Written V.refs_of (HasValue self.old.bases (B.blocks self.old.store) db from.now) self.old.bases self.new.bases (B.blocks self.old.store) (B.blocks self.new.store)) }
+        ensures absent { look (means V.value_of db self.old.bases (B.blocks self.old.store)) from.now ≡ None → (self.new.bases ≡ self.old.bases) × (self.new.store ≡ self.old.store) }
+        ensures err { OnErr result (means V.value_of db self.new.bases (B.blocks self.new.store) ≡ means V.value_of db self.old.bases (B.blocks self.old.store)) }
+        ensures sound { (out : List BlockRef) → SoundBeside V.refs_of self.old.bases (B.blocks self.old.store) out → SoundBeside V.refs_of self.new.bases (B.blocks self.new.store) out }
+        ensures changes { Changes (B.blocks self.old.store) (B.blocks self.new.store) (owned V.refs_of self.old.bases) (owned V.refs_of self.new.bases) }
+        ensures served { Served B.step self.old.store self.new.store }
+        ensures settings { SameSettings self.old.bases self.new.bases }
+        ensures within { Within V.refs_of (two_keys db from.now to_db to.now) self.old.bases self.new.bases (B.blocks self.old.store) (B.blocks self.new.store) }
+    {
+        let found = self.seek_at(db, from, 0);
+        let place = self.seek(to_db, to);
+        self.rename_sought(db, from, found, to_db, to, place)
+    }
+
+    /// Moves what stands at a key that was sought, its deadline with it, to another key of this or another database, which was
+    /// sought too. What stood there is released, and its deadline goes. A key that is gone moves too.
+    ///
+    /// The answer is whether the key is there; where it isn't, nothing changes. Where both are one key of one database nothing
+    /// changes either. `Memory` leaves the keys and their deadlines.
+    pub fn rename_sought(
+        &mut self,
+        db: usize,
+        from: &[u8],
+        found: SoughtAt,
+        to_db: usize,
+        to: &[u8],
+        place: Sought,
+    ) -> Result<bool, Memory>
+        requires db { db < 16 }
+        requires to_db { to_db < 16 }
+        requires intact { IsIntact V.refs_of self.old.bases (B.blocks self.old.store) [] }
         requires seeks { Seeks self.old.bases (B.blocks self.old.store) db from.now found.sought }
+        requires place { Seeks self.old.bases (B.blocks self.old.store) to_db to.now place }
         requires lasts { found.deadline ≡ deadline_of (look (means V.value_of db self.old.bases (B.blocks self.old.store)) from.now) }
         ensures answer { IfOk result (λ there. there ≡ is_some (look (means V.value_of db self.old.bases (B.blocks self.old.store)) from.now)) }
         ensures means { OnOk result (((db ≡ to_db) × (from.now ≡ to.now) → ⊥) → (entry : Entry) → look (means V.value_of db self.old.bases (B.blocks self.old.store)) from.now ≡ Some entry → means V.value_of db self.new.bases (B.blocks self.new.store) ≡ put_in (remove (means V.value_of db self.old.bases (B.blocks self.old.store)) from.now) to_db to.now entry) }
@@ -51,8 +81,7 @@ impl<V: Held, B: BlockStore> Keyspace<V, B> {
             return Ok(true);
         }
         let value = self.bases.swap_value(db, at, V::zero());
-        let sought = self.seek(to_db, to);
-        match self.place_sought(to_db, to, sought, value, found.deadline) {
+        match self.place_sought(to_db, to, place, value, found.deadline) {
             Ok(()) => {
                 let _there = self.drop_hashed(db, found.sought.hash, from);
                 Ok(true)

@@ -112,6 +112,24 @@ impl<V: Held, B: BlockStore> Keyspace<V, B> {
         }
     }
 
+    /// Gives a key another deadline, in milliseconds, or takes the one away that it has, as `set_sought` does.
+    pub fn set_deadline(&mut self, db: usize, key: &[u8], to: Option<u64>) -> Result<bool, Memory>
+        requires db { db < 16 }
+        requires intact { IsIntact V.refs_of self.old.bases (B.blocks self.old.store) [] }
+        requires latest { IsDeadline to }
+        ensures answer { IfOk result (λ there. there ≡ is_some (look (means V.value_of db self.old.bases (B.blocks self.old.store)) key.now)) }
+        ensures means { OnOk result ((entry : Entry) → look (means V.value_of db self.old.bases (B.blocks self.old.store)) key.now ≡ Some entry → means V.value_of db self.new.bases (B.blocks self.old.store) ≡ put (means V.value_of db self.old.bases (B.blocks self.old.store)) key.now (record { value = entry.value; deadline = to })) }
+        ensures absent { look (means V.value_of db self.old.bases (B.blocks self.old.store)) key.now ≡ None → self.new.bases ≡ self.old.bases }
+        ensures err { OnErr result (self.new.bases ≡ self.old.bases) }
+        ensures sound { (out : List BlockRef) → SoundBeside V.refs_of self.old.bases (B.blocks self.old.store) out → SoundBeside V.refs_of self.new.bases (B.blocks self.old.store) out }
+        ensures store { self.new.store ≡ self.old.store }
+        ensures settings { SameSettings self.old.bases self.new.bases }
+        ensures within { Within V.refs_of (no_key db) self.old.bases self.new.bases (B.blocks self.old.store) (B.blocks self.old.store) }
+    {
+        let found = self.seek_at(db, key, 0);
+        self.set_sought(db, key, found, to)
+    }
+
     /// Gives a key that was sought with its deadline another one, in milliseconds, or takes the one away that it has. The answer
     /// is whether the key is there, whether it is gone or not; where it isn't, nothing changes.
     ///

@@ -1,13 +1,14 @@
 //! What stands at a key.
 
-ghost use Rattle.std.specs.Prelude.{◌≡◌, ◌<◌, ◌^◌, [], ◌∷◌, pos, IfOk, is_some};
+ghost use Rattle.std.specs.Prelude.{◌≡◌, ◌<◌, ◌^◌, [], ◌∷◌, pos, IfOk, IfSome, IfNone, is_some, true, false};
 ghost use Rattle.plain_world.specs.Worlds.{look};
 ghost use Rattle.plain_world.specs.declared.reply.Part.TheVariants as parts;
 ghost use Rattle.keyspace.specs.Commands.{Ready, sight};
+ghost use Rattle.held.specs.Calls.{Seeks};
 ghost use Rattle.cmd_keys.specs.Found.{IsDeadlineAt, IsAhead, told_without};
 
 use blocks::BlockStore;
-use keyspace::{Keyspace, seek};
+use keyspace::{Keyspace, Sought, seek};
 use plain_model::{Ctx, Memory, Reply};
 use std::alloc::Global;
 
@@ -26,6 +27,20 @@ pub fn is_there<B: BlockStore>(keyspace: &Keyspace<B>, at: &Ctx, key: &[u8]) -> 
     ensures { result ≡ is_some (look (sight B.blocks keyspace.now at.now) key.now) }
 {
     keyspace.look(at.db, key, at.moment).is_some()
+}
+
+/// What was sought of a key where nothing stands. `None` comes exactly where something does.
+pub fn free_place<B: BlockStore>(keyspace: &Keyspace<B>, at: &Ctx, key: &[u8]) -> Option<Sought>
+    requires ready { Ready B.blocks keyspace.now at.now }
+    ensures seeks { IfSome result (λ place. Seeks keyspace.now.bases (B.blocks keyspace.now.store) at.now.db key.now place) }
+    ensures free { IfSome result (λ place. is_some (look (sight B.blocks keyspace.now at.now) key.now) ≡ false) }
+    ensures taken { IfNone result (is_some (look (sight B.blocks keyspace.now at.now) key.now) ≡ true) }
+{
+    let found = seek(keyspace, at, key);
+    match found.there {
+        None => Some(found.sought),
+        Some(_) => None,
+    }
 }
 
 /// The deadline of what stands at a key, in milliseconds.

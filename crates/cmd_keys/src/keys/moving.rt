@@ -10,10 +10,11 @@ ghost use Rattle.keyspace.specs.Scopes.{two_keys};
 ghost use Rattle.keyspace.specs.Forms.{AsAt, Formed};
 ghost use Rattle.keyspace.specs.Commands.{Ready, Held, Kept, sight};
 ghost use Rattle.keyspace.specs.Seeking.{Sees};
+ghost use Rattle.held.specs.Calls.{Seeks};
 
-use crate::keys::look::{count_reply, is_there};
+use crate::keys::look::{count_reply, free_place};
 use blocks::BlockStore;
-use keyspace::{Keyspace, SoughtAt, seek};
+use keyspace::{Keyspace, Sought, SoughtAt, seek};
 use plain_model::{Bytes, Ctx, Line, Memory, Refusal, Reply};
 use rand_core::utils::NextWord;
 use rand_pcg::Pcg32;
@@ -35,7 +36,7 @@ pub fn randomkey<B: BlockStore>(
     }
 }
 
-// What stands at a key that was sought moves to another one, of the same database or of another.
+// What stands at a key that was sought moves to another one, of the same database or of another, that was sought too.
 fn move_to<B: BlockStore>(
     keyspace: &mut Keyspace<B>,
     at: &Ctx,
@@ -43,16 +44,18 @@ fn move_to<B: BlockStore>(
     found: SoughtAt,
     number: usize,
     to: &[u8],
+    place: Sought,
 ) -> Result<(), Memory>
     requires ready { Ready B.blocks keyspace.old at.now }
     requires sees { Sees B.blocks keyspace.old at.now from.now found }
     requires number { number < 16 }
+    requires place { Seeks keyspace.old.bases (B.blocks keyspace.old.store) number to.now place }
     requires apart { (at.now.db ≡ number) × (from.now ≡ to.now) → ⊥ }
     ensures world { OnOk result ((entry : Entry) → look (sight B.blocks keyspace.old at.now) from.now ≡ Some entry → sight B.blocks keyspace.new at.now ≡ put_in (remove (sight B.blocks keyspace.old at.now) from.now) number to.now entry) }
     ensures held { Held B.blocks B.step (two_keys at.now.db from.now number to.now) keyspace.old keyspace.new }
     ensures forms { OnOk result (Formed B.blocks (AsAt at.now.db from.now) keyspace.old keyspace.new) }
 {
-    match keyspace.rename(at.db, from, found, number, to) {
+    match keyspace.rename_sought(at.db, from, found, number, to, place) {
         Ok(_) => Ok(()),
         Err(error) => Err(error),
     }
@@ -65,9 +68,11 @@ fn rename_key<B: BlockStore>(
     from: &[u8],
     found: SoughtAt,
     to: &[u8],
+    place: Sought,
 ) -> Result<(), Memory>
     requires ready { Ready B.blocks keyspace.old at.now }
     requires sees { Sees B.blocks keyspace.old at.now from.now found }
+    requires place { Seeks keyspace.old.bases (B.blocks keyspace.old.store) at.now.db to.now place }
     ensures world { OnOk result ((entry : Entry) → look (sight B.blocks keyspace.old at.now) from.now ≡ Some entry → sight B.blocks keyspace.new at.now ≡ model.rename (sight B.blocks keyspace.old at.now) from.now to.now entry) }
     ensures held { Held B.blocks B.step (two_keys at.now.db from.now at.now.db to.now) keyspace.old keyspace.new }
     ensures forms { OnOk result (Formed B.blocks (AsAt at.now.db from.now) keyspace.old keyspace.new) }
@@ -75,7 +80,7 @@ fn rename_key<B: BlockStore>(
     if from == to {
         return Ok(());
     }
-    move_to(keyspace, at, from, found, at.db, to)
+    move_to(keyspace, at, from, found, at.db, to, place)
 }
 
 /// `RENAME from to`: OK; what stood at the new key is replaced. An error where nothing stands at the old one.
@@ -95,7 +100,8 @@ pub fn rename<B: BlockStore>(
     match found.there {
         None => Reply::refused(alloc, Refusal::NoSuchKey),
         Some(_) => {
-            rename_key(keyspace, at, from, found, to)?;
+            let place = keyspace.seek(at.db, to);
+            rename_key(keyspace, at, from, found, to, place)?;
             Reply::simple(alloc, Line::ok())
         }
     }
@@ -118,11 +124,13 @@ pub fn renamenx<B: BlockStore>(
     match found.there {
         None => Reply::refused(alloc, Refusal::NoSuchKey),
         Some(_) => {
-            if is_there(keyspace, at, to) {
-                return count_reply(alloc, 0);
+            match free_place(keyspace, at, to) {
+                None => count_reply(alloc, 0),
+                Some(place) => {
+                    rename_key(keyspace, at, from, found, to, place)?;
+                    count_reply(alloc, 1)
+                }
             }
-            rename_key(keyspace, at, from, found, to)?;
-            count_reply(alloc, 1)
         }
     }
 }
@@ -153,11 +161,13 @@ pub fn move_key<B: BlockStore>(
                 db: number,
                 moment: at.moment,
             };
-            if is_there(keyspace, &other, key) {
-                return count_reply(alloc, 0);
+            match free_place(keyspace, &other, key) {
+                None => count_reply(alloc, 0),
+                Some(place) => {
+                    move_to(keyspace, at, key, found, number, key, place)?;
+                    count_reply(alloc, 1)
+                }
             }
-            move_to(keyspace, at, key, found, number, key)?;
-            count_reply(alloc, 1)
         }
     }
 }

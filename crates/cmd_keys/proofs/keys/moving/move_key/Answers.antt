@@ -1,3 +1,7 @@
+use Rattle.std.proofs.Common.{sym, ap, is_some}
+use Rattle.std.proofs.lemmas.Bool.{ne_eqb}
+use Rattle.keyspace.specs.Commands.{seen}
+use Rattle.cmd_keys.proofs.Moving.{move_done}
 use Rattle.keyspace.proofs.Running.{unchanged}
 use Rattle.keyspace.specs.Scopes.{two_keys}
 use Rattle.keyspace.specs.Forms.{AsAt}
@@ -12,8 +16,8 @@ pub returns-in-None-clause-kept : goal.returns-in-None-clause-kept
 returns-in-None-clause-kept g c =
     unchanged g.B.BlockStore.blocks g.B.BlockStore.step (two_keys c.args.at.now.db c.args.key.now c.args.number c.args.key.now) c.args.keyspace.now _ c.requires.ready.sound
 
-pub returns-then-is_there-clause-kept : goal.returns-then-is_there-clause-kept
-returns-then-is_there-clause-kept g c =
+pub returns-in-None-free_place-clause-kept : goal.returns-in-None-free_place-clause-kept
+returns-in-None-free_place-clause-kept g c =
     unchanged g.B.BlockStore.blocks g.B.BlockStore.step (two_keys c.args.at.now.db c.args.key.now c.args.number c.args.key.now) c.args.keyspace.now _ c.requires.ready.sound
 
 pub returns-then-number-at-clause-forms : goal.returns-then-number-at-clause-forms
@@ -22,8 +26,14 @@ returns-then-number-at-clause-forms g c = unformed g.B.BlockStore.blocks (AsAt c
 pub returns-in-None-clause-forms : goal.returns-in-None-clause-forms
 returns-in-None-clause-forms g c = unformed g.B.BlockStore.blocks (AsAt c.args.at.now.db c.args.key.now) c.args.keyspace.now _
 
-pub returns-then-is_there-clause-forms : goal.returns-then-is_there-clause-forms
-returns-then-is_there-clause-forms g c = unformed g.B.BlockStore.blocks (AsAt c.args.at.now.db c.args.key.now) c.args.keyspace.now _
+pub returns-in-None-free_place-clause-forms : goal.returns-in-None-free_place-clause-forms
+returns-in-None-free_place-clause-forms g c = unformed g.B.BlockStore.blocks (AsAt c.args.at.now.db c.args.key.now) c.args.keyspace.now _
 
-pub returns-in_ok-move_to-in-Some-clause-forms : goal.returns-in_ok-move_to-in-Some-clause-forms
-returns-in_ok-move_to-in-Some-clause-forms g c = formed_ok g.B.BlockStore.blocks (AsAt c.args.at.now.db c.args.key.now) c.args.keyspace.now c.move_to.new.keyspace _ c.in_ok-move_to-in-Some.ensures.forms
+pub returns-in_ok-move_to-in-Some-free_place-clause-forms : goal.returns-in_ok-move_to-in-Some-free_place-clause-forms
+returns-in_ok-move_to-in-Some-free_place-clause-forms g c = formed_ok g.B.BlockStore.blocks (AsAt c.args.at.now.db c.args.key.now) c.args.keyspace.now c.move_to.new.keyspace _ c.in_ok-move_to-in-Some-free_place.ensures.forms
+
+pub returns-in_ok-move_to-in-Some-free_place-clause-gives : goal.returns-in_ok-move_to-in-Some-free_place-clause-gives
+returns-in_ok-move_to-in-Some-free_place-clause-gives g c =
+    let blocks = g.B.BlockStore.blocks in
+    move_done (seen c.args.at.now c.args.keyspace.now.bases (blocks c.args.keyspace.now.store)) (seen c.args.at.now c.move_to.new.keyspace.bases (blocks c.move_to.new.keyspace.store)) c.args.key.now c.args.number c.count_reply-in-Some-free_place.result
+    (ne_eqb c.args.number c.args.at.now.db c.if-number-at.false) (ap is_some (rw c.in-Some.is at c.seek-found.ensures.until).stands) c.in-Some-free_place.ensures.free c.in_ok-move_to-in-Some-free_place.ensures.world c.count_reply-in-Some-free_place.ensures

@@ -8,15 +8,15 @@ pub returns-in-None-clause-kept : goal.returns-in-None-clause-kept
 returns-in-None-clause-kept g c =
     unchanged g.B.BlockStore.blocks g.B.BlockStore.step (two_keys c.args.at.now.db c.args.from.now c.args.at.now.db c.args.to.now) c.args.keyspace.now _ c.requires.ready.sound
 
-pub returns-then-is_there-clause-kept : goal.returns-then-is_there-clause-kept
-returns-then-is_there-clause-kept g c =
+pub returns-in-None-free_place-clause-kept : goal.returns-in-None-free_place-clause-kept
+returns-in-None-free_place-clause-kept g c =
     unchanged g.B.BlockStore.blocks g.B.BlockStore.step (two_keys c.args.at.now.db c.args.from.now c.args.at.now.db c.args.to.now) c.args.keyspace.now _ c.requires.ready.sound
 
 pub returns-in-None-clause-forms : goal.returns-in-None-clause-forms
 returns-in-None-clause-forms g c = unformed g.B.BlockStore.blocks (AsAt c.args.at.now.db c.args.from.now) c.args.keyspace.now _
 
-pub returns-then-is_there-clause-forms : goal.returns-then-is_there-clause-forms
-returns-then-is_there-clause-forms g c = unformed g.B.BlockStore.blocks (AsAt c.args.at.now.db c.args.from.now) c.args.keyspace.now _
+pub returns-in-None-free_place-clause-forms : goal.returns-in-None-free_place-clause-forms
+returns-in-None-free_place-clause-forms g c = unformed g.B.BlockStore.blocks (AsAt c.args.at.now.db c.args.from.now) c.args.keyspace.now _
 
-pub returns-in_ok-rename_key-in-Some-clause-forms : goal.returns-in_ok-rename_key-in-Some-clause-forms
-returns-in_ok-rename_key-in-Some-clause-forms g c = formed_ok g.B.BlockStore.blocks (AsAt c.args.at.now.db c.args.from.now) c.args.keyspace.now c.rename_key.new.keyspace _ c.in_ok-rename_key-in-Some.ensures.forms
+pub returns-in_ok-rename_key-in-Some-free_place-clause-forms : goal.returns-in_ok-rename_key-in-Some-free_place-clause-forms
+returns-in_ok-rename_key-in-Some-free_place-clause-forms g c = formed_ok g.B.BlockStore.blocks (AsAt c.args.at.now.db c.args.from.now) c.args.keyspace.now c.rename_key.new.keyspace _ c.in_ok-rename_key-in-Some-free_place.ensures.forms

@@ -8,9 +8,10 @@ use Rattle.held.proofs.Renaming.{deadline_late, moved_writes, out_intact, out_lo
 use Rattle.held.specs.Scopes.{two_keys}
 use Rattle.held.specs.Calls.{HasValue}
 use Rattle.held.proofs.Within.{within_none, within_then}
+use Rattle.held.proofs.SoughtKeys.{kept_sought}
 use Rattle.held.proofs.Written.{written_none}
 use Rattle.held.proofs.Renaming.{placed_within, left_within, back_within}
-use Rattle.held.proofs.keyspace.Keyspace.rename.Goals as goal
+use Rattle.held.proofs.keyspace.Keyspace.rename_sought.Goals as goal
 
 pub returns-in_default-clause-answer : goal.returns-in_default-clause-answer
 returns-in_default-clause-answer g c = ap is_some (sym (look_lacks g.V.Held.refs_of g.V.Held.value_of g.met.V.Held.reads_own c.args.self.now.bases c.args.db (g.B.BlockStore.blocks c.args.self.now.store) c.requires.intact.arranged c.args.from.now (rw c.in_default.is at c.requires.seeks.lacks)))
@@ -30,8 +31,10 @@ returns-then-eq-clause-served g c = no_step
 pub place_sought-requires-clause-latest : goal.place_sought-requires-clause-latest
 place_sought-requires-clause-latest g c = deadline_late g.V.Held.refs_of g.V.Held.value_of g.met.V.Held.reads_own c.args.self.now.bases c.args.db (g.B.BlockStore.blocks c.args.self.now.store) c.requires.intact.arranged c.args.from.now c.args.found.deadline (deadline_seen g.V.Held.refs_of g.V.Held.value_of g.met.V.Held.reads_own c.args.self.now.bases c.args.db (g.B.BlockStore.blocks c.args.self.now.store) c.requires.intact.arranged c.args.from.now ∙ sym c.requires.lasts)
 
-pub seek-sought-requires-clause-arranged : goal.seek-sought-requires-clause-arranged
-seek-sought-requires-clause-arranged g c = (out_intact g.V.Held.refs_of g.V.Held.value_of g.met.V.Held.reads_own c.args.self.now.bases c.swap_value-value.new.self c.args.db (g.B.BlockStore.blocks c.args.self.now.store) c.requires.intact c.args.from.now c.in-Some.at (rw c.in-Some.is at c.requires.seeks.stands) c.args.found.deadline (deadline_seen g.V.Held.refs_of g.V.Held.value_of g.met.V.Held.reads_own c.args.self.now.bases c.args.db (g.B.BlockStore.blocks c.args.self.now.store) c.requires.intact.arranged c.args.from.now ∙ sym c.requires.lasts) c.swap_value-value.ensures.changes c.swap_value-value.result c.zero.result (ap g.V.Held.refs_of c.zero.ensures ∙ g.met.V.Held.owns_none) c.swap_value-value.ensures.swaps (c.swap_value-value.ensures.keyed (g.B.BlockStore.blocks c.args.self.now.store) (c.requires.intact.arranged.keyed c.args.db))).arranged
+pub place_sought-requires-clause-seeks : goal.place_sought-requires-clause-seeks
+place_sought-requires-clause-seeks g c =
+    kept_sought c.args.self.now.bases c.swap_value-value.new.self c.args.db c.in-Some.at c.swap_value-value.result c.zero.result
+    (g.B.BlockStore.blocks c.args.self.now.store) c.swap_value-value.ensures.changes c.swap_value-value.ensures.swaps c.args.to_db c.args.to.now c.args.place c.requires.place
 
 pub place_sought-requires-clause-intact : goal.place_sought-requires-clause-intact
 place_sought-requires-clause-intact g c =
