@@ -3,6 +3,7 @@ use Rattle.std.proofs.Common.{◌≡◌, ◌==◌, ◌||◌, ℕ, ◌*◌, ◌-�
 use Rattle.std.specs.Int.{Width, w32, w64, byte_len}
 use Rattle.std.proofs.lemmas.Bool.{ltb-true}
 use Rattle.plain_world.specs.Worlds.{Value}
+use Rattle.rdb_grammar.specs.Codes as code
 use Rattle.rdb_grammar.specs.Format.{Format, give, some_bytes, followed, Branch, Goes, Refuses, BranchSpells, pick}
 use Rattle.rdb_grammar.specs.Lengths.{a_length}
 use Rattle.rdb_grammar.specs.Strings.{string}
@@ -47,16 +48,16 @@ keyed_fits (Refuses is) x word s = absurd s
 
 behind_fits : (b : ℕ) → AllFit (item_behind b)
 behind_fits b =
-    pick_fits (b == 245 || b == 246) _ _ (λ x word s. absurd s)
-    (pick_fits (b == 247) _ _ (λ x word s. absurd s)
-    (pick_fits (b == 248) _ _ (passed_fits a_length)
-    (pick_fits (b == 249) _ _ (passed_fits (some_bytes 1))
-    (pick_fits (b == 250) _ _ (passed_fits (two string))
-    (pick_fits (b == 251) _ _ (passed_fits (two a_length))
-    (pick_fits (b == 252) _ _ (deadline_in_fits w64 1 (λ n lt. omega (arith, lt)))
-    (pick_fits (b == 253) _ _ (deadline_in_fits w32 1000 (λ n lt. omega (arith, lt)))
-    (pick_fits (b == 254) _ _ database_all
-    (pick_fits (b == 255) _ _ end_fits (keyed_fits (value_behind b)))))))))))
+    pick_fits (b == code.function || b == code.old_function) _ _ (λ x word s. absurd s)
+    (pick_fits (b == code.module_data) _ _ (λ x word s. absurd s)
+    (pick_fits (b == code.idle) _ _ (passed_fits a_length)
+    (pick_fits (b == code.frequency) _ _ (passed_fits (some_bytes 1))
+    (pick_fits (b == code.auxiliary) _ _ (passed_fits (two string))
+    (pick_fits (b == code.sizes) _ _ (passed_fits (two a_length))
+    (pick_fits (b == code.deadline_ms) _ _ (deadline_in_fits w64 1 (λ n lt. omega (arith, lt)))
+    (pick_fits (b == code.deadline) _ _ (deadline_in_fits w32 1000 (λ n lt. omega (arith, lt)))
+    (pick_fits (b == code.select_db) _ _ database_all
+    (pick_fits (b == code.eof) _ _ end_fits (keyed_fits (value_behind b)))))))))))
 
 item_fits : (x : Item) (bytes : List ℕ) (at next : ℕ) → Stands item x bytes at next → Fits x
 item_fits x bytes at next s = behind_fits s.spelled.0 x s.spelled.1 s.spelled.3

@@ -4,6 +4,7 @@ use Rattle.std.specs.Int.{Width, w8, w32, w64, byte_len}
 use Rattle.plain_world.specs.Worlds.{Value}
 use Rattle.rdb_grammar.specs.declared.fault.LoadKind.{LoadKind}
 use Rattle.rdb_grammar.specs.declared.fault.LoadKind.TheVariants as kinds
+use Rattle.rdb_grammar.specs.Codes as code
 use Rattle.rdb_grammar.specs.Format.{Format, Branch, Goes, Refuses}
 use Rattle.rdb_grammar.specs.Lengths.{number, number_le, length_behind, a_length}
 use Rattle.rdb_grammar.specs.Strings.{Head, Len, Num, head_behind, head, is_short, body, string}
@@ -45,8 +46,8 @@ string_value-exact = followed-exact _ _ string-exact λ text. give-exact _
 
 value_behind-exact : (b : ℕ) → BranchExact (value_behind b)
 value_behind-exact b =
-    pick-exact (b == 0) _ _ (goes-exact _ string_value-exact)
-    (pick-exact (is_old b) _ _ (refuses-exact kinds.OldKind) (pick-exact (b == 6 || b == 7) _ _ (refuses-exact kinds.Module) (refuses-exact kinds.Kind)))
+    pick-exact (b == code.string) _ _ (goes-exact _ string_value-exact)
+    (pick-exact (is_old b) _ _ (refuses-exact kinds.OldKind) (pick-exact (b == code.old_module || b == code.module_value) _ _ (refuses-exact kinds.Module) (refuses-exact kinds.Kind)))
 
 keyed-exact : (branch : Branch Value) → BranchExact branch → BranchExact (keyed branch)
 keyed-exact (Goes value) e = goes-exact _ (followed-exact _ _ string-exact λ name. followed-exact _ _ e.exact λ x. give-exact _)
@@ -66,9 +67,9 @@ database-exact = checked-exact _ _ _ _ a_length-exact
 
 item_behind-exact : (b : ℕ) → BranchExact (item_behind b)
 item_behind-exact b =
-    pick-exact (b == 245 || b == 246) _ _ (refuses-exact kinds.Functions)
-    (pick-exact (b == 247) _ _ (refuses-exact kinds.Module)
-    (pick-exact (b == 248) _ _ (passed-exact _ a_length-exact)
+    pick-exact (b == code.function || b == code.old_function) _ _ (refuses-exact kinds.Functions)
+    (pick-exact (b == code.module_data) _ _ (refuses-exact kinds.Module)
+    (pick-exact (b == code.idle) _ _ (passed-exact _ a_length-exact)
     (pick-exact _ _ _ (passed-exact _ (some_bytes-exact 1))
     (pick-exact _ _ _ (passed-exact _ (two-exact _ string-exact))
     (pick-exact _ _ _ (passed-exact _ (two-exact _ a_length-exact))

@@ -68,13 +68,16 @@ is_end (Key name value) = false
 
 -- a key whose deadline the moment is past is passed over
 abbrev pub with_key : ℕ → State → List ℕ → Value → World
-with_key moment state name value = if in_time moment state.deadline then put state.world name (record { value = value; deadline = state.deadline }) else state.world
+with_key moment state name value =
+    if in_time moment state.deadline then put state.world name (record { value = value; deadline = state.deadline })
+    else state.world
 
 -- what an item makes of the state
 abbrev pub after : ℕ → State → Item → State
 after moment state Passed = state
 after moment state (Deadline n) = record { world = state.world; deadline = Some n }
-after moment state (Database n) = record { world = record { bases = state.world.bases; selected = n }; deadline = state.deadline }
+after moment state (Database n) =
+    record { world = record { bases = state.world.bases; selected = n }; deadline = state.deadline }
 after moment state End = state
 after moment state (Key name value) = record { world = with_key moment state name value; deadline = None }
 
@@ -91,7 +94,9 @@ next_in state = checked kinds.DuplicateKey 1 (is_fresh state) item
 -- these items stand one behind the other between two places, none of them the end, and lead from a state to another
 unfoldable pub Items : List ℕ → ℕ → List Item → ℕ → State → ℕ → State → Type 0
 Items bytes moment [] at old to new = (to ≡ at) × (new ≡ old)
-Items bytes moment (x ∷ xs) at old to new = (next : ℕ) × Stands (next_in old) x bytes at next × (is_end x ≡ false) × Items bytes moment xs next (after moment old x) to new
+Items bytes moment (x ∷ xs) at old to new =
+    (next : ℕ) × Stands (next_in old) x bytes at next × (is_end x ≡ false)
+    × Items bytes moment xs next (after moment old x) to new
 
 -- up to this place the bytes are a header and whole items, which lead to this state
 pub record Reached (bytes : List ℕ) (moment at : ℕ) (state : State) : Type 0 where
@@ -123,13 +128,18 @@ pub record IsFile (bytes : List ℕ) (moment : ℕ) (world : World) : Type 0 whe
 -- the first faulty part: the header, an item, or the checksum field
 pub data IsFault (bytes : List ℕ) (moment : ℕ) (kind : LoadKind) (place : ℕ) : Type 0 where
   InHeader : Fails header bytes 0 kind place → IsFault bytes moment kind place
-  InItem : (at : ℕ) (state : State) → Reached bytes moment at state → Fails (next_in state) bytes at kind place → IsFault bytes moment kind place
-  InSum : (at ended : ℕ) (state : State) → Reached bytes moment at state → Stands item End bytes at ended → Fails (sum_field (take ended bytes)) bytes ended kind place → IsFault bytes moment kind place
+  InItem : (at : ℕ) (state : State) → Reached bytes moment at state → Fails (next_in state) bytes at kind place
+      → IsFault bytes moment kind place
+  InSum : (at ended : ℕ) (state : State) → Reached bytes moment at state → Stands item End bytes at ended
+      → Fails (sum_field (take ended bytes)) bytes ended kind place → IsFault bytes moment kind place
 
 -- a file of one world and one list of items, or of one first fault
 pub record ExactlyOne (bytes : List ℕ) (moment : ℕ) : Type 0 where
-  pub either : ((world : World) × IsFile bytes moment world) ⊎ ((kind : LoadKind) × (place : ℕ) × IsFault bytes moment kind place)
-  pub not_both : (world : World) (kind : LoadKind) (place : ℕ) → IsFile bytes moment world → IsFault bytes moment kind place → ⊥
+  pub either : ((world : World) × IsFile bytes moment world)
+      ⊎ ((kind : LoadKind) × (place : ℕ) × IsFault bytes moment kind place)
+  pub not_both : (world : World) (kind : LoadKind) (place : ℕ) → IsFile bytes moment world
+      → IsFault bytes moment kind place → ⊥
   pub one_world : (a b : World) → IsFile bytes moment a → IsFile bytes moment b → a ≡ b
-  pub one_list : (a b : World) (f : IsFile bytes moment a) (g : IsFile bytes moment b) → f.reached.items ≡ g.reached.items
+  pub one_list : (a b : World) (f : IsFile bytes moment a) (g : IsFile bytes moment b)
+      → f.reached.items ≡ g.reached.items
   pub one_fault : (k l : LoadKind) (m n : ℕ) → IsFault bytes moment k m → IsFault bytes moment l n → (k ≡ l) × (m ≡ n)

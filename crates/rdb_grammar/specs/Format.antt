@@ -1,4 +1,5 @@
--- A format says which bytes spell a value, which bytes have which first fault, and how both are found from left to right.
+-- A format says which bytes spell a value, which bytes have which first fault, and how both are found from left to
+-- right.
 use Rattle.std.specs.Prelude.{◌≡◌, ◌⊎◌, ℕ, suc, ◌-◌, ◌<◌, Bool, true, false, List, [], ◌∷◌, ◌++◌, length, take, drop, Result, Ok, Err, nat_lt, if◌then◌else◌}
 use Rattle.rdb_grammar.specs.declared.fault.LoadKind.{LoadKind}
 use Rattle.rdb_grammar.specs.declared.fault.LoadKind.TheVariants.{Ended}
@@ -43,8 +44,11 @@ some_bytes n = record {
 abbrev pub followed : {A B : Type 0} → Format A → (A → Format B) → Format B
 followed {A = A} one next = record {
   read = λ bytes. one.read bytes >>= λ x. (next x.0).read x.1;
-  Spells = λ y word. (x : A) × (front : List ℕ) × (back : List ℕ) × (word ≡ front ++ back) × one.Spells x front × (next x).Spells y back;
-  Faulty = λ bytes kind left. one.Faulty bytes kind left ⊎ ((x : A) × (front : List ℕ) × (back : List ℕ) × (bytes ≡ front ++ back) × one.Spells x front × (next x).Faulty back kind left);
+  Spells = λ y word. (x : A) × (front : List ℕ) × (back : List ℕ) × (word ≡ front ++ back) × one.Spells x front
+      × (next x).Spells y back;
+  Faulty = λ bytes kind left. one.Faulty bytes kind left
+      ⊎ ((x : A) × (front : List ℕ) × (back : List ℕ) × (bytes ≡ front ++ back) × one.Spells x front
+      × (next x).Faulty back kind left);
 }
 
 -- what must pass a test, else it is a fault so many bytes after its start
@@ -52,7 +56,9 @@ abbrev pub checked : {A : Type 0} → LoadKind → ℕ → (A → Bool) → Form
 checked {A = A} kind skip test one = record {
   read = λ bytes. one.read bytes >>= λ x. if test x.0 then Ok x else Err (kind, length bytes - skip);
   Spells = λ x word. one.Spells x word × (test x ≡ true);
-  Faulty = λ bytes other left. one.Faulty bytes other left ⊎ ((x : A) × (front : List ℕ) × (back : List ℕ) × (bytes ≡ front ++ back) × one.Spells x front × (test x ≡ false) × (other ≡ kind) × (left ≡ length bytes - skip));
+  Faulty = λ bytes other left. one.Faulty bytes other left
+      ⊎ ((x : A) × (front : List ℕ) × (back : List ℕ) × (bytes ≡ front ++ back) × one.Spells x front
+      × (test x ≡ false) × (other ≡ kind) × (left ≡ length bytes - skip));
 }
 
 -- how it goes on behind a first byte, or that this byte is refused
@@ -91,5 +97,6 @@ abbrev pub by_first : {A : Type 0} → (ℕ → Branch A) → Format A
 by_first by = record {
   read = first_read by;
   Spells = λ x word. (b : ℕ) × (rest : List ℕ) × (word ≡ b ∷ rest) × BranchSpells (by b) x rest;
-  Faulty = λ bytes kind left. ((bytes ≡ []) × IsEnded kind left) ⊎ ((b : ℕ) × (rest : List ℕ) × (bytes ≡ b ∷ rest) × BranchFaulty (by b) rest kind left);
+  Faulty = λ bytes kind left. ((bytes ≡ []) × IsEnded kind left)
+      ⊎ ((b : ℕ) × (rest : List ℕ) × (bytes ≡ b ∷ rest) × BranchFaulty (by b) rest kind left);
 }

@@ -1,8 +1,10 @@
--- The items of a file, by their first byte: an opcode, or the type of a value (RDB file format, "Op codes", "Key-value pairs").
+-- The items of a file, by their first byte: an opcode, or the type of a value (RDB file format, "Op codes", "Key-value
+-- pairs").
 use Rattle.std.specs.Prelude.{ℕ, ◌-◌, ◌*◌, ◌^◌, Bool, List, nat_lt, ◌==◌, ◌||◌}
 use Rattle.std.specs.Int.{Width, w32, w64, byte_len}
 use Rattle.plain_world.specs.Worlds.{Value}
 use Rattle.rdb_grammar.specs.declared.fault.LoadKind.TheVariants as kinds
+use Rattle.rdb_grammar.specs.Codes as code
 use Rattle.rdb_grammar.specs.Format.{Format, give, some_bytes, followed, checked, Branch, Goes, Refuses, pick, by_first}
 use Rattle.rdb_grammar.specs.Lengths.{number_le, a_length}
 use Rattle.rdb_grammar.specs.Strings.{string}
@@ -45,21 +47,19 @@ deadline_in w unit = followed (checked kinds.Deadline 0 (is_above w) (number_le 
 abbrev pub database : Format ℕ
 database = checked kinds.Database 0 (λ n. nat_lt n 16) a_length
 
--- 245 and 246 functions, 247 a module's data, 248 how long a key was idle, 249 how often it is used, 250 a name and what it
--- says, 251 how many keys and deadlines follow, 252 a deadline in milliseconds, 253 one in seconds, 254 a database, 255 the
--- end, else a value's type
+-- what stands behind an opcode; any other byte is a value's type
 abbrev pub item_behind : ℕ → Branch Item
 item_behind b =
-    pick (b == 245 || b == 246) (Refuses kinds.Functions)
-    (pick (b == 247) (Refuses kinds.Module)
-    (pick (b == 248) (passed a_length)
-    (pick (b == 249) (passed (some_bytes 1))
-    (pick (b == 250) (passed (two string))
-    (pick (b == 251) (passed (two a_length))
-    (pick (b == 252) (Goes (deadline_in w64 1))
-    (pick (b == 253) (Goes (deadline_in w32 1000))
-    (pick (b == 254) (Goes (followed database λ n. give (Database n)))
-    (pick (b == 255) (Goes (give End)) (keyed (value_behind b)))))))))))
+    pick (b == code.function || b == code.old_function) (Refuses kinds.Functions)
+    (pick (b == code.module_data) (Refuses kinds.Module)
+    (pick (b == code.idle) (passed a_length)
+    (pick (b == code.frequency) (passed (some_bytes 1))
+    (pick (b == code.auxiliary) (passed (two string))
+    (pick (b == code.sizes) (passed (two a_length))
+    (pick (b == code.deadline_ms) (Goes (deadline_in w64 1))
+    (pick (b == code.deadline) (Goes (deadline_in w32 1000))
+    (pick (b == code.select_db) (Goes (followed database λ n. give (Database n)))
+    (pick (b == code.eof) (Goes (give End)) (keyed (value_behind b)))))))))))
 
 abbrev pub item : Format Item
 item = by_first item_behind

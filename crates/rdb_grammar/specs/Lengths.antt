@@ -13,8 +13,8 @@ number w = followed (some_bytes (byte_len w)) λ bytes. give (from_be_bytes w by
 abbrev pub number_le : Width → Format ℕ
 number_le w = followed (some_bytes (byte_len w)) λ bytes. give (from_le_bytes w bytes)
 
--- A length by its first byte: top bits 00, its low six bits; 01, 14 bits, high bits first; 80 and 81, 32 and 64 bits that
--- follow, highest byte first. No other byte begins a length.
+-- A length by its first byte: top bits 00, its low six bits; 01, 14 bits, high bits first; 80 and 81, 32 and 64 bits
+-- that follow, highest byte first. No other byte begins a length.
 abbrev pub length_behind : LoadKind → ℕ → Branch ℕ
 length_behind refused b =
     pick (nat_lt b 64) (Goes (give b))

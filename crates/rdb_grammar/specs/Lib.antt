@@ -1,3 +1,4 @@
+pub mod Codes
 pub mod Format
 pub mod Lengths
 pub mod Strings
@@ -6,5 +7,5 @@ pub mod Items
 pub mod Places
 pub mod Files
 pub mod Views
-pub mod Gives
+pub mod Returns
 pub mod Numbers

@@ -3,6 +3,8 @@ use Rattle.std.specs.Prelude.{ℕ, Bool, true, List, nat_le, ◌==◌}
 use Rattle.std.specs.Int.{Width, w8, w16, w32, byte_len, from_le_bytes, cast_signed}
 use Rattle.std.specs.Fmt.{signed_decimal}
 use Rattle.rdb_grammar.specs.declared.fault.LoadKind.TheVariants as kinds
+use Rattle.plain_world.specs.Words.{longest}
+use Rattle.rdb_grammar.specs.Codes as code
 use Rattle.rdb_grammar.specs.Format.{Format, give, some_bytes, followed, checked, Branch, Goes, Refuses, pick, turned, by_first}
 use Rattle.rdb_grammar.specs.Lengths.{length_behind}
 
@@ -11,17 +13,17 @@ pub data Head : Type 0 where
   Len : ℕ → Head
   Num : Width → Head
 
--- C0, C1, C2: a number of 8, 16 and 32 bits; C3 compressed; else a length
+-- a form of its own, of which a compressed one is refused, else a length
 abbrev pub head_behind : ℕ → Branch Head
 head_behind b =
-    pick (b == 192) (Goes (give (Num w8)))
-    (pick (b == 193) (Goes (give (Num w16)))
-    (pick (b == 194) (Goes (give (Num w32)))
-    (pick (b == 195) (Refuses kinds.Compressed) (turned Len (length_behind kinds.SpecialString b)))))
+    pick (b == code.int8) (Goes (give (Num w8)))
+    (pick (b == code.int16) (Goes (give (Num w16)))
+    (pick (b == code.int32) (Goes (give (Num w32)))
+    (pick (b == code.lzf) (Refuses kinds.Compressed) (turned Len (length_behind kinds.SpecialString b)))))
 
--- a string has 512 MB at most
+-- a string has the greatest length at most
 abbrev pub is_short : Head → Bool
-is_short (Len n) = nat_le n 536870912
+is_short (Len n) = nat_le n longest
 is_short (Num w) = true
 
 abbrev pub head : Format Head

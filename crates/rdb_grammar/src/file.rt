@@ -3,14 +3,14 @@
 ghost use Rattle.std.specs.Prelude.{◌≡◌, ◌≤◌, ℕ, List, length, take, IfOk, IfErr};
 ghost use Rattle.rdb_grammar.specs.Places.{Stands, Fails};
 ghost use Rattle.rdb_grammar.specs.Files.{magic, is_version, version, header, sum_field, ExactlyOne};
-ghost use Rattle.rdb_grammar.specs.Gives.{Gives};
+ghost use Rattle.rdb_grammar.specs.Returns.{Returns};
 
 use crate::fault::{FileFault, LoadKind, Refused};
 use crate::lengths::{part_of, u64_le_at};
 use digests::crc;
 
 fn magic_of(bytes: &[u8]) -> Result<(&[u8], &[u8]), Refused>
-    ensures { Gives (λ x. (x.0.now, x.1.now)) result (magic.read bytes.now) }
+    ensures { Returns (λ x. (x.0.now, x.1.now)) result (magic.read bytes.now) }
 {
     match bytes {
         [] | [b'R'] | [b'R', b'E'] | [b'R', b'E', b'D'] | [b'R', b'E', b'D', b'I'] => {
@@ -35,7 +35,7 @@ fn is_taken(text: &[u8]) -> bool
 }
 
 fn version_of(bytes: &[u8]) -> Result<(&[u8], &[u8]), Refused>
-    ensures { Gives (λ x. (x.0.now, x.1.now)) result (version.read bytes.now) }
+    ensures { Returns (λ x. (x.0.now, x.1.now)) result (version.read bytes.now) }
 {
     let (front, rest) = part_of(bytes, 4)?;
     if is_taken(front) {
@@ -49,7 +49,7 @@ fn version_of(bytes: &[u8]) -> Result<(&[u8], &[u8]), Refused>
 }
 
 fn header_of(bytes: &[u8]) -> Result<(&[u8], &[u8]), Refused>
-    ensures { Gives (λ x. (x.0.now, x.1.now)) result (header.read bytes.now) }
+    ensures { Returns (λ x. (x.0.now, x.1.now)) result (header.read bytes.now) }
 {
     let (_, rest) = magic_of(bytes)?;
     version_of(rest)
@@ -70,7 +70,7 @@ pub fn check_header(bytes: &[u8]) -> Result<usize, FileFault>
 }
 
 fn sum_of<'a>(before: &[u8], bytes: &'a [u8]) -> Result<(u64, &'a [u8]), Refused>
-    ensures { Gives (λ x. (x.0, x.1.now)) result ((sum_field before.now).read bytes.now) }
+    ensures { Returns (λ x. (x.0, x.1.now)) result ((sum_field before.now).read bytes.now) }
 {
     let (sum, rest) = u64_le_at(bytes)?;
     if sum == 0 {

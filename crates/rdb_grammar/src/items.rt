@@ -5,7 +5,7 @@ ghost use Rattle.rdb_grammar.specs.Format.{Refuses, branch_read};
 ghost use Rattle.rdb_grammar.specs.Items.{key_with, item_behind as item_behind_of, item};
 ghost use Rattle.rdb_grammar.specs.Values.{string_value};
 ghost use Rattle.rdb_grammar.specs.Views.{item_of as item_seen};
-ghost use Rattle.rdb_grammar.specs.Gives.{Gives};
+ghost use Rattle.rdb_grammar.specs.Returns.{Returns};
 
 use crate::codes;
 use crate::fault::{LoadKind, Refused};
@@ -35,7 +35,7 @@ pub enum Meaning<'a> {
 
 /// A key, and a value of type 0.
 fn text_item_of(bytes: &[u8]) -> Result<(Meaning<'_>, &[u8]), Refused>
-    ensures { Gives (λ x. (item_seen x.0, x.1.now)) result ((key_with string_value).read bytes.now) }
+    ensures { Returns (λ x. (item_seen x.0, x.1.now)) result ((key_with string_value).read bytes.now) }
 {
     let (name, rest) = string_of(bytes)?;
     let (value, rest) = text_value(rest)?;
@@ -44,7 +44,7 @@ fn text_item_of(bytes: &[u8]) -> Result<(Meaning<'_>, &[u8]), Refused>
 
 // The byte before these is refused.
 fn refused(kind: LoadKind, rest: &[u8]) -> Result<(Meaning<'_>, &[u8]), Refused>
-    ensures { Gives (λ x. (item_seen x.0, x.1.now)) result (branch_read (Refuses kind) rest.now) }
+    ensures { Returns (λ x. (item_seen x.0, x.1.now)) result (branch_read (Refuses kind) rest.now) }
 {
     Err(Refused {
         kind,
@@ -53,7 +53,7 @@ fn refused(kind: LoadKind, rest: &[u8]) -> Result<(Meaning<'_>, &[u8]), Refused>
 }
 
 fn item_behind(first: u8, rest: &[u8]) -> Result<(Meaning<'_>, &[u8]), Refused>
-    ensures { Gives (λ x. (item_seen x.0, x.1.now)) result (branch_read (item_behind_of first) rest.now) }
+    ensures { Returns (λ x. (item_seen x.0, x.1.now)) result (branch_read (item_behind_of first) rest.now) }
 {
     match first {
         codes::STRING => text_item_of(rest),
@@ -79,7 +79,7 @@ fn item_behind(first: u8, rest: &[u8]) -> Result<(Meaning<'_>, &[u8]), Refused>
 
 /// The item that the bytes begin with.
 pub(crate) fn item_of(bytes: &[u8]) -> Result<(Meaning<'_>, &[u8]), Refused>
-    ensures { Gives (λ x. (item_seen x.0, x.1.now)) result (item.read bytes.now) }
+    ensures { Returns (λ x. (item_seen x.0, x.1.now)) result (item.read bytes.now) }
 {
     match bytes {
         [] => Err(Refused {

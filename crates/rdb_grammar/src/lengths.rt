@@ -4,13 +4,13 @@ ghost use Rattle.std.specs.Prelude.{◌≡◌, ℕ, List, length, IfOk};
 ghost use Rattle.std.specs.Int.{w8, w32, w64};
 ghost use Rattle.rdb_grammar.specs.Format.{some_bytes, branch_read};
 ghost use Rattle.rdb_grammar.specs.Lengths.{number, number_le, length_behind as length_behind_of, a_length};
-ghost use Rattle.rdb_grammar.specs.Gives.{Gives};
+ghost use Rattle.rdb_grammar.specs.Returns.{Returns};
 
 use crate::fault::{LoadKind, Refused};
 
 /// The first `count` bytes, and the rest.
 pub(crate) fn part_of(bytes: &[u8], count: usize) -> Result<(&[u8], &[u8]), Refused>
-    ensures part { Gives (λ x. (x.0.now, x.1.now)) result ((some_bytes count).read bytes.now) }
+    ensures part { Returns (λ x. (x.0.now, x.1.now)) result ((some_bytes count).read bytes.now) }
     ensures long { IfOk result (λ x. length x.0.now ≡ count) }
 {
     if bytes.len() < count {
@@ -23,7 +23,7 @@ pub(crate) fn part_of(bytes: &[u8], count: usize) -> Result<(&[u8], &[u8]), Refu
 }
 
 fn u8_at(bytes: &[u8]) -> Result<(u8, &[u8]), Refused>
-    ensures { Gives (λ x. (x.0, x.1.now)) result ((number w8).read bytes.now) }
+    ensures { Returns (λ x. (x.0, x.1.now)) result ((number w8).read bytes.now) }
 {
     match bytes {
         [] => Err(Refused {
@@ -35,7 +35,7 @@ fn u8_at(bytes: &[u8]) -> Result<(u8, &[u8]), Refused>
 }
 
 fn u32_at(bytes: &[u8]) -> Result<(u32, &[u8]), Refused>
-    ensures { Gives (λ x. (x.0, x.1.now)) result ((number w32).read bytes.now) }
+    ensures { Returns (λ x. (x.0, x.1.now)) result ((number w32).read bytes.now) }
 {
     let (front, rest) = part_of(bytes, 4)?;
     Ok((
@@ -45,7 +45,7 @@ fn u32_at(bytes: &[u8]) -> Result<(u32, &[u8]), Refused>
 }
 
 fn u64_at(bytes: &[u8]) -> Result<(u64, &[u8]), Refused>
-    ensures { Gives (λ x. (x.0, x.1.now)) result ((number w64).read bytes.now) }
+    ensures { Returns (λ x. (x.0, x.1.now)) result ((number w64).read bytes.now) }
 {
     let (front, rest) = part_of(bytes, 8)?;
     let number = u64::from_be_bytes([
@@ -55,7 +55,7 @@ fn u64_at(bytes: &[u8]) -> Result<(u64, &[u8]), Refused>
 }
 
 pub(crate) fn u32_le_at(bytes: &[u8]) -> Result<(u32, &[u8]), Refused>
-    ensures { Gives (λ x. (x.0, x.1.now)) result ((number_le w32).read bytes.now) }
+    ensures { Returns (λ x. (x.0, x.1.now)) result ((number_le w32).read bytes.now) }
 {
     let (front, rest) = part_of(bytes, 4)?;
     Ok((
@@ -65,7 +65,7 @@ pub(crate) fn u32_le_at(bytes: &[u8]) -> Result<(u32, &[u8]), Refused>
 }
 
 pub(crate) fn u64_le_at(bytes: &[u8]) -> Result<(u64, &[u8]), Refused>
-    ensures { Gives (λ x. (x.0, x.1.now)) result ((number_le w64).read bytes.now) }
+    ensures { Returns (λ x. (x.0, x.1.now)) result ((number_le w64).read bytes.now) }
 {
     let (front, rest) = part_of(bytes, 8)?;
     let number = u64::from_le_bytes([
@@ -80,7 +80,7 @@ pub(crate) fn length_behind(
     first: u8,
     rest: &[u8],
 ) -> Result<(u64, &[u8]), Refused>
-    ensures { Gives (λ x. (x.0, x.1.now)) result (branch_read (length_behind_of refused first) rest.now) }
+    ensures { Returns (λ x. (x.0, x.1.now)) result (branch_read (length_behind_of refused first) rest.now) }
 {
     if first < 64 {
         return Ok((first as u64, rest));
@@ -104,7 +104,7 @@ pub(crate) fn length_behind(
 
 /// A length.
 pub(crate) fn length_of(bytes: &[u8]) -> Result<(u64, &[u8]), Refused>
-    ensures { Gives (λ x. (x.0, x.1.now)) result (a_length.read bytes.now) }
+    ensures { Returns (λ x. (x.0, x.1.now)) result (a_length.read bytes.now) }
 {
     match bytes {
         [] => Err(Refused {

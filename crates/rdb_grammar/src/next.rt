@@ -4,7 +4,7 @@ ghost use Rattle.std.specs.Prelude.{◌≡◌, ◌≤◌, ℕ, List, length, IfO
 ghost use Rattle.rdb_grammar.specs.Items.{item};
 ghost use Rattle.rdb_grammar.specs.Places.{Stands, Fails};
 ghost use Rattle.rdb_grammar.specs.Views.{item_of as item_seen};
-ghost use Rattle.rdb_grammar.specs.Gives.{IsItemAt, SaysFault};
+ghost use Rattle.rdb_grammar.specs.Returns.{IsItemAt, SaysFault};
 
 use crate::fault::{FileFault, ItemFault};
 use crate::file::check_sum;

@@ -4,15 +4,13 @@ ghost use Rattle.std.specs.Prelude.{◌≡◌, ◌↔◌, ◌++◌, ℕ, List, O
 ghost use Rattle.rdb_grammar.specs.Format.{branch_read};
 ghost use Rattle.rdb_grammar.specs.Strings.{head_behind as head_behind_of, head, short_head, body, string};
 ghost use Rattle.rdb_grammar.specs.Views.{text_of, head_of as head_seen};
-ghost use Rattle.rdb_grammar.specs.Gives.{Gives};
+ghost use Rattle.rdb_grammar.specs.Returns.{Returns};
 
 use crate::fault::{LoadKind, Refused};
 use crate::lengths::{length_behind, part_of};
 use crate::{Memory, codes};
 use itoa::Buffer;
-
-/// The longest string in bytes.
-const LONGEST: u64 = 536_870_912;
+use plain_world::LONGEST;
 
 /// A string of a file: a part of its bytes, or a number that means its decimal text.
 #[derive(Clone, Copy, Debug)]
@@ -56,7 +54,7 @@ pub(crate) enum Head {
 }
 
 fn head_behind(first: u8, rest: &[u8]) -> Result<(Head, &[u8]), Refused>
-    ensures { Gives (λ x. (head_seen x.0, x.1.now)) result (branch_read (head_behind_of first) rest.now) }
+    ensures { Returns (λ x. (head_seen x.0, x.1.now)) result (branch_read (head_behind_of first) rest.now) }
 {
     if first == codes::INT8 {
         return Ok((Head::Int8, rest));
@@ -78,7 +76,7 @@ fn head_behind(first: u8, rest: &[u8]) -> Result<(Head, &[u8]), Refused>
 }
 
 fn head_of(bytes: &[u8]) -> Result<(Head, &[u8]), Refused>
-    ensures { Gives (λ x. (head_seen x.0, x.1.now)) result (head.read bytes.now) }
+    ensures { Returns (λ x. (head_seen x.0, x.1.now)) result (head.read bytes.now) }
 {
     match bytes {
         [] => Err(Refused {
@@ -90,11 +88,11 @@ fn head_of(bytes: &[u8]) -> Result<(Head, &[u8]), Refused>
 }
 
 fn short_head_of(bytes: &[u8]) -> Result<(Head, &[u8]), Refused>
-    ensures { Gives (λ x. (head_seen x.0, x.1.now)) result (short_head.read bytes.now) }
+    ensures { Returns (λ x. (head_seen x.0, x.1.now)) result (short_head.read bytes.now) }
 {
     let (head, rest) = head_of(bytes)?;
     if let Head::Len(n) = head {
-        if n > LONGEST {
+        if n > LONGEST as u64 {
             return Err(Refused {
                 kind: LoadKind::TooLong,
                 left: bytes.len(),
@@ -105,7 +103,7 @@ fn short_head_of(bytes: &[u8]) -> Result<(Head, &[u8]), Refused>
 }
 
 fn body_of(head: Head, bytes: &[u8]) -> Result<(Chunk<'_>, &[u8]), Refused>
-    ensures { Gives (λ x. (text_of x.0, x.1.now)) result ((body (head_seen head)).read bytes.now) }
+    ensures { Returns (λ x. (text_of x.0, x.1.now)) result ((body (head_seen head)).read bytes.now) }
 {
     match head {
         Head::Len(n) => {
@@ -139,7 +137,7 @@ fn body_of(head: Head, bytes: &[u8]) -> Result<(Chunk<'_>, &[u8]), Refused>
 
 /// A string, in any of its forms.
 pub(crate) fn string_of(bytes: &[u8]) -> Result<(Chunk<'_>, &[u8]), Refused>
-    ensures { Gives (λ x. (text_of x.0, x.1.now)) result (string.read bytes.now) }
+    ensures { Returns (λ x. (text_of x.0, x.1.now)) result (string.read bytes.now) }
 {
     let (head, rest) = short_head_of(bytes)?;
     body_of(head, rest)

@@ -14,8 +14,8 @@ use Rattle.rdb_grammar.proofs.Loading.{begins, begins_items, goes_on, goes_on_it
 use Rattle.rdb_grammar.proofs.Fitting.{deadline_fits, database_fits}
 use Rattle.rdb_grammar.specs.declared.fault.ItemFault.{ItemFault}
 use Rattle.rdb_grammar.specs.declared.fault.ItemFault.TheVariants as faults
-use Rattle.rdb_grammar.specs.Gives.{SaysFault}
-use Rattle.rdb_grammar.specs.Gives.IsItemFault.{OfItem, OfSum}
+use Rattle.rdb_grammar.specs.Returns.{SaysFault}
+use Rattle.rdb_grammar.specs.Returns.IsItemFault.{OfItem, OfSum}
 use Rattle.rdb_reader.specs.declared.items.Progress.{Progress}
 use Rattle.rdb_reader.specs.declared.keys.Put.TheVariants as puts
 use Rattle.rdb_reader.specs.Loads.{keys_below, keys_of, keys_among, Puts, state_at, Holds, IsRead, ReadsItem, load_fault}

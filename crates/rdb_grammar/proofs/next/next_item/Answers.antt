@@ -1,4 +1,4 @@
-use Rattle.rdb_grammar.specs.Gives.{OfSum}
+use Rattle.rdb_grammar.specs.Returns.{OfSum}
 use Rattle.rdb_grammar.proofs.next.next_item.Goals as goal
 
 pub returns-in-Err-check_sum-clause-fault : goal.returns-in-Err-check_sum-clause-fault

@@ -10,19 +10,21 @@ use Rattle.rdb_grammar.specs.Places.{Stands, Fails}
 use Rattle.rdb_grammar.specs.Files.{sum_field}
 
 -- what was returned, seen by a view
-abbrev pub Gives : {X Y : Type 0} → (X → Y) → Result X Refused → Result Y Fault → Type 0
-Gives view (Ok x) read = read ≡ Ok (view x)
-Gives view (Err e) read = read ≡ Err (e.kind, e.left)
+abbrev pub Returns : {X Y : Type 0} → (X → Y) → Result X Refused → Result Y Fault → Type 0
+Returns view (Ok x) read = read ≡ Ok (view x)
+Returns view (Err e) read = read ≡ Err (e.kind, e.left)
 
 -- the item stands at a place, up to the next one; the end stands there with its checksum field
 abbrev pub IsItemAt : List ℕ → ℕ → ℕ → Item → Type 0
-IsItemAt bytes at next End = (ended sum : ℕ) × Stands item End bytes at ended × Stands (sum_field (take ended bytes)) sum bytes ended next
+IsItemAt bytes at next End =
+    (ended sum : ℕ) × Stands item End bytes at ended × Stands (sum_field (take ended bytes)) sum bytes ended next
 IsItemAt bytes at next x = Stands item x bytes at next
 
 -- an item is due at a place and has this first fault, or its checksum field has it
 pub data IsItemFault (bytes : List ℕ) (at : ℕ) (kind : LoadKind) (place : ℕ) : Type 0 where
   OfItem : Fails item bytes at kind place → IsItemFault bytes at kind place
-  OfSum : (ended : ℕ) → Stands item End bytes at ended → Fails (sum_field (take ended bytes)) bytes ended kind place → IsItemFault bytes at kind place
+  OfSum : (ended : ℕ) → Stands item End bytes at ended → Fails (sum_field (take ended bytes)) bytes ended kind place
+      → IsItemFault bytes at kind place
 
 -- what a fault that is answered says of the item at a place
 abbrev pub SaysFault : List ℕ → ℕ → ItemFault → Type 0
