@@ -22,7 +22,7 @@ use Rattle.held.specs.Relocation.{is_before, is_passed, PassesElement, Relocates
 use Rattle.held.proofs.Rehashing.{preserves_none}
 use Rattle.plain_world.specs.Worlds.{Value}
 use Rattle.defrag.specs.declared.walk.Walk.{Walk}
-use Rattle.defrag.specs.Swept.{IsBefore, HasPassed, IsSwept, of_database, of_item, of_mark}
+use Rattle.defrag.specs.Swept.{ComesBefore, HasPassed, IsSwept, of_database, of_item, of_mark}
 use Rattle.defrag.specs.Ways.{Shapes, shape_of, shape, SameShapes, behind, next_database, Leg, Way, IsOn, IsForward, vacant, ended, inside, here, further}
 
 some_same : {A : Type 0} (o : Option A) (x y : A) → o ≡ Some x → o ≡ Some y → x ≡ y
@@ -97,8 +97,8 @@ module _ {V : Type 0} (refs_of : V → List BlockRef) (marks : V → List ℕ) w
       was_calm : (r : BlockRef) → HasPassed refs_of marks old walk r → wants later r ≡ false
       was_calm r h = calmer.calm r (s.calm r h)
 
-      before_calm : (r : BlockRef) (b : ℕ) → walk.mark ≡ Some b → IsBefore refs_of marks p.was (Some b) r → wants later r ≡ false
-      before_calm r b is h = was_calm r (of_mark p.was p.replaces.found (subst (λ o. IsBefore refs_of marks p.was o r) (sym is) h))
+      before_calm : (r : BlockRef) (b : ℕ) → walk.mark ≡ Some b → ComesBefore refs_of marks p.was (Some b) r → wants later r ≡ false
+      before_calm r b is h = was_calm r (of_mark p.was p.replaces.found (subst (λ o. ComesBefore refs_of marks p.was o r) (sym is) h))
 
       name_calm : (r : BlockRef) → r ≡ p.now.key → wants later r ≡ false
       name_calm r is = by_mark walk.mark refl

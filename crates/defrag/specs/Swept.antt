@@ -18,9 +18,9 @@ pub record IsBelow (refs : List BlockRef) (marks : List ℕ) (bound : ℕ) (r : 
 
 module _ {V : Type 0} (refs_of : V → List BlockRef) (marks : V → List ℕ) where
   -- the reference names a block of the element before this place inside it: its key's comes before all of its value
-  abbrev pub IsBefore : Element V → Option ℕ → BlockRef → Type 0
-  IsBefore e None r = ⊥
-  IsBefore e (Some bound) r = (r ≡ e.key) ⊎ IsBelow (refs_of e.value) (marks e.value) bound r
+  abbrev pub ComesBefore : Element V → Option ℕ → BlockRef → Type 0
+  ComesBefore e None r = ⊥
+  ComesBefore e (Some bound) r = (r ≡ e.key) ⊎ IsBelow (refs_of e.value) (marks e.value) bound r
 
   -- The walk has passed the block: one of a key of a lower database, one of a key of a lower item number in its own, or
   -- one of its item's that comes before its mark.
@@ -29,7 +29,7 @@ module _ {V : Type 0} (refs_of : V → List BlockRef) (marks : V → List ℕ) w
         → IsIn r (e.key ∷ refs_of e.value) → HasPassed bases walk r
     of_item : (at : ℕ) (e : Element V) → at < walk.item → item (table_at bases walk.database) at ≡ Some e
         → IsIn r (e.key ∷ refs_of e.value) → HasPassed bases walk r
-    of_mark : (e : Element V) → item (table_at bases walk.database) walk.item ≡ Some e → IsBefore e walk.mark r
+    of_mark : (e : Element V) → item (table_at bases walk.database) walk.item ≡ Some e → ComesBefore e walk.mark r
         → HasPassed bases walk r
 
   -- a pass is open, as many slabs are kept in each class as are needed, and no block that was passed wants to move
