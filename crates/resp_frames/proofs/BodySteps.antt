@@ -21,17 +21,17 @@ use Rattle.resp_frames.proofs.Giving.{all_append}
 use Rattle.resp_frames.proofs.Parts.{within_one}
 
 -- so many words are whole, the last of which ends there
-record Longer (bytes : List ℕ) (read end words : ℕ) (spans : List Span) : Type 0 where
-  within : end ≤ length bytes
-  further : read < end
-  few : words ≤ 1048576
-  at_most : length spans ≤ words
-  some : 0 < length spans
-  inside : AreWithin bytes spans
-  each : AllByRecursion IsWord (words_at bytes spans)
-  whole : bytes ≡ header 42 (decimal words) ++ (flat_map bulk (words_at bytes spans) ++ drop end bytes)
+pub record Longer (bytes : List ℕ) (read end words : ℕ) (spans : List Span) : Type 0 where
+  pub within : end ≤ length bytes
+  pub further : read < end
+  pub few : words ≤ 1048576
+  pub at_most : length spans ≤ words
+  pub some : 0 < length spans
+  pub inside : AreWithin bytes spans
+  pub each : AllByRecursion IsWord (words_at bytes spans)
+  pub whole : bytes ≡ header 42 (decimal words) ++ (flat_map bulk (words_at bytes spans) ++ drop end bytes)
 
-longer : (bytes : List ℕ) (read words len : ℕ) (spans : List Span) → StandsAtBody bytes read words len spans → IsWholeBody (drop read bytes) len → Longer bytes read (read + len + 2) words (spans ++ record { start = read; len = len } ∷ [])
+pub longer : (bytes : List ℕ) (read words len : ℕ) (spans : List Span) → StandsAtBody bytes read words len spans → IsWholeBody (drop read bytes) len → Longer bytes read (read + len + 2) words (spans ++ record { start = read; len = len } ∷ [])
 longer bytes read words len spans s w =
     let one : Span = record { start = read; len = len } in
     let rest = drop read bytes in
@@ -65,7 +65,7 @@ longer bytes read words len spans s w =
           ∙ ap (λ l. head ++ (l ++ drop end bytes)) (sym spelled) ∙ ap (λ l. head ++ (flat_map bulk l ++ drop end bytes)) (sym are);
     }
 
-all_words : (bytes : List ℕ) (read end words : ℕ) (spans : List Span) → Longer bytes read end words spans → length spans ≡ words → IsRequestAt bytes end spans
+pub all_words : (bytes : List ℕ) (read end words : ℕ) (spans : List Span) → Longer bytes read end words spans → length spans ≡ words → IsRequestAt bytes end spans
 all_words bytes read end words spans h is =
     let ws = words_at bytes spans in
     let many : length ws ≡ length spans = length-map spans (word_at bytes) in
@@ -85,7 +85,7 @@ all_words bytes read end words spans h is =
       whole = h.whole ∙ ap (λ k. header 42 (decimal k) ++ (flat_map bulk ws ++ drop end bytes)) count ∙ sym (append_assoc (header 42 (decimal (length ws))) (flat_map bulk ws) (drop end bytes));
     }
 
-more_words : (bytes : List ℕ) (read end words : ℕ) (spans : List Span) → Longer bytes read end words spans → (length spans ≡ words → ⊥) → GoesOn bytes read (record { read = end; due = due.Length words 0 }) spans
+pub more_words : (bytes : List ℕ) (read end words : ℕ) (spans : List Span) → Longer bytes read end words spans → (length spans ≡ words → ⊥) → GoesOn bytes read (record { read = end; due = due.Length words 0 }) spans
 more_words bytes read end words spans h not =
     let many : length (words_at bytes spans) ≡ length spans = length-map spans (word_at bytes) in
     let at_most : length spans ≤ words = h.at_most in

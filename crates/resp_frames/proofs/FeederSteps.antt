@@ -1,16 +1,19 @@
 -- What a feeder gives out.
-use Rattle.std.proofs.Common.{◌≡◌, ℕ, ◌+◌, ◌-◌, ◌≤◌, List, [], ◌∷◌, true, false, Bool, None, length, drop, take, length-drop, arith, sym, ap, subst, ◌∙◌, refl, inl, inr, ◌⊎◌}
+use Rattle.std.proofs.Common.{◌≡◌, ℕ, ◌+◌, ◌-◌, ◌<◌, ◌≤◌, List, [], ◌∷◌, true, false, Bool, Option, None, Result, Ok, Err, length, drop, take, length-drop, arith, sym, ap, subst, ◌∙◌, refl, inl, inr, ◌⊎◌}
 use Rattle.std.proofs.lemmas.List.{drop-drop, take_rest}
 use Rattle.resp_frames.specs.Reading.{read_item, Open}
 use Rattle.resp_frames.specs.Ends.{IsCut}
 use Rattle.resp_frames.specs.Faults.{RequestFault}
-use Rattle.resp_frames.specs.Feeding.{Feeding, feeding, current_words, Gives, GivesOut, GivesNone, GivesFault, NextFound}
-use Rattle.resp_frames.specs.RequestRead.{words_at, IsPassedAt}
+use Rattle.plain_world.specs.Words.{Words}
+use Rattle.resp_frames.specs.Feeding.{Feeding, feeding, current_words, Gives, GivesOut, GivesNone, GivesFault, NextIs, NextFound}
+use Rattle.resp_frames.specs.declared.feeder.FrameFault.{FrameFault}
+use Rattle.resp_frames.specs.declared.feeder.FrameFault.TheVariants as faults
+use Rattle.resp_frames.specs.RequestRead.{words_at, IsPassedAt, IsRequestAt}
 use Rattle.resp_frames.specs.declared.feeder.Next.{Next}
 use Rattle.resp_frames.specs.declared.feeder.Next.TheVariants as next
 use Rattle.resp_frames.specs.declared.span.Span.{Span}
 use Rattle.resp_frames.specs.declared.request.Progress.{Progress}
-use Rattle.resp_frames.proofs.Giving.{gives_append, gives_request, gives_passed}
+use Rattle.resp_frames.proofs.Giving.{gives_append, gives_none, gives_request, gives_passed, gives_fewer}
 use Rattle.resp_frames.proofs.Items.{cut_from_open}
 
 pub record Further (bytes : List ℕ) (at : ℕ) (spans : List Span) : Type 0 where
@@ -103,3 +106,32 @@ module _ (old : Feeding) (gone at passed : ℕ) (bytes lent : List ℕ) (spans :
         current = none_lent bytes base spans' ready not;
         fed = fed_none m.within;
       }
+
+  -- a request that is read at once
+  pub request_ahead : (end : ℕ) → passed ≡ 0 → IsRequestAt (take (length lent - at) (drop at lent)) end spans → GivesOut old (feeding gone bytes at (at + end) spans true)
+  request_ahead end none h =
+      let all = take (length lent - at) (drop at lent) in
+      let P : ℕ → Type 0 = λ n. NextFound all spans n (next.Request end) in
+      let found : NextFound all spans 0 (next.Request end) = record { gives = gives_none all; within = omega arith; reads = h } in
+      let Q : ℕ → Type 0 = λ n. GivesOut old (feeding gone bytes n (n + end) spans true) in
+      let here : at + passed ≡ at = omega arith in
+      subst Q here (request_out end (subst P (sym none) found))
+
+-- what is answered doesn't rest on what was lent before
+as_before : (lent : Option Words) (old new : Feeding) (r : Result Bool FrameFault) → NextIs (record { gone = old.gone; kept = old.kept; current = lent }) r new → NextIs old r new
+as_before lent old new (Ok true) h = record { words = h.words; gives = h.gives; current = h.current; fed = h.fed }
+as_before lent old new (Ok false) h = record { gives = h.gives; rest = h.rest; current = h.current; fed = h.fed }
+as_before lent old new (Err (faults.Protocol rule at)) h = record { gives = h.gives; from = h.from; fault = h.fault; place = h.place; current = h.current; fed = h.fed }
+as_before lent old new (Err faults.Memory) h = h
+
+pub next_as_before : (gone : ℕ) (kept : List ℕ) (lent : Option Words) (old new : Feeding) (r : Result Bool FrameFault) → gone ≡ old.gone → kept ≡ old.kept → NextIs (record { gone = gone; kept = kept; current = lent }) r new → NextIs old r new
+next_as_before gone kept lent old new r same_gone same_kept h =
+    let P : ℕ → Type 0 = λ g. NextIs (record { gone = g; kept = kept; current = lent }) r new in
+    let Q : List ℕ → Type 0 = λ k. NextIs (record { gone = old.gone; kept = k; current = lent }) r new in
+    as_before lent old new r (subst Q same_kept (subst P same_gone h))
+
+pub fewer_left : (old new : Feeding) (r : Result Bool FrameFault) → NextIs old r new → r ≡ Ok true → length new.kept < length old.kept
+fewer_left old new r h is =
+    let P : Result Bool FrameFault → Type 0 = λ x. NextIs old x new in
+    let g : GivesOut old new = subst P is h in
+    gives_fewer old.kept new.kept g.words g.gives

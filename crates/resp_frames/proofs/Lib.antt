@@ -12,6 +12,7 @@ pub mod HeaderSteps
 pub mod RequestSteps
 pub mod LineSteps
 pub mod BodySteps
+pub mod Wholes
 pub mod Putting
 pub mod Giving
 pub mod Feeds

@@ -10,3 +10,4 @@ pub mod HeaderRead
 pub mod NumberRead
 pub mod LineRead
 pub mod RequestRead
+pub mod WholeRead

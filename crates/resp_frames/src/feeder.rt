@@ -7,7 +7,7 @@ ghost use Rattle.resp_frames.specs.RequestRead.{word_at, words_at, AreWithin, St
 
 use crate::request::{Found, Progress, read_request};
 use crate::span::{Span, Spans};
-use smallvec::SmallVec;
+use crate::whole::{Ahead, read_ahead};
 use std::alloc::{AllocError, Global};
 use std::marker::Model;
 use thiserror::Error;
@@ -82,7 +82,9 @@ fn drop_front(bytes: &mut Vec<u8>, n: usize)
     requires { n ≤ vec_len bytes.old }
     ensures { bytes.new.items ≡ drop n bytes.old.items }
 {
-    drop(bytes.drain(..n));
+    let rest = bytes.len() - n;
+    bytes.copy_within(n.., 0);
+    bytes.truncate(rest);
 }
 
 /// What stands at the front of the bytes, after what is passed over.
@@ -157,7 +159,7 @@ impl Feeder {
             bytes: Vec::new(alloc),
             base: 0,
             at: 0,
-            spans: SmallVec::new(alloc),
+            spans: Vec::new(alloc),
             progress: Progress::start(),
             is_ready: false,
         }
@@ -206,6 +208,31 @@ impl Feeder {
         ensures fewer { result ≡ Ok true → length self.new.kept < length self.old.kept }
     {
         self.forget();
+        match read_ahead(&self.bytes[self.at..], self.progress, &mut self.spans) {
+            Err(_) => {
+                self.spans.clear();
+                self.progress = Progress::start();
+                Err(FrameFault::Memory)
+            }
+            Ok(Ahead::Request(end)) => {
+                self.base = self.at;
+                self.at += end;
+                self.is_ready = true;
+                Ok(true)
+            }
+            Ok(Ahead::Rest(progress)) => {
+                self.progress = progress;
+                self.next_by_steps()
+            }
+        }
+    }
+
+    // The same, where no request is given out.
+    #[inline(never)]
+    fn next_by_steps(&mut self) -> Result<bool, FrameFault>
+        requires { self.old.current ≡ None }
+        ensures { NextIs self.old result self.new }
+    {
         match next_found(&self.bytes[self.at..], self.progress, &mut self.spans) {
             Err(_) => {
                 self.spans.clear();

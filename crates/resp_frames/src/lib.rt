@@ -12,6 +12,7 @@ mod span;
 mod spelling;
 #[cfg(test)]
 mod tests;
+mod whole;
 
 pub use fault_lines::put_fault;
 pub use feeder::{Feeder, FrameFault, Request};

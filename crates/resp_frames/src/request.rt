@@ -150,8 +150,8 @@ pub enum Body {
     Broken(usize),
 }
 
-// Looks for the word and its CR LF.
-fn read_body(bytes: &[u8], len: usize) -> Body
+/// Looks for the word and its CR LF.
+pub fn read_body(bytes: &[u8], len: usize) -> Body
     requires { len ≤ 536870912 }
     ensures { ReadsBody bytes.now len result }
 {

@@ -1,7 +1,5 @@
 //! Where words stand.
 
-use smallvec::SmallVec;
-
 /// Where a word stands in the bytes of its request.
 #[derive(Clone, Copy, Default)]
 pub struct Span {
@@ -9,5 +7,5 @@ pub struct Span {
     pub len: usize,
 }
 
-/// The words of a request, of which most have a few.
-pub type Spans = SmallVec<Span, 8>;
+/// The words of a request.
+pub type Spans = Vec<Span>;

@@ -1,9 +1,10 @@
 //! Replies into bytes.
 
-ghost use Rattle.std.specs.Prelude.{◌≡◌, ◌≤◌, ◌∷◌, ◌++◌, ℕ, List, OnErr};
+ghost use Rattle.std.specs.Prelude.{◌≡◌, ◌≤◌, ◌∷◌, ◌++◌, ℕ, List, OnErr, decimal};
 ghost use Rattle.outside.specs.Counts.{Rose};
 ghost use Rattle.plain_world.specs.Refusals.{refusal_text};
 ghost use Rattle.plain_world.specs.Spelling.{line_end, part_bytes, spelling};
+ghost use Rattle.resp_frames.specs.Frames.{header};
 ghost use Rattle.resp_frames.specs.Puts.{Puts};
 
 use itoa::Buffer;
@@ -71,12 +72,28 @@ fn put_line<O: Sink>(sink: &mut O, mark: &[u8], text: &[u8]) -> Result<(), Write
     }
 }
 
+// Puts a mark, a number, CR LF. The lengths of most strings are below 100, and need no buffer.
+fn put_header<O: Sink>(sink: &mut O, mark: u8, n: u64) -> Result<(), WriteFault>
+    ensures { Puts (O.seen sink.old) (O.seen sink.new) (header mark (decimal n)) result }
+{
+    if n < 10 {
+        let ones = b'0' + n as u8;
+        return put_all(sink, &[mark, ones, b'\r', b'\n']);
+    }
+    if n < 100 {
+        let tens = b'0' + (n / 10) as u8;
+        let ones = b'0' + (n % 10) as u8;
+        return put_all(sink, &[mark, tens, ones, b'\r', b'\n']);
+    }
+    let mut buffer = Buffer::new();
+    put_line(sink, &[mark], buffer.format(n).as_bytes())
+}
+
 // Puts a bulk string.
 fn put_bulk<O: Sink>(sink: &mut O, bytes: &[u8]) -> Result<(), WriteFault>
     ensures { Puts (O.seen sink.old) (O.seen sink.new) (part_bytes (Part.Bulk bytes.now)) result }
 {
-    let mut buffer = Buffer::new();
-    match put_line(sink, b"$", buffer.format(bytes.len()).as_bytes()) {
+    match put_header(sink, b'$', bytes.len() as u64) {
         Ok(()) => put_two(sink, bytes, b"\r\n"),
         Err(fault) => Err(fault),
     }
@@ -97,10 +114,7 @@ pub fn put_part<O: Sink>(sink: &mut O, part: &Part) -> Result<(), WriteFault>
         Part::Bulk(bytes) => put_bulk(sink, bytes.as_slice()),
         Part::Null => put_all(sink, b"$-1\r\n"),
         Part::NullArray => put_all(sink, b"*-1\r\n"),
-        Part::Array(n) => {
-            let mut buffer = Buffer::new();
-            put_line(sink, b"*", buffer.format(*n).as_bytes())
-        }
+        Part::Array(n) => put_header(sink, b'*', *n),
     }
 }
 

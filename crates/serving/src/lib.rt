@@ -6,6 +6,7 @@ mod ending;
 mod pending;
 mod pieces;
 mod server;
+mod short;
 #[cfg(test)]
 mod tests;
 mod writing;

@@ -1,6 +1,6 @@
 //! Replies that are gathered before they are put.
 
-ghost use Rattle.std.specs.Prelude.{◌≡◌, ◌≤◌, ◌-◌, [], vec_len, take, Some, OnOk, IfOk};
+ghost use Rattle.std.specs.Prelude.{◌≡◌, ◌≤◌, ◌+◌, ◌-◌, ◌++◌, [], length, vec_len, take, Some, OnOk, IfOk};
 ghost use Rattle.resp_frames.specs.Puts.{Puts};
 
 use outside::{Sink, WriteFault};
@@ -40,6 +40,20 @@ impl Pending {
     {
         self.len = n;
     }
+
+    /// Lets a piece that has room be pending behind the others.
+    #[inline(always)]
+    pub fn append(&mut self, piece: &[u8])
+        requires { self.old.len + length piece.now ≤ vec_len self.old.room }
+        ensures bytes { take self.new.len self.new.room.items ≡ take self.old.len self.old.room.items ++ piece.now }
+        ensures len { self.new.len ≡ self.old.len + length piece.now }
+        ensures room { vec_len self.new.room ≡ vec_len self.old.room }
+        ensures faults { self.new.faults ≡ self.old.faults }
+    {
+        let end = self.len + piece.len();
+        self.room[self.len..end].copy_from_slice(piece);
+        self.len = end;
+    }
 }
 
 impl Sink for Pending {
@@ -50,9 +64,7 @@ impl Sink for Pending {
             self.faults = self.faults.saturating_add(1);
             return Err(WriteFault);
         }
-        let end = self.len + piece.len();
-        self.room[self.len..end].copy_from_slice(piece);
-        self.len = end;
+        self.append(piece);
         Ok(piece.len())
     }
 }

@@ -5,6 +5,7 @@ ghost use Rattle.plain_world.specs.Spelling.{part_bytes, spelling};
 ghost use Rattle.serving.specs.Output.{pending_bytes, Gathers, Writes};
 
 use crate::pending::{CAPACITY, Pending, flush};
+use crate::short::gather_short;
 use outside::{Sink, WriteFault};
 use plain_world::{Part, Reply};
 use resp_frames::put_part;
@@ -35,7 +36,8 @@ fn gather(part: &Part, pending: &mut Pending) -> bool
 }
 
 // Writes a part of a reply behind what is pending, or lets it be pending too.
-fn write_part<O: Sink>(part: &Part, pending: &mut Pending, output: &mut O) -> Result<(), WriteFault>
+#[inline(never)]
+fn write_any<O: Sink>(part: &Part, pending: &mut Pending, output: &mut O) -> Result<(), WriteFault>
     ensures { Writes (O.seen output.old) (O.seen output.new) (pending_bytes pending.old) (pending_bytes pending.new) (part_bytes part.now) result }
 {
     if gather(part, pending) {
@@ -49,6 +51,16 @@ fn write_part<O: Sink>(part: &Part, pending: &mut Pending, output: &mut O) -> Re
         return Ok(());
     }
     put_part(output, part)
+}
+
+// The same, at once where the part is a short string that fits.
+fn write_part<O: Sink>(part: &Part, pending: &mut Pending, output: &mut O) -> Result<(), WriteFault>
+    ensures { Writes (O.seen output.old) (O.seen output.new) (pending_bytes pending.old) (pending_bytes pending.new) (part_bytes part.now) result }
+{
+    if gather_short(part, pending) {
+        return Ok(());
+    }
+    write_any(part, pending, output)
 }
 
 /// Writes a reply behind what is pending, or lets its end be pending too. It takes no memory.

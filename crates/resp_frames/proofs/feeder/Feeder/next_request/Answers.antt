@@ -1,24 +1,24 @@
-use Rattle.std.proofs.Common.{ap, ◌∙◌}
-use Rattle.resp_frames.proofs.FeederSteps.{request_out, none_out, fault_out, lends_none}
+use Rattle.std.proofs.Common.{◌+◌, drop, ap, refl, ◌∙◌}
+use Rattle.resp_frames.specs.Feeding.{current_words}
+use Rattle.resp_frames.proofs.FeederSteps.{request_ahead, next_as_before, fewer_left}
 use Rattle.resp_frames.proofs.feeder.Feeder.next_request.Goals as goal
 
-pub returns-in-Request-clause-next : goal.returns-in-Request-clause-next
-returns-in-Request-clause-next c =
+pub returns-in-Ok-Request-clause-next : goal.returns-in-Ok-Request-clause-next
+returns-in-Ok-Request-clause-next c =
     let s = c.self.inside in
-    request_out c.args.self.now s.gone s.at c.in-Ok.passed s.bytes.items c.deref.result.now c.next_found.new.spans.items
-    (ap (λ f. f.gone) (c.self.view_is ∙ c.forget.ensures)) (ap (λ f. f.kept) (c.self.view_is ∙ c.forget.ensures)) c.deref.ensures.value c.self.invariant.within c.in-Request.end
-    (rw c.in-Request.is at c.in-Ok.ensures)
+    let view = c.self.view_is ∙ c.forget.ensures in
+    request_ahead c.args.self.now s.gone s.at 0 s.bytes.items c.deref.result.now c.read_ahead.new.spans.items (ap (λ f. f.gone) view) (ap (λ f. f.kept) view) c.deref.ensures.value c.self.invariant.within c.in-Ok-Request.end refl
+    (rw c.in-Ok-Request.field-0-is at c.in-Ok-Request.ensures)
 
-pub returns-in-Broken-clause-next : goal.returns-in-Broken-clause-next
-returns-in-Broken-clause-next c =
+pub returns-in-Ok-Rest-clause-next : goal.returns-in-Ok-Rest-clause-next
+returns-in-Ok-Rest-clause-next c =
     let s = c.self.inside in
-    fault_out c.args.self.now s.gone s.at c.in-Ok.passed s.bytes.items c.deref.result.now c.next_found.new.spans.items
-    (ap (λ f. f.gone) (c.self.view_is ∙ c.forget.ensures)) (ap (λ f. f.kept) (c.self.view_is ∙ c.forget.ensures)) c.deref.ensures.value c.self.invariant.within _ _ s.is_ready (lends_none s.bytes.items s.base s.spans.items s.is_ready (ap (λ f. f.current) (c.self.view_is ∙ c.forget.ensures))) c.in-Broken.fault c.in-Broken.place
-    (rw c.in-Broken.is at c.in-Ok.ensures)
+    let view = c.self.view_is ∙ c.forget.ensures in
+    next_as_before (s.gone + s.at) (drop s.at s.bytes.items) (current_words s.bytes.items s.base c.read_ahead.new.spans.items s.is_ready) c.args.self.now c.next_by_steps.new.self c.next_by_steps.result (ap (λ f. f.gone) view) (ap (λ f. f.kept) view) c.next_by_steps.ensures
 
-pub returns-in-Open-clause-next : goal.returns-in-Open-clause-next
-returns-in-Open-clause-next c =
+pub returns-in-Ok-Rest-clause-fewer : goal.returns-in-Ok-Rest-clause-fewer
+returns-in-Ok-Rest-clause-fewer c is =
     let s = c.self.inside in
-    none_out c.args.self.now s.gone s.at c.in-Ok.passed s.bytes.items c.deref.result.now c.next_found.new.spans.items
-    (ap (λ f. f.gone) (c.self.view_is ∙ c.forget.ensures)) (ap (λ f. f.kept) (c.self.view_is ∙ c.forget.ensures)) c.deref.ensures.value c.self.invariant.within _ _ s.is_ready (lends_none s.bytes.items s.base s.spans.items s.is_ready (ap (λ f. f.current) (c.self.view_is ∙ c.forget.ensures))) c.in-Open.progress
-    (rw c.in-Open.is at c.in-Ok.ensures)
+    let view = c.self.view_is ∙ c.forget.ensures in
+    fewer_left c.args.self.now c.next_by_steps.new.self c.next_by_steps.result
+    (next_as_before (s.gone + s.at) (drop s.at s.bytes.items) (current_words s.bytes.items s.base c.read_ahead.new.spans.items s.is_ready) c.args.self.now c.next_by_steps.new.self c.next_by_steps.result (ap (λ f. f.gone) view) (ap (λ f. f.kept) view) c.next_by_steps.ensures) is
