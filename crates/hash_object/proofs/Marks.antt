@@ -1,20 +1,18 @@
 -- The marks of a dictionary's blocks, and how many blocks and vacant item numbers have marks within bounds.
-use Rattle.std.proofs.Common.{◌≡◌, ◌≢◌, ◌⊎◌, ℕ, zero, suc, ◌+◌, ◌*◌, ◌<◌, ◌≤◌, Bool, true, false, cond, List, [], ◌∷◌, ◌++◌, Option, Some, None, IsSome, is_some, flat_map, slice_get, count_by, refl, sym, ap, ◌∙◌, subst, arith, inl, inr}
+use Rattle.std.proofs.Common.{◌≡◌, ◌≢◌, ◌⊎◌, ℕ, zero, suc, ◌+◌, ◌*◌, ◌<◌, ◌≤◌, Bool, true, false, cond, List, [], ◌∷◌, ◌++◌, Option, Some, None, IsSome, is_some, flat_map, slice_get, count_by, length, refl, sym, ap, ◌∙◌, subst, arith, inl, inr}
 use mir.Val.{bool_byte}
 use Rattle.std.specs.Prelude.{◌/◌, ◌%◌}
 use Rattle.std.proofs.lemmas.Bool.{cases_Bool, cases_eq, cond-true, cond-false}
 use Rattle.std.proofs.lemmas.Bool.Decides.{nat_tests}
 use Rattle.blocks.specs.declared.BlockRef.{BlockRef}
-use Rattle.blocks.specs.Blocks.{Blocks, times, Owned}
-use Rattle.blocks.proofs.Change.{live-is}
 use Rattle.blocks.proofs.Sums.{count_cons}
-use Rattle.rehash_dict.specs.Table.{Element, at_item, item}
+use Rattle.rehash_dict.specs.Table.{Element, at_item, item, table_len}
 use Rattle.hash_object.specs.declared.fields.Body.TheVariants.{Table}
-use Rattle.hash_object.specs.Hashed.{FieldTable, blocks_of}
+use Rattle.hash_object.specs.Hashed.{FieldTable}
 use Rattle.hash_object.specs.Relocation.{marks_from, vacant_mark, vacant_below, is_within, units_in, block_in}
-use Rattle.hash_object.proofs.Tables.{self}
 use Rattle.hash_object.proofs.Listed.{Slots}
 use Rattle.hash_object.proofs.Ending.{names}
+use Rattle.hash_object.proofs.Ranks.{rank, rank_zero, rank_past, rank_next, rank_all}
 
 -- ---- the two marks of an item number
 
@@ -104,29 +102,6 @@ mark_block items index mark h =
     let same : p.0 ≡ mark = omega (arith, p.1) in
     (p.2 ∙ ap (block_in items) same, subst (λ k. IsSome (block_in items k)) same p.3)
 
-block_ref : (n : ℕ) (items : Slots) (k : ℕ) (r : BlockRef) → block_in items k ≡ Some r
-    → (index : ℕ) × (slice_get (marks_from n items) index ≡ Some (2 * n + k)) × (slice_get (flat_map names items) index ≡ Some r)
-block_ref n [] k r h = cc
-block_ref n (None ∷ items) zero r h = cc
-block_ref n (None ∷ items) (suc zero) r h = cc
-block_ref n (None ∷ items) (suc (suc k)) r h = (let p = block_ref (suc n) items k r h in (p.0, p.1 ∙ ap Some (omega arith), p.2))
-block_ref n (Some e ∷ items) zero r h = (0, ap Some (omega arith), h)
-block_ref n (Some e ∷ items) (suc zero) r h = (1, refl, h)
-block_ref n (Some e ∷ items) (suc (suc k)) r h = (let p = block_ref (suc n) items k r h in (suc (suc p.0), p.1 ∙ ap Some (omega arith), p.2))
-
-pub block_mark : (items : Slots) (k : ℕ) (r : BlockRef) → block_in items k ≡ Some r
-    → (index : ℕ) × (slice_get (marks_from 0 items) index ≡ Some k) × (slice_get (flat_map names items) index ≡ Some r)
-block_mark items k r h = (let p = block_ref 0 items k r h in (p.0, p.1 ∙ ap Some (omega arith), p.2))
-
--- the block of a mark is one of the dictionary's
-pub block_live : (m : Blocks) (t : FieldTable) (mark : ℕ) (r : BlockRef) → Owned (blocks_of t) m → block_in t.items mark ≡ Some r → IsSome (m r)
-block_live m t mark r owned h = (let p = block_mark t.items mark r h in live-is m r (omega (arith, owned r, stands (blocks_of t) p.0 p.2)))
-  where
-    stands : (refs : List BlockRef) (index : ℕ) → slice_get refs index ≡ Some r → 0 < times r refs
-    stands [] index is = cc
-    stands (q ∷ refs) zero is = (let same : q ≡ r = cc in omega (arith, ap (λ x. times r (x ∷ refs)) same, self r))
-    stands (q ∷ refs) (suc index) is = omega (arith, stands refs index is)
-
 -- elements at the same item numbers have the same marks
 pub marks_alike : (n : ℕ) (xs ys : Slots) → ((k : ℕ) → is_some (at_item ys k) ≡ is_some (at_item xs k)) → marks_from n ys ≡ marks_from n xs
 marks_alike n [] [] h = refl
@@ -180,14 +155,6 @@ count_none start [] = refl
 count_none start (x ∷ xs) =
     let no' : is_within start start x ≡ false = grind (arith, nat_tests) in
     omega (arith, count_cons (is_within start start) x xs, cond-false {A = ℕ} (is_within start start x) 1 0 no', count_none start xs)
-
-pub count_most : (start end far : ℕ) (xs : List ℕ) → end ≤ far → count_by (is_within start end) xs ≤ count_by (is_within start far) xs
-count_most start end far [] high = omega arith
-count_most start end far (x ∷ xs) high = elim (cases_Bool (is_within start end x)) [
-  | inl in' ↦ (let more : is_within start far x ≡ true = grind (arith, nat_tests) in
-      omega (arith, count_cons (is_within start end) x xs, count_cons (is_within start far) x xs, cond-true {A = ℕ} (is_within start end x) 1 0 in', cond-true {A = ℕ} (is_within start far x) 1 0 more, count_most start end far xs high))
-  | inr out' ↦ omega (arith, count_cons (is_within start end) x xs, count_cons (is_within start far) x xs, cond-false {A = ℕ} (is_within start end x) 1 0 out', count_most start end far xs high)
-]
 
 pub count_agree : (p q : ℕ → Bool) (xs : List ℕ) → ((i x : ℕ) → slice_get xs i ≡ Some x → p x ≡ q x) → count_by p xs ≡ count_by q xs
 count_agree p q [] h = refl
@@ -324,3 +291,24 @@ module _ (t : FieldTable) where
       by_slot (Some e) i rest h = omega (arith, rest i h)
       by_slot None zero rest h = (let same : 2 * n ≡ mark = cc in omega (arith, same))
       by_slot None (suc i) rest h = omega (arith, rest i h)
+
+-- ---- all of them
+
+-- each element has two marks
+marks_len : (n : ℕ) (items : Slots) → length (marks_from n items) ≡ 2 * count_by is_some items
+marks_len n [] = refl
+marks_len n (None ∷ items) = omega (arith, marks_len (suc n) items, count_cons (is_some {T = Element BlockRef}) None items)
+marks_len n (Some e ∷ items) = omega (arith, marks_len (suc n) items, count_cons is_some (Some e) items)
+
+-- each item number below a number is an element's or vacant
+vacant_len : (t : FieldTable) (n : ℕ) → length (vacant_below t n) + rank t.items n ≡ n
+vacant_len t zero = omega (arith, rank_zero t.items)
+vacant_len t (suc n) = by_slot (item t n) refl (vacant_len t n)
+  where
+    by_slot : (o : Option (Element BlockRef)) → item t n ≡ o → length (vacant_below t n) + rank t.items n ≡ n → length (vacant_mark n o ++ vacant_below t n) + rank t.items (suc n) ≡ suc n
+    by_slot None is before = omega (arith, rank_past t.items n is, before)
+    by_slot (Some e) is before = omega (arith, rank_next t.items n e is, before)
+
+-- blocks and vacant item numbers are one for each item number, and one more for each element
+pub all_units : (t : FieldTable) → ((at : ℕ) → IsSome (item t at) → at < t.top) → length (marks_from 0 t.items) + length (vacant_below t t.top) ≡ t.top + table_len t
+all_units t below = omega (arith, marks_len 0 t.items, vacant_len t t.top, rank_all t.items t.top below)

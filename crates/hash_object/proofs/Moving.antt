@@ -1,21 +1,20 @@
 -- What a call passes that goes through a part of a hash's blocks.
-use Rattle.std.proofs.Common.{◌≡◌, ◌⊎◌, ℕ, zero, suc, ◌<◌, ◌≤◌, Bool, true, false, [], ◌∷◌, Option, Some, None, is_some, slice_get, refl, sym, ap, ◌∙◌, subst, arith, inl, inr}
-use Rattle.std.specs.Prelude.{nat_lt, ◌&&◌, min, if◌then◌else◌, IfSome, MatchBool}
-use Rattle.std.proofs.lemmas.Bool.{cases_Bool, cond-true, cond-false, and_parts}
+use Rattle.std.proofs.Common.{◌≡◌, ◌⊎◌, ℕ, zero, suc, ◌<◌, ◌≤◌, true, false, Option, Some, None, is_some, slice_get, sym, ap, ◌∙◌, subst, arith, inl, inr}
+use Rattle.std.specs.Prelude.{nat_lt, min, if◌then◌else◌, IfSome}
+use Rattle.std.proofs.lemmas.Bool.{cases_Bool, cond-true, cond-false}
 use Rattle.std.proofs.lemmas.Bool.Decides.{nat_tests}
-use Rattle.blocks.specs.declared.BlockRef.{BlockRef}
 use Rattle.blocks.specs.declared.Moved.{Moved}
 use Rattle.blocks.specs.Blocks.{Blocks}
-use Rattle.blocks.specs.Slabs.{Heap, wants}
+use Rattle.blocks.specs.Slabs.{Heap}
 use Rattle.object_codec.specs.declared.limits.Limits.{Limits}
 use Rattle.rehash_dict.specs.Table.{item}
 use Rattle.hash_object.specs.declared.fields.Body.{Body}
 use Rattle.hash_object.specs.declared.fields.Body.TheVariants.{Empty, Pack, Table}
 use Rattle.hash_object.specs.declared.fields.Fields.{Fields}
 use Rattle.hash_object.specs.Hashed.{FieldTable, blocks_of}
-use Rattle.hash_object.specs.Fields.{IsFields, IsBody, refs, refs_of_body}
-use Rattle.hash_object.specs.Relocation.{marks_from, is_passed, is_within, marks, marks_in, marks_end, end_in, vacant_marks, vacant_in, units, units_in, block_in, IsCalm, MarkWaits, ArePassed, WantsMove, PassesPart}
-use Rattle.hash_object.proofs.Marks.{marks_alike, mark_block, block_mark, block_below, vacant_low, count_agree, count_none, count_most}
+use Rattle.hash_object.specs.Fields.{IsFields, IsBody, refs}
+use Rattle.hash_object.specs.Relocation.{marks_from, is_passed, is_within, marks, marks_in, marks_end, end_in, vacant_marks, vacant_in, units, units_in, block_in, IsCalm, ArePassed, PassesPart}
+use Rattle.hash_object.proofs.Marks.{marks_alike, mark_block, block_below, vacant_low, count_agree, count_none}
 
 within_parts : (start end mark : ℕ) → is_within start end mark ≡ true → (start ≤ mark) × (mark < end)
 within_parts start end mark h = grind (arith, nat_tests)
@@ -48,11 +47,8 @@ vacant_end Empty index mark h = cc
 vacant_end (Pack p) index mark h = cc
 vacant_end (Table t) index mark h = vacant_low t t.top index mark h
 
-pub none_within : (body : Body) (start : ℕ) → units_in body start start ≡ 0
+none_within : (body : Body) (start : ℕ) → units_in body start start ≡ 0
 none_within body start = omega (arith, count_none start (marks_in body), count_none start (vacant_in body))
-
-pub most_within : (body : Body) (start end far : ℕ) → end ≤ far → units_in body start end ≤ units_in body start far
-most_within body start end far high = omega (arith, count_most start end far (marks_in body) high, count_most start end far (vacant_in body) high)
 
 module _ (from room count start end : ℕ) (start_is : start ≡ min from count) (order : start ≤ end) (wide : 32 ≤ room) where
   passed_within : (next : Option ℕ) → next ≡ (if nat_lt end count then Some end else None) → (mark : ℕ) → mark < count → is_passed from next mark ≡ is_within start end mark
@@ -110,49 +106,3 @@ passes_part before heap old new from room count start end answer sound count_is 
 
     within : (mark : ℕ) → mark < count → is_passed from answer.next mark ≡ is_within start end mark
     within mark low = passed_within from room count start end start_is order wide answer.next next_is mark low
-
--- ---- whether one wants to move
-
-pub waits_one : (heap : Heap) (f : Fields) (at : BlockRef) (start end : ℕ) (b : Bool) → marks f ≡ 0 ∷ [] → refs f ≡ at ∷ [] → b ≡ (is_within start end 0 && wants heap at)
-    → MatchBool b (WantsMove heap f start end) (ArePassed heap (is_within start end) (marks f) (refs f) (refs f))
-waits_one heap f at start end true marks_are refs_are is =
-    let both = and_parts (is_within start end 0) (wants heap at) (sym is) in
-    let parts = within_parts start end 0 both.0 in
-    record { index = 0; mark = 0; ref = at; marked = ap (λ l. slice_get l 0) marks_are; named = ap (λ l. slice_get l 0) refs_are; from = parts.0; below = parts.1; waits = both.1 }
-waits_one heap f at start end false marks_are refs_are is =
-    subst (λ ms. ArePassed heap (is_within start end) ms (refs f) (refs f)) (sym marks_are) (subst (λ rs. ArePassed heap (is_within start end) (0 ∷ []) rs rs) (sym refs_are) (record { calm = calm; stays = λ index mark marked out. refl }))
-  where
-    calm : (index mark : ℕ) (r : BlockRef) → slice_get (0 ∷ []) index ≡ Some mark → slice_get (at ∷ []) index ≡ Some r → is_within start end mark ≡ true → wants heap r ≡ false
-    calm zero mark r marked named within =
-        let first : 0 ≡ mark = cc in
-        let same : at ≡ r = cc in
-        subst (λ q. wants heap q ≡ false) same (second (is_within start end 0) (wants heap at) (ap (is_within start end) first ∙ within) (sym is))
-      where
-        second : (a b : Bool) → a ≡ true → (a && b) ≡ false → b ≡ false
-        second true b h k = k
-        second false b h k = cc
-    calm (suc index) mark r marked named within = cc
-
-pub waits_table : (heap : Heap) (f : Fields) (t : FieldTable) (start end : ℕ) (b : Bool) → f.body ≡ Table t → MatchBool b (MarkWaits heap t start end) (IsCalm heap t start end)
-    → MatchBool b (WantsMove heap f start end) (ArePassed heap (is_within start end) (marks f) (refs f) (refs f))
-waits_table heap f t start end true is w =
-    let p = block_mark t.items w.mark w.ref w.found in
-    record {
-      index = p.0;
-      mark = w.mark;
-      ref = w.ref;
-      marked = ap (λ b. slice_get (marks_in b) p.0) is ∙ p.1;
-      named = ap (λ b. slice_get (refs_of_body b) p.0) is ∙ p.2;
-      from = w.from;
-      below = w.below;
-      waits = w.waits;
-    }
-waits_table heap f t start end false is calm =
-    subst (λ b. ArePassed heap (is_within start end) (marks_in b) (refs_of_body b) (refs_of_body b)) (sym is) (marks_passed heap t t start end (λ at. refl) (λ mark h. refl) calm)
-
--- all marks were passed, and nothing moved
-pub passes_all : (m : Blocks) (heap : Heap) (f : Fields) (room count start end used : ℕ) → IsFields m f → count ≡ marks_end f → start ≡ min 0 count → start ≤ end → 32 ≤ room → count ≤ end → used ≡ units f start end → used ≤ room
-    → ArePassed heap (is_within start end) (marks f) (refs f) (refs f) → PassesPart heap f f 0 room (record { next = None; used = used })
-passes_all m heap f room count start end used sound count_is start_is order wide all used_is fits p =
-    let test : nat_lt end count ≡ false = grind (arith, nat_tests) in
-    passes_part m heap f f 0 room count start end (record { next = None; used = used }) sound count_is start_is order wide (sym (cond-false _ _ _ test)) used_is fits (λ less. absurd (omega (arith, less, all))) refl p

@@ -104,26 +104,6 @@ abbrev pub IsCalm : Heap → FieldTable → ℕ → ℕ → Type 0
 IsCalm heap t start end =
     (mark : ℕ) (r : BlockRef) → start ≤ mark → mark < end → block_in t.items mark ≡ Some r → wants heap r ≡ false
 
--- the block of one of these marks wants to move
-pub record MarkWaits (heap : Heap) (t : FieldTable) (start end : ℕ) : Type 0 where
-  pub mark : ℕ
-  pub ref : BlockRef
-  pub from : start ≤ mark
-  pub below : mark < end
-  pub found : block_in t.items mark ≡ Some ref
-  pub waits : wants heap ref ≡ true
-
--- a block whose mark is from `start` to below `end` wants to move
-pub record WantsMove (heap : Heap) (f : Fields) (start end : ℕ) : Type 0 where
-  pub index : ℕ
-  pub mark : ℕ
-  pub ref : BlockRef
-  pub marked : slice_get (marks f) index ≡ Some mark
-  pub named : slice_get (refs f) index ≡ Some ref
-  pub from : start ≤ mark
-  pub below : mark < end
-  pub waits : wants heap ref ≡ true
-
 -- Blocks moved: the hash means what it meant, over the references that it has now.
 pub record IsRelocated (before after : Blocks) (old new : Fields) : Type 0 where
   pub sound : IsFields after new

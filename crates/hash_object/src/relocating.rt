@@ -1,6 +1,6 @@
 // Hashes whose blocks move.
 
-ghost use Rattle.std.specs.Prelude.{◌≡◌, ◌≢◌, ℕ, ◌+◌, ◌*◌, ◌^◌, ◌<◌, ◌≤◌, ◌⊎◌, [], ◌∷◌, min, nat_lt, ◌&&◌, IfSome, IfNone, IsSome, Some, None, true, false, MatchBool, if◌then◌else◌};
+ghost use Rattle.std.specs.Prelude.{◌≡◌, ◌≢◌, ℕ, ◌+◌, ◌-◌, ◌*◌, ◌^◌, ◌<◌, ◌≤◌, ◌⊎◌, [], ◌∷◌, min, length, nat_lt, IsSome, Some, None, true, false, if◌then◌else◌};
 ghost use Rattle.blocks.specs.Blocks.{Changes, Owned};
 ghost use Rattle.blocks.specs.Slabs.{wants, Calmer};
 ghost use Rattle.rehash_dict.specs.Table.{item};
@@ -8,7 +8,7 @@ ghost use Rattle.rehash_dict.specs.Keyed.{Keyed};
 ghost use Rattle.hash_object.specs.declared.fields.Body.TheVariants.{Table};
 ghost use Rattle.hash_object.specs.Hashed.{blocks_of};
 ghost use Rattle.hash_object.specs.Fields.{IsFields, refs};
-ghost use Rattle.hash_object.specs.Relocation.{IsRelocated, PassesPart, ArePassed, IsSettled, IsCalm, WantsMove, MarkWaits, is_within, marks, marks_end, units, units_in, block_in};
+ghost use Rattle.hash_object.specs.Relocation.{IsRelocated, PassesPart, ArePassed, IsSettled, IsCalm, is_within, marks, marks_from, marks_end, vacant_marks, vacant_below, units, units_in, block_in};
 
 use crate::Fields;
 use crate::fields::{Body, Packed};
@@ -78,7 +78,6 @@ fn table_part(table: &Dict<BlockRef>, start: u128, room: u32) -> Part
     ensures used { result.used ≡ units_in (Table table.now) result.start result.end }
     ensures within { result.used ≤ room }
     ensures full { result.end < 2 * table.now.top → result.used ≡ room }
-    ensures next { result.end < 2 * table.now.top → room < units_in (Table table.now) result.start (result.end + 1) }
 {
     let count = 2 * table.top() as u128;
     let mut used = 0;
@@ -98,6 +97,14 @@ fn table_part(table: &Dict<BlockRef>, start: u128, room: u32) -> Part
         end: count,
         used,
     }
+}
+
+// How many blocks and vacant item numbers a dictionary has, or the greatest number where they are more.
+fn table_units(table: &Dict<BlockRef>) -> u32
+    ensures { result ≡ min (length (marks_from 0 table.now.items) + length (vacant_below table.now table.now.top)) (2 ^ 32 - 1) }
+{
+    let units = table.top() as u128 + table.len() as u128;
+    units.min(u32::MAX as u128) as u32
 }
 
 // Moves the block of a listpack where it wants that and its mark is in the part.
@@ -176,30 +183,6 @@ fn settle_marks<B: BlockStore>(store: &mut B, table: &mut Dict<BlockRef>, part: 
     }
 }
 
-// Whether a block whose mark is in a part wants to move.
-fn mark_waits<B: BlockStore>(store: &B, table: &Dict<BlockRef>, part: Part) -> bool
-    requires owned { Owned (blocks_of table.now) (B.blocks store.now) }
-    requires fits { part.end ≤ 2 ^ 65 }
-    ensures { MatchBool result (MarkWaits (B.heap store.now) table.now part.start part.end) (IsCalm (B.heap store.now) table.now part.start part.end) }
-{
-    for mark in part.start..part.end {
-        if let Some(block) = block_at(table, mark) {
-            if store.wants_move(block) {
-                return true;
-            }
-        }
-    }
-    false
-}
-
-// Whether the block of a listpack wants to move and its mark is in the part.
-fn packed_waits<B: BlockStore>(store: &B, packed: Packed, part: Part) -> bool
-    requires { IsSome (B.blocks store.now packed.at) }
-    ensures { result ≡ (is_within part.start part.end 0 && wants (B.heap store.now) packed.at) }
-{
-    part.start == 0 && part.end > 0 && store.wants_move(packed.at)
-}
-
 impl Fields {
     // A number above each mark.
     fn count_marks(&self) -> u128
@@ -222,7 +205,6 @@ impl Fields {
         ensures used { result.used ≡ units self.now result.start result.end }
         ensures within { result.used ≤ room }
         ensures full { result.end < marks_end self.now → result.used ≡ room }
-        ensures next { result.end < marks_end self.now → room < units self.now result.start (result.end + 1) }
     {
         let count = self.count_marks();
         let start = from.min(count);
@@ -254,19 +236,6 @@ impl Fields {
         }
     }
 
-    // Whether a block whose mark is in a part wants to move.
-    fn part_waits<B: BlockStore>(&self, store: &B, part: Part) -> bool
-        requires sound { IsFields (B.blocks store.now) self.now }
-        requires fits { part.end ≤ 2 ^ 65 }
-        ensures { MatchBool result (WantsMove (B.heap store.now) self.now part.start part.end) (ArePassed (B.heap store.now) (is_within part.start part.end) (marks self.now) (refs self.now) (refs self.now)) }
-    {
-        match &self.body {
-            Body::Empty => false,
-            Body::Pack(packed) => packed_waits(store, *packed, part),
-            Body::Table(table) => mark_waits(store, table, part),
-        }
-    }
-
     /// Goes through the blocks from the mark `from` on, at most `room` of them and of vacant item numbers, and moves each that wants
     /// it. The mark of a listpack's block is 0, that of a field's block twice its item number, and that of a value's block one more. It
     /// takes no memory.
@@ -283,22 +252,15 @@ impl Fields {
         answer_for(part, count)
     }
 
-    /// How many blocks and vacant item numbers there are, where no block wants to move and they are at most `room`: a call of
-    /// `relocate_part` from the mark 0 would pass just these. `None` comes exactly where it is otherwise.
-    pub fn calm_blocks<B: BlockStore>(&self, store: &B, room: u32) -> Option<u32>
-        requires sound { IsFields (B.blocks store.now) self.now }
-        requires room { 32 ≤ room }
-        ensures some { IfSome result (λ count. PassesPart (B.heap store.now) self.now self.now 0 room (record { next = None; used = count })) }
-        ensures none { IfNone result (WantsMove (B.heap store.now) self.now 0 (marks_end self.now) ⊎ (room < units self.now 0 (marks_end self.now))) }
+    /// How many blocks and vacant item numbers there are: what calls of `relocate_part` pass in all that begin at the mark 0 and go on
+    /// to the end. The greatest number stands for all above it too. It looks at no block.
+    pub fn units(&self) -> u32
+        ensures { result ≡ min (length (marks self.now) + length (vacant_marks self.now)) (2 ^ 32 - 1) }
     {
-        let count = self.count_marks();
-        let part = self.part_from(0, room);
-        if part.end < count {
-            return None;
+        match &self.body {
+            Body::Empty => 0,
+            Body::Pack(_) => 1,
+            Body::Table(table) => table_units(table),
         }
-        if self.part_waits(store, part) {
-            return None;
-        }
-        Some(part.used)
     }
 }

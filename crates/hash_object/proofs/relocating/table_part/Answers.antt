@@ -20,9 +20,3 @@ pub returns-then-unit-room-clause-full : goal.returns-then-unit-room-clause-full
 returns-then-unit-room-clause-full c = λ low.
     let t = c.args.table.now in
     omega (arith, c.loop-mark.invariant.within, c.if-unit-room.true, c.unit_at-unit.ensures, unit_most t c.loop-mark.mark low, ap (units_in (Table t) c.loop-mark.mark) (add-one c.loop-mark.mark))
-
-pub returns-then-unit-room-clause-next : goal.returns-then-unit-room-clause-next
-returns-then-unit-room-clause-next c = λ low.
-    let t = c.args.table.now in
-    let more = units_more t c.args.start c.loop-mark.mark c.loop-mark.auto.mark in
-    omega (arith, c.loop-mark.invariant.within, c.if-unit-room.true, c.loop-mark.invariant.used, c.unit_at-unit.ensures, more, ap (units_in (Table t) c.args.start) (add-one c.loop-mark.mark), ap (units_in (Table t) c.loop-mark.mark) (add-one c.loop-mark.mark))
