@@ -56,7 +56,7 @@ pack_len m limits seed body p is sound =
 -- ---- another body was placed, and the blocks of the old one were given back
 
 module _ (a b c : Blocks) (old new : List BlockRef) (own : Owned old a) (p : Changes a b [] new) where
-  both_owned : Owned (new ++ old) b
+  pub both_owned : Owned (new ++ old) b
   both_owned = Changes-owned a b old (new ++ old) (Changes-beside a b [] new old (new ++ old) p own (λ r. times r old) (λ r. omega arith) (λ r. times-append r new old))
 
   pub old_owned : Owned old b

@@ -1,5 +1,5 @@
 -- Bodies that are copied.
-use Rattle.std.proofs.Common.{◌≡◌, ℕ, List, [], ◌∷◌, Some, refl, sym, ap, ◌∙◌, subst, arith}
+use Rattle.std.proofs.Common.{◌≡◌, ℕ, [], ◌∷◌, Some, refl, sym, ap, ◌∙◌, subst, arith}
 use Rattle.blocks.specs.declared.BlockRef.{BlockRef}
 use Rattle.blocks.specs.Blocks.{Blocks, bytes_at, with_block, Changes}
 use Rattle.blocks.proofs.Change.{Changes-same}
@@ -7,7 +7,6 @@ use Rattle.object_codec.specs.declared.limits.Limits.{Limits}
 use Rattle.rehash_dict.specs.Keyed.{hash_of}
 use Rattle.rehash_dict.proofs.Growing.{Grown-same}
 use Rattle.score_table.specs.declared.table.ScoreTable.{ScoreTable}
-use Rattle.score_table.specs.Ranking.{ScoreMap}
 use Rattle.score_table.specs.Scored as table
 use Rattle.score_table.specs.Copied.{IsCopied}
 use Rattle.zset_object.specs.declared.scored.Packed.{Packed}

@@ -20,6 +20,7 @@ use Rattle.zset_object.specs.Items.{pair_in, top_in}
 use Rattle.zset_object.specs.Laws.{ScoredLaws}
 use Rattle.zset_object.proofs.Bodies.{one_of, body_kept}
 use Rattle.zset_object.proofs.Keys.{once_len, keys_len}
+use Rattle.zset_object.proofs.Marks.{all_marked}
 use Rattle.zset_object.proofs.Listed.{pack_found, pack_has, pack_apart, pack_ranking, empty_ranking, get_below}
 
 own_scores : (a b : Blocks) (body : Body) → ((r : BlockRef) → IsIn r (refs_of_body body) → b r ≡ a r) → scores_of b body ≡ scores_of a body
@@ -82,6 +83,7 @@ scored_laws_hold = record {
   sound = kept;
   others = λ a b s old new o p. own_scores a b s.body (beside a b s old new o p);
   stays = λ a b s old new o p is. (kept a b s (beside a b s old new o p) is).0;
+  marked = λ s. all_marked s.body;
   ranking = λ m s is. ranking_of m s.limits s.seed s.body is.body;
   counted = λ m s is. counted_of m s.limits s.seed s.body is.body;
   unique = score_table_laws_hold.unique;

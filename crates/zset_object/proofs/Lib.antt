@@ -4,6 +4,10 @@ pub mod Forms
 pub mod Bodies
 pub mod Placing
 pub mod Listed
-pub mod Depends
 pub mod Walks
 pub mod Copies
+pub mod Spans
+pub mod Marks
+pub mod Moving
+pub mod Settling
+pub mod Depends

@@ -35,9 +35,12 @@ top_of s = top_in s.body
 
 -- Each member has exactly one item number, and its score there.
 pub record IsArranged (blocks : Blocks) (s : Scored) : Type 0 where
-  pub found : (score : ℤ) (member : List ℕ) → get (scores blocks s) member ≡ Some score → (at : ℕ) × (pair_at blocks s at ≡ Some (score, member))
-  pub pair : (at : ℕ) (score : ℤ) (member : List ℕ) → pair_at blocks s at ≡ Some (score, member) → get (scores blocks s) member ≡ Some score
-  pub apart : (at other : ℕ) (score another : ℤ) (member : List ℕ) → pair_at blocks s at ≡ Some (score, member) → pair_at blocks s other ≡ Some (another, member) → at ≡ other
+  pub found : (score : ℤ) (member : List ℕ) → get (scores blocks s) member ≡ Some score
+      → (at : ℕ) × (pair_at blocks s at ≡ Some (score, member))
+  pub pair : (at : ℕ) (score : ℤ) (member : List ℕ) → pair_at blocks s at ≡ Some (score, member)
+      → get (scores blocks s) member ≡ Some score
+  pub apart : (at other : ℕ) (score another : ℤ) (member : List ℕ) → pair_at blocks s at ≡ Some (score, member)
+      → pair_at blocks s other ≡ Some (another, member) → at ≡ other
   pub below : (at : ℕ) → IsSome (pair_at blocks s at) → at < top_of s
 
 -- The member of a rank stands at this place of the form: at an offset of a listpack, at a link of an ordered list.

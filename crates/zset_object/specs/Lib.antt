@@ -2,4 +2,6 @@ pub mod Orders
 pub mod Packed
 pub mod Scored
 pub mod Items
+pub mod Scan
+pub mod Relocation
 pub mod Laws

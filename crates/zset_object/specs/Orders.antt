@@ -1,5 +1,5 @@
--- Lists of scores with their members, and which form a sorted set has. (Redis command reference, data type Sorted sets: by rising
--- score, and the members of one score by their bytes.)
+-- Lists of scores with their members, and which form a sorted set has. (Redis command reference, data type Sorted sets:
+-- by rising score, and the members of one score by their bytes.)
 use Rattle.std.specs.Prelude.{◌≡◌, ℕ, ℤ, Bool, List, [], ◌∷◌, map, length, count_by, max, Some, slice_get}
 use Rattle.std.specs.Ordering.{is_lt}
 use Rattle.std.specs.FinMap.{entries, from_entries, get, len}

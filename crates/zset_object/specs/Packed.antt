@@ -35,7 +35,8 @@ abbrev pub AreScores : List Pair → Type 0
 AreScores [] = Unit {0}
 AreScores (p ∷ rest) = IsI64Text p.1 × AreScores rest
 
--- The bytes are a listpack as the writer makes it of members and the texts of their scores, each member once and all in order.
+-- The bytes are a listpack as the writer makes it of members and the texts of their scores, each member once and all in
+-- order.
 pub record IsScorePack (bytes : List ℕ) : Type 0 where
   pub pack : IsPairPack bytes
   pub once : IsOnce (pairs bytes)

@@ -84,7 +84,7 @@ tables_of blocks Empty = table.no_tables
 tables_of blocks (Pack packed) = table.no_tables
 tables_of blocks (Table t) = table.tables blocks t
 
--- the tables of its dictionary, whose elements are named by the bytes of their members; a packed sorted set has no table
+-- the tables of its dictionary, whose elements are named by the bytes of their members; a packed sorted set has none
 abbrev pub tables : Blocks → Scored → Tables (List ℕ)
 tables blocks s = tables_of blocks s.body
 
@@ -93,7 +93,8 @@ pub record KeepsSettings (old new : Scored) : Type 0 where
   pub limits : new.limits ≡ old.limits
   pub seed : new.seed ≡ old.seed
 
--- The sorted set has these members and scores now, over the blocks that it owns, and its tables come from the old ones by edits.
+-- The sorted set has these members and scores now, over the blocks that it owns, and its tables come from the old ones
+-- by edits.
 pub record IsChanged (before after : Blocks) (old new : Scored) (map : ScoreMap) : Type 0 where
   pub sound : IsScored after new
   pub scores_are : scores after new ≡ map
@@ -102,7 +103,8 @@ pub record IsChanged (before after : Blocks) (old new : Scored) (map : ScoreMap)
   pub settings : KeepsSettings old new
 
 -- A body of these members and scores was placed that can take the place of the sorted set's own.
-pub record IsPlacedBody (before after : Blocks) (limits : Limits) (seed : ℕ) (body : Body) (map : ScoreMap) : Type 0 where
+pub record IsPlacedBody (before after : Blocks) (limits : Limits) (seed : ℕ) (body : Body) (map : ScoreMap)
+    : Type 0 where
   pub sound : IsBody after limits seed body
   pub scores_are : scores_of after body ≡ map
   pub changes : Changes before after [] (refs_of_body body)

@@ -9,13 +9,15 @@ mod items;
 mod laws;
 mod packs;
 mod reading;
+mod relocating;
 mod removing;
+mod scanning;
 mod scored;
 mod setting;
 #[cfg(test)]
 mod tests;
 
-pub use blocks::Memory;
+pub use blocks::{Memory, Moved};
 pub use cursor::Cursor;
 pub use laws::scored_laws;
 pub use scored::Scored;

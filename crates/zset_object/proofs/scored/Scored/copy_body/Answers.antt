@@ -1,9 +1,5 @@
-use Rattle.std.proofs.Common.{◌≡◌, ap, sym, subst}
 use Rattle.blocks.specs.Blocks.{no_step}
-use Rattle.zset_object.specs.declared.scored.Body.{Body}
-use Rattle.zset_object.specs.Scored.{IsPlacedTable, scores_of}
 use Rattle.zset_object.proofs.Copies.{empty_copied, pack_copied, table_copied}
-use Rattle.zset_object.proofs.Placing.{table_body}
 use Rattle.zset_object.proofs.scored.Scored.copy_body.Goals as goal
 
 pub returns-in-Empty-clause-placed : goal.returns-in-Empty-clause-placed
