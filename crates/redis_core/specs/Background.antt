@@ -21,9 +21,11 @@ no_steps = record { rehash = 0; defrag = 0; expired = 0 }
 module _ {S : Type 0} (blocks : S → Blocks) (heap : S → Heap) (step_of : S → S → Type 0) where
   -- The work of a plan at a moment, over a keyspace and a walk that may be open: so many expiry steps, then so many
   -- rehash steps, then so many steps of the walk. Nothing is lost that is there at the moment.
-  pub record DoesPlan (moment : ℕ) (plan : Plan) (old new : Keyspace S) (before after : Option Walk) (done : StepsDone) : Type 0 where
+  pub record DoesPlan (moment : ℕ) (plan : Plan) (old new : Keyspace S) (before after : Option Walk) (done : StepsDone)
+      : Type 0 where
     pub thinned : Keyspace S
-    pub expired : Expired value_refs moment old.bases (blocks old.store) plan.expire done.expired thinned.bases (blocks thinned.store)
+    pub expired : Expired value_refs moment old.bases (blocks old.store) plan.expire done.expired
+        thinned.bases (blocks thinned.store)
     pub unthinned : plan.expire ≡ 0 → thinned ≡ old
     pub served : Served step_of old.store thinned.store
     pub mid : Keyspace S
@@ -32,7 +34,8 @@ module _ {S : Type 0} (blocks : S → Blocks) (heap : S → Heap) (step_of : S �
     pub packed : Packs blocks heap mid before done.defrag new after
     pub all_packed : done.defrag ≡ plan.defrag
     pub stays : (number later : ℕ) → moment ≤ later
-        → live (means number new.bases (blocks new.store)) later ≡ live (means number old.bases (blocks old.store)) later
+        → live (means number new.bases (blocks new.store)) later
+        ≡ live (means number old.bases (blocks old.store)) later
     pub sound : Sound new.bases (blocks new.store)
     pub settings : SameSettings thinned.bases new.bases
     pub limits : new.bases.limits ≡ old.bases.limits

@@ -1,14 +1,13 @@
 -- Which databases a command may change, and which tables it leaves settled.
-use Rattle.std.specs.Prelude.{◌≡◌, ◌⊎◌, ℕ, ◌<◌, List, Result, Ok, Err}
+use Rattle.std.specs.Prelude.{◌≡◌, ◌⊎◌, ℕ, ◌<◌, List, [], ◌∷◌, Result, Ok, Err, MatchResult}
 use Rattle.blocks.specs.Blocks.{Blocks}
 use Rattle.rehash_dict.specs.Tables.{IsSettled}
 use Rattle.rehash_dict.specs.Table.{Table, tables}
 use Rattle.rehash_dict.specs.Keyed.{Stands, Lacks}
 use Rattle.held.specs.Databases.{table_at, deadlines_at}
-use Rattle.plain_world.specs.Words.{Words}
 use Rattle.plain_world.specs.Worlds.{World}
 use Rattle.plain_world.specs.declared.refusal.Refusal.{Refusal}
-use Rattle.plain_model.specs.Meant.{meant}
+use Rattle.plain_model.specs.Steps.{may}
 use Rattle.plain_model.specs.declared.command.Command.{Command}
 use Rattle.plain_model.specs.declared.command.Command.TheVariants.{Strings, Keys, Connection}
 use Rattle.plain_model.specs.declared.command.StringCommand.{StringCommand}
@@ -23,6 +22,7 @@ use Rattle.keyspace.specs.Forms.{Form, Unwritten, form_of}
 use Rattle.cmd_keys.specs.Found as found
 use Rattle.plain_model.specs.declared.ctx.Ctx.{Ctx}
 use Rattle.plain_world.specs.declared.reply.Part.{Part}
+use Rattle.plain_world.specs.declared.reply.Part.TheVariants.{Refused}
 use Rattle.keyspace.specs.Scopes.{Scope, untouched, number_or, scope_of}
 use Rattle.redis_core.specs.declared.settling.Touched.{Touched}
 use Rattle.redis_core.specs.declared.settling.Touched.TheVariants.{Nothing, One, Two, All}
@@ -111,14 +111,16 @@ shrinking touched = record { touches = covers touched; writes = λ number key. �
 
 -- ---- what a request may change
 
+-- what may be answered to what words mean, from a live world to a new one: a refusal changes nothing
+abbrev pub may_meant : ℕ → World → ℕ → Result Command Refusal → List Part → World → Type 0
+may_meant seed old moment asked reply new =
+    MatchResult asked (λ command. may seed old moment command reply new)
+    (λ refusal. (reply ≡ Refused refusal ∷ []) × (new ≡ old))
+
+-- what a request but DEBUG may change, where this database is selected; one that is refused changes nothing
 abbrev pub scope_meant : ℕ → Result Command Refusal → Scope
 scope_meant db (Ok command) = scope_of db command
 scope_meant db (Err refusal) = untouched
-
--- what the words of a request but DEBUG may change, where this database is selected; a request that is refused changes
--- nothing
-abbrev pub scope_asked : ℕ → Words → Scope
-scope_asked db words = scope_meant db (meant words)
 
 -- how a value is encoded that a request writes in a world
 abbrev pub form_meant : ℕ → World → Result Command Refusal → Form
@@ -154,7 +156,8 @@ AsksNoMoves (Err refusal) = Unit {0}
 -- ---- what a reply shows of the tables and values
 
 -- the same of what words mean: a refusal shows nothing
-abbrev pub ShowsMeant : {S : Type 0} → (S → Blocks) → Keyspace S → Keyspace S → Ctx → Result Command Refusal → List Part → Type 0
+abbrev pub ShowsMeant : {S : Type 0} → (S → Blocks) → Keyspace S → Keyspace S → Ctx → Result Command Refusal
+    → List Part → Type 0
 ShowsMeant blocks old new at (Ok command) reply = Shows blocks old new at command reply
 ShowsMeant blocks old new at (Err refusal) reply = Unit {0}
 
@@ -167,8 +170,9 @@ pub record Lost {V : Type 0} (m after : Blocks) (old new : Table V) : Type 0 whe
   pub stood : Stands m old at key
   pub gone : Lacks after new key
 
--- Each table that lost a key is settled: a rehash is going on in it, or it has no more than 4 buckets, or a tenth of its
--- buckets' number of elements at least.
+-- Each table that lost a key is settled: a rehash is going on in it, or it has no more than 4 buckets, or a tenth of
+-- its buckets' number of elements at least.
 pub record Settles (old new : Bases) (m after : Blocks) : Type 0 where
   pub keys : (db : ℕ) → Lost m after (table_at old db) (table_at new db) → IsSettled (tables (table_at new db))
-  pub deadlines : (db : ℕ) → Lost m after (deadlines_at old db).table (deadlines_at new db).table → IsSettled (tables (deadlines_at new db).table)
+  pub deadlines : (db : ℕ) → Lost m after (deadlines_at old db).table (deadlines_at new db).table
+      → IsSettled (tables (deadlines_at new db).table)

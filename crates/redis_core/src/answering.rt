@@ -1,15 +1,15 @@
 //! One request by its command's own function.
 
-ghost use Rattle.std.specs.Prelude.{◌≡◌, ℕ, IfOk, IfErr, IfSome, IfNone, IsTrue, IsFalse};
+ghost use Rattle.std.specs.Prelude.{◌≡◌, ℕ, Ok, IfOk, IfErr, IfSome, IfNone, IsTrue, IsFalse};
 ghost use Rattle.plain_model.specs.Outcomes.{IsRefusal};
 ghost use Rattle.redis_core.specs.Touched.{IsCommon, Settles};
 ghost use Rattle.redis_core.specs.Walking.{IsOpen, IsDefragged};
-ghost use Rattle.plain_model.specs.Meant.{IsAsked, is_quit};
+ghost use Rattle.plain_model.specs.Meant.{meant, IsAsked, is_quit};
 ghost use Rattle.plain_model.specs.declared.command.Command.TheVariants.{Connection};
 ghost use Rattle.keyspace.specs.Commands.{Ready, Runs};
 ghost use Rattle.keyspace.specs.Databases.{means, SameSettings};
 ghost use Rattle.keyspace.specs.Sound.{Sound};
-ghost use Rattle.redis_core.specs.Engines.{Leads, Answers, own_command, answered_with};
+ghost use Rattle.redis_core.specs.Engines.{Answers, own_command, answered_with};
 
 use crate::background::defragment;
 use crate::settling::{settle, touched_by};
@@ -176,7 +176,7 @@ fn run<B: BlockStore>(
     requires ready { Ready B.blocks keyspace.old at.now }
     requires walking { IsOpen walk.old }
     requires asked { IsAsked command.now }
-    ensures leads { Leads B.blocks B.heap B.step keyspace.old keyspace.new walk.old walk.new at.now command.now result }
+    ensures answers { Answers B.blocks B.heap B.step keyspace.old keyspace.new walk.old walk.new at.now (Ok command.now) result }
     ensures walking { IsOpen walk.new }
 {
     match own_of(command) {
@@ -205,7 +205,7 @@ pub fn answer<B: BlockStore>(
 ) -> Result<Answered, Memory>
     requires ready { Ready B.blocks keyspace.old at.now }
     requires walking { IsOpen walk.old }
-    ensures answers { Answers B.blocks B.heap B.step keyspace.old keyspace.new walk.old walk.new at.now request.now result }
+    ensures answers { Answers B.blocks B.heap B.step keyspace.old keyspace.new walk.old walk.new at.now (meant request.now) result }
     ensures walking { IsOpen walk.new }
 {
     let alloc = keyspace.alloc();

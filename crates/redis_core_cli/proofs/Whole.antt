@@ -15,7 +15,7 @@ use Rattle.serving.specs.Exactly as exactly
 use Rattle.serving.specs.Exactly.{NoReadFault, NoWriteFault, EndsWell, EndsWhole}
 use Rattle.serving.specs.declared.ending.Ended.{Ended}
 use Rattle.serving.proofs.Said.{ends_exactly, completes}
-use Rattle.redis_core_cli.specs.Given.{Options, Given, Wrong, Run, Outside}
+use Rattle.redis_core_cli.specs.Given.{Options, Given, Wrong, Run, Outside, LeavesAll}
 use Rattle.redis_core_cli.specs.Notes.{Notes, refused_line, line_of}
 use Rattle.redis_core_cli.specs.Running.{Fails, RunsOptions, begun, not_begun, RunsOf, RunsWords, read, unread}
 use Rattle.redis_core_cli.specs.Starting.{Standing, IsLoaded, BeginsWith, Begins, NotLoaded, NotBegun, UsesHost, is_host}
@@ -110,7 +110,7 @@ module _ (files : Files) (limit : ℕ) (name : List ℕ) (moment : ℕ) where
 
 -- ---- the clauses
 
-module _ (before after : Outside) (noted noted' : SinkSeen) (ending : Ending) (line : Notes noted noted' (line_of ending)) where
+module _ (before after : Outside) (ending : Ending) (line : Notes before.notes after.notes (line_of ending)) where
   abbrev Ran : Options → Type 0
   Ran options = RunsOptions Begins may_answer may_answer never standing_clock options before after ending
 
@@ -153,7 +153,7 @@ module _ (before after : Outside) (noted noted' : SinkSeen) (ending : Ending) (l
   }
 
   -- nothing was touched, and the status is none that counts
-  untouched_counts : (given : Given) → (status_of ending ≡ 4 → ⊥) → (status_of ending ≡ 5 → ⊥) → (status_of ending ≡ 6 → ⊥) → after ≡ before → CountsFaults given before after (status_of ending)
+  untouched_counts : (given : Given) → (status_of ending ≡ 4 → ⊥) → (status_of ending ≡ 5 → ⊥) → (status_of ending ≡ 6 → ⊥) → LeavesAll before after → CountsFaults given before after (status_of ending)
   untouched_counts given four five six same = record {
     read = stayed 4 (status_of ending) before.input.faults after.input.faults four (ap (λ o. o.input.faults) same);
     write = stayed 5 (status_of ending) before.output.faults after.output.faults five (ap (λ o. o.output.faults) same);
@@ -163,7 +163,7 @@ module _ (before after : Outside) (noted noted' : SinkSeen) (ending : Ending) (l
     no_file = λ none. ap (λ o. o.host) same;
   }
 
-  wrong_counts : ending ≡ endings.Usage → after ≡ before → CountsFaults Wrong before after (status_of ending)
+  wrong_counts : ending ≡ endings.Usage → LeavesAll before after → CountsFaults Wrong before after (status_of ending)
   wrong_counts is same =
       let one : status_of ending ≡ 1 = ap status_of is in
       untouched_counts Wrong (λ e. omega (arith, e, one)) (λ e. omega (arith, e, one)) (λ e. omega (arith, e, one)) same
@@ -193,20 +193,20 @@ module _ (before after : Outside) (noted noted' : SinkSeen) (ending : Ending) (l
   not_loaded_as options name is f = let P : Option (List ℕ) → Type 0 = λ o. NotBegun before.host.files options.max_input o f.moment ending in subst P is f.why
 
   refused : (options : Options) → Ran options → (name bytes : List ℕ) (what : LoadKind) (at : ℕ) → options.file ≡ Some name → IsTold before.host.files name bytes → length bytes ≤ options.max_input
-      → AtFirst before.clock (λ moment. IsFault bytes moment what at) → Excused (status_of ending) ⊎ ((status_of ending ≡ 7) × Notes noted noted' (refused_line what at))
+      → AtFirst before.clock (λ moment. IsFault bytes moment what at) → Excused (status_of ending) ⊎ ((status_of ending ≡ 7) × Notes before.notes after.notes (refused_line what at))
   refused options (begun first last ended b host s reads is) name bytes what at file t few fault =
       let l = loaded_as options name first file b in
       absurd (not_both l.bytes bytes first.last first.world what at (told_file before.host.files name bytes l.bytes t l.is) l.file (fault first.last first.clock b.moment))
   refused options (not_begun f) name bytes what at file t few fault =
-      refused_ends before.host.files options.max_input name f.moment noted noted' bytes what at t few (fault f.moment after.clock f.read) ending (not_loaded_as options name file f) line
+      refused_ends before.host.files options.max_input name f.moment before.notes after.notes bytes what at t few (fault f.moment after.clock f.read) ending (not_loaded_as options name file f) line
 
   -- the file that a refusal is of
-  refusal : (options : Options) (f : Fails options before after ending) (file : Option (List ℕ)) → options.file ≡ file → NotBegun before.host.files options.max_input file f.moment ending → (e : Ending) → ending ≡ e → status_of e ≡ 7 → IsRefused (Run options) before noted noted'
+  refusal : (options : Options) (f : Fails options before after ending) (file : Option (List ℕ)) → options.file ≡ file → NotBegun before.host.files options.max_input file f.moment ending → (e : Ending) → ending ≡ e → status_of e ≡ 7 → IsRefused (Run options) before after
   refusal options f None is n e same seven = absurd (omega (arith, ap status_of (sym n ∙ same), seven))
   refusal options f (Some name) is n (endings.Refused what at) same seven =
       let N : Ending → Type 0 = λ x. NotLoaded before.host.files options.max_input name f.moment x in
-      let L : Ending → Type 0 = λ x. Notes noted noted' (line_of x) in
-      record { options = options; name = name; given_is = refl; file_is = is; what = what; at = at; moment = f.moment; after = after.clock; read = f.read; refused = subst N same n; line = subst L same line }
+      let L : Ending → Type 0 = λ x. Notes before.notes after.notes (line_of x) in
+      record { options = options; name = name; given_is = refl; file_is = is; what = what; at = at; moment = f.moment; clock = after.clock; read = f.read; refused = subst N same n; line = subst L same line }
   refusal options f (Some name) is n endings.Host same seven = absurd (omega (arith, seven))
   refusal options f (Some name) is n endings.Limit same seven = absurd (omega (arith, seven))
   refusal options f (Some name) is n endings.Memory same seven = absurd (omega (arith, seven))
@@ -218,7 +218,7 @@ module _ (before after : Outside) (noted noted' : SinkSeen) (ending : Ending) (l
   refusal options f (Some name) is n endings.ReadFault same seven = absurd (omega (arith, seven))
   refusal options f (Some name) is n endings.WriteFault same seven = absurd (omega (arith, seven))
 
-  refused_alone : (given : Given) → RanOf given → status_of ending ≡ 7 → IsRefused given before noted noted'
+  refused_alone : (given : Given) → RanOf given → status_of ending ≡ 7 → IsRefused given before after
   refused_alone Wrong r e = absurd (omega (arith, ap status_of r.0, e))
   refused_alone (Run options) (begun first last ended b host s reads is) e = absurd (not_served ended 7 refl (ap status_of (sym is) ∙ e))
   refused_alone (Run options) (not_begun f) e = refusal options f options.file refl f.why ending refl e
@@ -242,7 +242,7 @@ module _ (before after : Outside) (noted noted' : SinkSeen) (ending : Ending) (l
   served options (begun first last ended b host s reads is) can = inr (ended, ap status_of is, ends_exactly (may_answer options first) (may_answer options first) quits never options.max_input before.input after.input before.output after.output last ended s)
   served options (not_begun f) can = inl (could_begin options f options.file can f.why)
 
-  exactly_of : (given : Given) → RanOf given → Exactly given before after noted noted' (status_of ending)
+  exactly_of : (given : Given) → RanOf given → Exactly given before after (status_of ending)
   exactly_of given r = record {
     wrong = λ e. let P : Given → Type 0 = RanOf in inl (ap status_of (subst P e r).0);
     wrong_alone = wrong_alone given r;
@@ -253,7 +253,7 @@ module _ (before after : Outside) (noted noted' : SinkSeen) (ending : Ending) (l
     served = λ options e. served options (ran_as given options r e);
   }
 
-  exactly_read : (given : Given) → ReadOf given → Exactly given before after noted noted' (status_of ending)
+  exactly_read : (given : Given) → ReadOf given → Exactly given before after (status_of ending)
   exactly_read given (read r) = exactly_of given r
   exactly_read given (unread same is) =
       let eight : status_of ending ≡ 8 = ap status_of is in
@@ -310,17 +310,17 @@ module _ (before after : Outside) (noted noted' : SinkSeen) (ending : Ending) (l
 
   -- the same of the status that is answered
   module _ (given : Given) (r : ReadOf given) (status : ℕ) (is : status ≡ status_of ending) where
-    pub concludes_as : Concludes given before after noted noted' status
+    pub concludes_as : Concludes given before after status
     concludes_as = record { ending = ending; is = is; run = r; line = line }
 
     pub counts_as : CountsFaults given before after status
     counts_as = let P : ℕ → Type 0 = λ s. CountsFaults given before after s in subst P (sym is) (counts_read given r)
 
-    pub exactly_as : Exactly given before after noted noted' status
-    exactly_as = let P : ℕ → Type 0 = λ s. Exactly given before after noted noted' s in subst P (sym is) (exactly_read given r)
+    pub exactly_as : Exactly given before after status
+    exactly_as = let P : ℕ → Type 0 = λ s. Exactly given before after s in subst P (sym is) (exactly_read given r)
 
     pub completes_as : Completes given before after status
     completes_as = let P : ℕ → Type 0 = λ s. Completes given before after s in subst P (sym is) (completes_read given r)
 
-    pub notes_as : NotesStatus noted noted' status
+    pub notes_as : NotesStatus before after status
     notes_as = record { ending = ending; is = is; line = line }

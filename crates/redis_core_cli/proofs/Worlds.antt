@@ -3,7 +3,6 @@ use Rattle.std.proofs.Common.{◌≡◌, ◌⊎◌, inl, inr, ℕ, List, [], ◌
 use Rattle.class_heap.specs.Heap.{heap_blocks, heap_slabs, IsClassHeapStep}
 use Rattle.outside.specs.Clocks.{Answers, Tells}
 use Rattle.outside.specs.Pacing.{PacerSeen, tuned}
-use Rattle.outside.specs.Streams.{SourceSeen, SinkSeen}
 use Rattle.outside.specs.declared.pacing.Plan.{Plan}
 use Rattle.keyspace.specs.Databases.{means}
 use Rattle.plain_world.specs.Words.{Words}
@@ -12,6 +11,7 @@ use Rattle.plain_world.specs.declared.reply.Part.{Part}
 use Rattle.plain_model.specs.Runs.{Turn, run, calls_of, replies_of, moment_after}
 use Rattle.plain_model.specs.Steps.{step}
 use Rattle.plain_model.proofs.Covered.{runs_covered}
+use Rattle.redis_core.proofs.Steps.{executes_step}
 use Rattle.redis_core.specs.Background.{EngineRests}
 use Rattle.redis_core.specs.Engines.{Executes, quits}
 use Rattle.redis_core.specs.declared.background.StepsDone.{StepsDone}
@@ -26,7 +26,7 @@ use Rattle.redis_core_cli.specs.Engines.{Engine, world_of, IsFirst}
 use Rattle.redis_core_cli.specs.Given.{Options, Given, Wrong, Run, Outside}
 use Rattle.redis_core_cli.specs.WordsRead.{options_read, given_read}
 use Rattle.redis_core_cli.specs.Headline.{Clocked, MayAnswer, may_answer, never, standing_clock}
-use Rattle.redis_core_cli.specs.Lent.{Goes, AnswersLent, Lent}
+use Rattle.redis_core_cli.specs.Lent.{Streams, Goes, AnswersLent, Lent}
 use Rattle.redis_core_cli.specs.Notes.{Notes, line_of}
 use Rattle.redis_core_cli.specs.Running as running
 use Rattle.redis_core_cli.specs.Running.{RunsOptions, begun, not_begun, RunsOf, RunsWords, unread, ReadsNoMore}
@@ -52,8 +52,8 @@ answered_turn moment first words reply next a = record {
   now = a.read.now;
   read = a.read.read;
   moment = a.answers.last ∙ ap (max first.engine.last) a.read.is;
-  ran = a.answers.may;
-  seed = a.answers.keeps.settings.seed;
+  ran = executes_step heap_blocks heap_slabs IsClassHeapStep moment first.engine words reply next.engine a.answers;
+  seed = a.answers.answers.stands.settings.seed;
   alive = a.answers.alive;
 }
 
@@ -156,25 +156,25 @@ reads_none served.Memory clock = tt
 reads_none served.WriteFault clock = tt
 
 -- a run of the engine is one of its worlds
-pub run_seen : (pacers : List PacerSeen) (options : Options) (before after : Outside) (ending : Ending) → RunsOptions (BeginsEngine pacers) goes goes_cut is_spent engine_clock options before after ending → RunsOptions Begins may_answer may_answer never standing_clock options before after ending
-run_seen pacers options before after ending (begun first last ended b host s reads is) =
+pub run_seen : (options : Options) (before after : Outside) (ending : Ending) → RunsOptions BeginsEngine goes goes_cut is_spent engine_clock options before after ending → RunsOptions Begins may_answer may_answer never standing_clock options before after ending
+run_seen options before after ending (begun first last ended b host s reads is) =
     let w = served_as (goes options first) (goes_cut options first) (may_answer options (standing_of first)) (may_answer options (standing_of first)) quits is_spent never standing_of (λ asked replies last p. path_answers options.seed asked replies first last b.is.seed_is p)
     (λ asked replies last p. cut_answers options.seed asked replies first last b.is.seed_is p) options.max_input before.input after.input before.output after.output last ended s in
     running.begun (standing_of first) w.0 ended b.begins host w.1 (reads_seen last w.0 ended after.clock w.2 reads) is
-run_seen pacers options before after ending (not_begun f) = running.not_begun f
+run_seen options before after ending (not_begun f) = running.not_begun f
 
-pub run_of_seen : (pacers : List PacerSeen) (given : Given) (before after : Outside) (ending : Ending) → RunsEngine pacers given before after ending → RunsOf Begins may_answer may_answer never standing_clock given before after ending
-run_of_seen pacers Wrong before after ending r = r
-run_of_seen pacers (Run options) before after ending r = run_seen pacers options before after ending r
+pub run_of_seen : (given : Given) (before after : Outside) (ending : Ending) → RunsEngine given before after ending → RunsOf Begins may_answer may_answer never standing_clock given before after ending
+run_of_seen Wrong before after ending r = r
+run_of_seen (Run options) before after ending r = run_seen options before after ending r
 
-pub run_words_seen : (pacers : List PacerSeen) (given : Given) (before after : Outside) (ending : Ending) → RunsWords (BeginsEngine pacers) goes goes_cut is_spent engine_clock given before after ending → RunsWords Begins may_answer may_answer never standing_clock given before after ending
-run_words_seen pacers given before after ending (running.read r) = running.read (run_of_seen pacers given before after ending r)
-run_words_seen pacers given before after ending (unread same is) = running.unread same is
+pub run_words_seen : (given : Given) (before after : Outside) (ending : Ending) → RunsWords BeginsEngine goes goes_cut is_spent engine_clock given before after ending → RunsWords Begins may_answer may_answer never standing_clock given before after ending
+run_words_seen given before after ending (running.read r) = running.read (run_of_seen given before after ending r)
+run_words_seen given before after ending (unread same is) = running.unread same is
 
 -- an engine begins the run, at the moment that was read
-pub begins_engine : (pacers : List PacerSeen) (options : Options) (before : Outside) (engine : Engine) (clock : Option Answers) (moment : ℕ) (paced : List PacerSeen) → ReadsMoment before.clock clock moment → BeginsWith before.host.files options.max_input options.file moment (world_of engine)
-    → IsFirst options.seed options.limits engine → engine.last ≡ moment → paced ≡ map (λ p. tuned p options.effort) pacers → BeginsEngine pacers options before (record { engine = engine; clock = clock; pacers = paced })
-begins_engine pacers options before engine clock moment paced read world first last is =
+pub begins_engine : (options : Options) (before : Outside) (engine : Engine) (clock : Option Answers) (moment : ℕ) (paced : List PacerSeen) → ReadsMoment before.clock clock moment → BeginsWith before.host.files options.max_input options.file moment (world_of engine)
+    → IsFirst options.seed options.limits engine → engine.last ≡ moment → paced ≡ map (λ p. tuned p options.effort) before.pacers → BeginsEngine options before (record { engine = engine; clock = clock; pacers = paced })
+begins_engine options before engine clock moment paced read world first last is =
     let W : ℕ → Type 0 = λ m. BeginsWith before.host.files options.max_input options.file m (world_of engine) in
     record { begins = record { moment = subst (ReadsMoment before.clock clock) (sym last) read; world = subst W (sym last) world }; is = first; paced = is }
 
@@ -187,12 +187,12 @@ conducted {P = P} seen all given front effort are none = ap (λ n. map (λ p. se
     map_both (p ∷ ps) = ap (λ l. tuned (seen p) effort ∷ l) (map_both ps)
 
 -- what finishes with the options that were read is what was given
-pub finishes_as : (pacers : List PacerSeen) (given read : Given) (before after : Outside) (noted noted' : SinkSeen) (ending : Ending) → given ≡ read → RunsNoted pacers read before after noted noted' ending → RunsNoted pacers given before after noted noted' ending
-finishes_as pacers given read before after noted noted' ending e f = let P : Given → Type 0 = λ g. RunsNoted pacers g before after noted noted' ending in subst P (sym e) f
+pub finishes_as : (given read : Given) (before after : Outside) (ending : Ending) → given ≡ read → RunsNoted read before after ending → RunsNoted given before after ending
+finishes_as given read before after ending e f = let P : Given → Type 0 = λ g. RunsNoted g before after ending in subst P (sym e) f
 
 -- a run with the options that were read is one of what was given
-pub run_read : (pacers : List PacerSeen) (given : words.Given) (options : words_options.Options) (before after : Outside) (noted noted' : SinkSeen) (ending : Ending) → given ≡ read.Run options → RunsNoted pacers (Run (options_read options)) before after noted noted' ending → RunsNoted pacers (given_read given) before after noted noted' ending
-run_read pacers given options before after noted noted' ending e f = let P : words.Given → Type 0 = λ g. RunsNoted pacers (given_read g) before after noted noted' ending in subst P (sym e) f
+pub run_read : (given : words.Given) (options : words_options.Options) (before after : Outside) (ending : Ending) → given ≡ read.Run options → RunsNoted (Run (options_read options)) before after ending → RunsNoted (given_read given) before after ending
+run_read given options before after ending e f = let P : words.Given → Type 0 = λ g. RunsNoted (given_read g) before after ending in subst P (sym e) f
 
 -- ---- an engine that is lent
 
@@ -203,12 +203,12 @@ turned_alive [] (reply ∷ replies) first last alive p = absurd p
 turned_alive (words ∷ asked) [] first last alive p = absurd p
 turned_alive (words ∷ asked) (reply ∷ replies) first last alive p = turned_alive asked replies p.0 last p.1.alive p.2
 
-module _ (limit : ℕ) (i i1 : SourceSeen) (o o1 noted noted' : SinkSeen) (first last : Timed Engine) (ended : Ended) (goes : Goes limit i i1 o o1 first last ended) where
-  lent_answers : AnswersLent limit i i1 o o1 first last ended
+module _ (limit : ℕ) (before after : Streams) (first last : Timed Engine) (ended : Ended) (goes : Goes limit before after first last ended) where
+  lent_answers : AnswersLent limit before after first last ended
   lent_answers =
       let seed = first.engine.bases.seed in
       let w = served_as (path Steps first) (CutPath Steps StepsLast first) (MayAnswer seed (standing_of first)) (MayAnswer seed (standing_of first)) quits is_spent never standing_of (λ asked replies last p. path_answers seed asked replies first last refl p)
-      (λ asked replies last p. cut_answers seed asked replies first last refl p) limit i i1 o o1 last ended goes in
+      (λ asked replies last p. cut_answers seed asked replies first last refl p) limit before.input after.input before.output after.output last ended goes in
       record { seen = w.0; answers = w.1; left = w.2 }
 
   -- it is spent only where memory wanted or the output failed
@@ -220,7 +220,7 @@ module _ (limit : ℕ) (i i1 : SourceSeen) (o o1 noted noted' : SinkSeen) (first
     | no_memory a is ↦ inl (ap (λ e. status_of (ending_of e)) is)
   ]
 
-  pub lent : (ending : Ending) (status : ℕ) → Notes noted noted' (line_of (ending_of ended)) → first.engine.is_spent ≡ false → ending ≡ ending_of ended → status ≡ status_of ending → Lent limit i i1 o o1 noted noted' first last status
+  pub lent : (ending : Ending) (status : ℕ) → Notes before.notes after.notes (line_of (ending_of ended)) → first.engine.is_spent ≡ false → ending ≡ ending_of ended → status ≡ status_of ending → Lent limit before after first last status
   lent ending status line alive is of = record {
     ended = ended;
     is = of ∙ ap status_of is;

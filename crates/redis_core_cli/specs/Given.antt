@@ -1,5 +1,5 @@
 -- What a run is given: what its words ask for, and what stands outside.
-use Rattle.std.specs.Prelude.{ℕ, ◌^◌, ◌-◌, nat_le, List, [], ◌∷◌, map, fold, Option, Some, Bool, true, ◌&&◌, codes, if◌then◌else◌}
+use Rattle.std.specs.Prelude.{◌≡◌, ℕ, ◌^◌, ◌-◌, nat_le, List, [], ◌∷◌, map, fold, Option, Some, Bool, true, ◌&&◌, codes, if◌then◌else◌}
 use Rattle.std.specs.List.{list_all}
 use Rattle.std.specs.Option.{option_map_or}
 use Rattle.std.specs.Str.Parse.{digits_value}
@@ -10,6 +10,7 @@ use Rattle.clap.specs.Walk.{Row, first_of, is_empty}
 use Rattle.object_codec.specs.declared.limits.Limits.{Limits}
 use Rattle.outside.specs.Clocks.{Answers}
 use Rattle.outside.specs.Files.{HostSeen}
+use Rattle.outside.specs.Pacing.{PacerSeen}
 use Rattle.outside.specs.Streams.{SourceSeen, SinkSeen}
 
 -- the name of the file that is loaded, where there is one; the seed of hashes and random picks; the effort of
@@ -129,9 +130,16 @@ given_of rows = if list_all (is_right rows) numbers then Run (options_of rows) e
 unfoldable pub given_by : List (List ℕ) → Given
 given_by words = if is_empty (fault_of command words) then given_of (matches_of command words) else Wrong
 
--- the host of files, the input, the output, and the answers of the clock that follow, where they are told
+-- the host of files, the input, the output, the notes, the answers of the clock that follow, where they are told, and
+-- the pacers, which a run takes
 pub record Outside : Type 0 where
   pub host : HostSeen
   pub input : SourceSeen
   pub output : SinkSeen
+  pub notes : SinkSeen
   pub clock : Option Answers
+  pub pacers : List PacerSeen
+
+-- nothing was touched but the notes and the pacers
+abbrev pub LeavesAll : Outside → Outside → Type 0
+LeavesAll before after = after ≡ record before { notes = after.notes; pacers = after.pacers }

@@ -3,7 +3,6 @@ use Rattle.std.specs.Prelude.{◌≡◌, ℕ, ◌≤◌, ◌<◌, List, [], ◌�
 use Rattle.outside.specs.Clocks.{Answers, Tells}
 use Rattle.outside.specs.Counts.{Rose}
 use Rattle.outside.specs.Files.{Files, IsListed}
-use Rattle.outside.specs.Streams.{SinkSeen}
 use Rattle.plain_world.specs.Worlds.{World}
 use Rattle.plain_world.specs.Words.{Words}
 use Rattle.plain_world.specs.declared.reply.Part.{Part}
@@ -57,11 +56,11 @@ abbrev pub standing_clock : Standing → Option Answers
 standing_clock standing = standing.clock
 
 -- the headline: a run, with its line in the notes, where the status alone is answered
-pub record Concludes (given : Given) (before after : Outside) (noted noted' : SinkSeen) (status : ℕ) : Type 0 where
+pub record Concludes (given : Given) (before after : Outside) (status : ℕ) : Type 0 where
   pub ending : Ending
   pub is : status ≡ status_of ending
   pub run : RunsWords Begins may_answer may_answer never standing_clock given before after ending
-  pub line : Notes noted noted' (line_of ending)
+  pub line : Notes before.notes after.notes (line_of ending)
 
 -- a count rose where a status came, and stayed where another did
 pub record RoseAt (which status before after : ℕ) : Type 0 where
@@ -85,10 +84,10 @@ pub record CountsFaults (given : Given) (before after : Outside) (status : ℕ) 
   pub no_file : NamesNoFile given → after.host ≡ before.host
 
 -- the line of an ending of this status is put, or a front of it where the notes failed
-pub record NotesStatus (noted noted' : SinkSeen) (status : ℕ) : Type 0 where
+pub record NotesStatus (before after : Outside) (status : ℕ) : Type 0 where
   pub ending : Ending
   pub is : status ≡ status_of ending
-  pub line : Notes noted noted' (line_of ending)
+  pub line : Notes before.notes after.notes (line_of ending)
 
 -- the host tells that the name has this file
 abbrev pub IsTold : Files → List ℕ → List ℕ → Type 0
@@ -121,7 +120,7 @@ abbrev pub Excused : ℕ → Type 0
 Excused status = (status ≡ 6) ⊎ (status ≡ 8)
 
 -- the file of the run is refused by this first fault, and its line says so
-pub record IsRefused (given : Given) (before : Outside) (noted noted' : SinkSeen) : Type 0 where
+pub record IsRefused (given : Given) (before after : Outside) : Type 0 where
   pub options : Options
   pub name : List ℕ
   pub given_is : given ≡ Run options
@@ -129,21 +128,21 @@ pub record IsRefused (given : Given) (before : Outside) (noted noted' : SinkSeen
   pub what : LoadKind
   pub at : ℕ
   pub moment : ℕ
-  pub after : Option Answers
-  pub read : ReadsMoment before.clock after moment
+  pub clock : Option Answers
+  pub read : ReadsMoment before.clock clock moment
   pub refused : RefusesFile before.host.files name options.max_input moment what at
-  pub line : Notes noted noted' (refused_line what at)
+  pub line : Notes before.notes after.notes (refused_line what at)
 
 -- exactly when each status comes, unless the host failed or memory wanted
-pub record Exactly (given : Given) (before after : Outside) (noted noted' : SinkSeen) (status : ℕ) : Type 0 where
+pub record Exactly (given : Given) (before after : Outside) (status : ℕ) : Type 0 where
   pub wrong : given ≡ Wrong → (status ≡ 1) ⊎ (status ≡ 8)
   pub wrong_alone : status ≡ 1 → given ≡ Wrong
   -- a file of at most the limit's bytes with this first fault
   pub refused : (options : Options) (name bytes : List ℕ) (what : LoadKind) (at : ℕ) → given ≡ Run options
       → options.file ≡ Some name → IsTold before.host.files name bytes → length bytes ≤ options.max_input
       → AtFirst before.clock (λ moment. IsFault bytes moment what at)
-      → Excused status ⊎ ((status ≡ 7) × Notes noted noted' (refused_line what at))
-  pub refused_alone : status ≡ 7 → IsRefused given before noted noted'
+      → Excused status ⊎ ((status ≡ 7) × Notes before.notes after.notes (refused_line what at))
+  pub refused_alone : status ≡ 7 → IsRefused given before after
   -- a file of more bytes than the limit
   pub long : (options : Options) (name bytes : List ℕ) → given ≡ Run options → options.file ≡ Some name
       → IsTold before.host.files name bytes → options.max_input < length bytes → Excused status ⊎ (status ≡ 9)

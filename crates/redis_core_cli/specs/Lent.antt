@@ -14,32 +14,37 @@ use Rattle.redis_core_cli.specs.Starting.{Standing}
 use Rattle.redis_core_cli.specs.Statuses.{status_of, ending_of}
 use Rattle.redis_core_cli.specs.Stepped.{standing_of, Steps, StepsLast, is_spent}
 
+-- the input, the output and the notes
+pub record Streams : Type 0 where
+  pub input : SourceSeen
+  pub output : SinkSeen
+  pub notes : SinkSeen
+
 -- the replies are those of the way from this engine to the one that is left
-abbrev pub Goes : ℕ → SourceSeen → SourceSeen → SinkSeen → SinkSeen → Timed Engine → Timed Engine → Ended → Type 0
-Goes limit input input' output output' first last ended =
-    Served (path Steps first) (CutPath Steps StepsLast first) quits is_spent limit input input' output output' last ended
+abbrev pub Goes : ℕ → Streams → Streams → Timed Engine → Timed Engine → Ended → Type 0
+Goes limit before after first last ended =
+    Served (path Steps first) (CutPath Steps StepsLast first) quits is_spent limit
+    before.input after.input before.output after.output last ended
 
 -- the same, with the line of its end in the notes
-pub record GoesNoted (limit : ℕ) (input input' : SourceSeen) (output output' noted noted' : SinkSeen)
-    (first last : Timed Engine) (ended : Ended) : Type 0 where
-  pub goes : Goes limit input input' output output' first last ended
-  pub line : Notes noted noted' (line_of (ending_of ended))
+pub record GoesNoted (limit : ℕ) (before after : Streams) (first last : Timed Engine) (ended : Ended) : Type 0 where
+  pub goes : Goes limit before after first last ended
+  pub line : Notes before.notes after.notes (line_of (ending_of ended))
 
 -- A plain map that begins with what the engine holds may answer so, and holds in the end what the engine that is left
 -- holds at the moment that it used last, unless the output failed or memory wanted.
-pub record AnswersLent (limit : ℕ) (input input' : SourceSeen) (output output' : SinkSeen) (first last : Timed Engine)
-    (ended : Ended) : Type 0 where
+pub record AnswersLent (limit : ℕ) (before after : Streams) (first last : Timed Engine) (ended : Ended) : Type 0 where
   pub seen : Standing
   pub answers : Served (MayAnswer first.engine.bases.seed (standing_of first))
-      (MayAnswer first.engine.bases.seed (standing_of first)) quits never limit input input' output output' seen ended
+      (MayAnswer first.engine.bases.seed (standing_of first)) quits never limit
+      before.input after.input before.output after.output seen ended
   pub left : (ended ≡ served.WriteFault) ⊎ ((ended ≡ served.Memory) ⊎ (seen ≡ standing_of last))
 
 -- what `serve` answers
-pub record Lent (limit : ℕ) (input input' : SourceSeen) (output output' noted noted' : SinkSeen)
-    (first last : Timed Engine) (status : ℕ) : Type 0 where
+pub record Lent (limit : ℕ) (before after : Streams) (first last : Timed Engine) (status : ℕ) : Type 0 where
   pub ended : Ended
   pub is : status ≡ status_of (ending_of ended)
-  pub goes : GoesNoted limit input input' output output' noted noted' first last ended
-  pub answers : AnswersLent limit input input' output output' first last ended
+  pub goes : GoesNoted limit before after first last ended
+  pub answers : AnswersLent limit before after first last ended
   -- memory was refused to the engine only where the status says that it wanted, or that the output failed
   pub spent : is_spent last ≡ true → (status ≡ 8) ⊎ (status ≡ 5)

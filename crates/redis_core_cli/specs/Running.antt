@@ -8,7 +8,7 @@ use Rattle.serving.specs.Served.{Served}
 use Rattle.serving.specs.Timed.{ReadsMoment}
 use Rattle.serving.specs.declared.ending.Ended.{Ended}
 use Rattle.serving.specs.declared.ending.Ended.TheVariants as served
-use Rattle.redis_core_cli.specs.Given.{Options, Given, Wrong, Run, Outside}
+use Rattle.redis_core_cli.specs.Given.{Options, Given, Wrong, Run, Outside, LeavesAll}
 use Rattle.redis_core_cli.specs.Starting.{NotBegun, UsesHost, is_host}
 use Rattle.redis_core_cli.specs.Statuses.{ending_of}
 use Rattle.redis_core_cli.specs.declared.ending.Ending.{Ending}
@@ -38,17 +38,18 @@ module _ {E : Type 0} (Begins : Options → Outside → E → Type 0)
   pub data RunsOptions (options : Options) (before after : Outside) (ending : Ending) : Type 0 where
     begun : (first last : E) (ended : Ended) → Begins options before first
         → UsesHost options.file before.host after.host false
-        → Served (Allowed options first) (AllowedCut options first) quits spent options.max_input before.input after.input
-        before.output after.output last ended
-        → ReadsNoMore ended (clock_of last) after.clock → ending ≡ ending_of ended → RunsOptions options before after ending
+        → Served (Allowed options first) (AllowedCut options first) quits spent options.max_input
+        before.input after.input before.output after.output last ended
+        → ReadsNoMore ended (clock_of last) after.clock → ending ≡ ending_of ended
+        → RunsOptions options before after ending
     not_begun : Fails options before after ending → RunsOptions options before after ending
 
   -- wrong words touch nothing
   abbrev pub RunsOf : Given → Outside → Outside → Ending → Type 0
-  RunsOf Wrong before after ending = (ending ≡ endings.Usage) × (after ≡ before)
+  RunsOf Wrong before after ending = (ending ≡ endings.Usage) × LeavesAll before after
   RunsOf (Run options) before after ending = RunsOptions options before after ending
 
   -- the words are read, or memory wants, which touches nothing
   pub data RunsWords (given : Given) (before after : Outside) (ending : Ending) : Type 0 where
     read : RunsOf given before after ending → RunsWords given before after ending
-    unread : after ≡ before → ending ≡ endings.Memory → RunsWords given before after ending
+    unread : LeavesAll before after → ending ≡ endings.Memory → RunsWords given before after ending

@@ -1,8 +1,7 @@
 -- A run, as its engine takes it.
 use Rattle.std.specs.Prelude.{◌≡◌, ◌⊎◌, ℕ, List, map, Option, Bool, true, false}
 use Rattle.outside.specs.Clocks.{Answers}
-use Rattle.outside.specs.Pacing.{PacerSeen, tuned}
-use Rattle.outside.specs.Streams.{SourceSeen, SinkSeen}
+use Rattle.outside.specs.Pacing.{tuned}
 use Rattle.outside.specs.declared.pacing.Plan.{Plan}
 use Rattle.class_heap.specs.Heap.{heap_blocks, heap_slabs, IsClassHeapStep}
 use Rattle.plain_world.specs.Words.{Words}
@@ -41,11 +40,10 @@ StepsLast = TimedCut (Executes heap_blocks heap_slabs IsClassHeapStep) works qui
 
 -- The run begins with an engine that holds the world and has the seed and the limits, sound over a store that was
 -- served from the first block on. Each pacer was tuned to the effort.
-pub record BeginsEngine (pacers : List PacerSeen) (options : Options) (before : Outside) (first : Timed Engine)
-    : Type 0 where
+pub record BeginsEngine (options : Options) (before : Outside) (first : Timed Engine) : Type 0 where
   pub begins : Begins options before (standing_of first)
   pub is : IsFirst options.seed options.limits first.engine
-  pub paced : first.pacers ≡ map (λ p. tuned p options.effort) pacers
+  pub paced : first.pacers ≡ map (λ p. tuned p options.effort) before.pacers
 
 -- the replies are those of the engine's way
 abbrev pub goes : Options → Timed Engine → List Words → List (List Part) → Timed Engine → Type 0
@@ -63,17 +61,16 @@ abbrev pub engine_clock : Timed Engine → Option Answers
 engine_clock timed = timed.clock
 
 -- what is given runs on the engine
-abbrev pub RunsEngine : List PacerSeen → Given → Outside → Outside → Ending → Type 0
-RunsEngine pacers = RunsOf (BeginsEngine pacers) goes goes_cut is_spent engine_clock
+abbrev pub RunsEngine : Given → Outside → Outside → Ending → Type 0
+RunsEngine = RunsOf BeginsEngine goes goes_cut is_spent engine_clock
 
 -- the same, with its line in the notes
-pub record RunsNoted (pacers : List PacerSeen) (given : Given) (before after : Outside) (noted noted' : SinkSeen)
-    (ending : Ending) : Type 0 where
-  pub run : RunsEngine pacers given before after ending
-  pub line : Notes noted noted' (line_of ending)
+pub record RunsNoted (given : Given) (before after : Outside) (ending : Ending) : Type 0 where
+  pub run : RunsEngine given before after ending
+  pub line : Notes before.notes after.notes (line_of ending)
 
 -- the same of the ending of this status
-pub record StepsStatus (pacers : List PacerSeen) (given : Given) (before after : Outside) (status : ℕ) : Type 0 where
+pub record StepsStatus (given : Given) (before after : Outside) (status : ℕ) : Type 0 where
   pub ending : Ending
   pub is : status ≡ status_of ending
-  pub run : RunsWords (BeginsEngine pacers) goes goes_cut is_spent engine_clock given before after ending
+  pub run : RunsWords BeginsEngine goes goes_cut is_spent engine_clock given before after ending

@@ -23,7 +23,8 @@ pub fn serve_noted<I: Source, O: Sink, N: Sink>(
     limit: u64,
 ) -> Ended
     requires { limit ≤ 2 ^ 62 }
-    ensures { GoesNoted limit (I.seen input.old) (I.seen input.new) (O.seen output.old) (O.seen output.new) (N.seen notes.old) (N.seen notes.new) (record { engine = engine.old; clock = answers clock.old; pacers = map (λ b. (⟦<dyn Pacer as Pacer>⟧ b.vtable).seen b.value) (drop conductor.old.front conductor.old.pacers.items) })
+    ensures { GoesNoted limit (record { input = I.seen input.old; output = O.seen output.old; notes = N.seen notes.old }) (record { input = I.seen input.new; output = O.seen output.new; notes = N.seen notes.new })
+        (record { engine = engine.old; clock = answers clock.old; pacers = map (λ b. (⟦<dyn Pacer as Pacer>⟧ b.vtable).seen b.value) (drop conductor.old.front conductor.old.pacers.items) })
         (record { engine = engine.new; clock = answers clock.new; pacers = map (λ b. (⟦<dyn Pacer as Pacer>⟧ b.vtable).seen b.value) (drop conductor.new.front conductor.new.pacers.items) }) result }
 {
     let ended = serve_input(alloc, engine, clock, conductor, input, output, limit);
@@ -48,7 +49,8 @@ pub fn serve<I: Source, O: Sink, N: Sink>(
     requires alive { engine.old.is_spent ≡ false }
     requires some { 0 < limit }
     requires most { limit ≤ 2 ^ 62 }
-    ensures { Lent limit (I.seen input.old) (I.seen input.new) (O.seen output.old) (O.seen output.new) (N.seen notes.old) (N.seen notes.new) (record { engine = engine.old; clock = answers clock.old; pacers = map (λ b. (⟦<dyn Pacer as Pacer>⟧ b.vtable).seen b.value) (drop conductor.old.front conductor.old.pacers.items) })
+    ensures { Lent limit (record { input = I.seen input.old; output = O.seen output.old; notes = N.seen notes.old }) (record { input = I.seen input.new; output = O.seen output.new; notes = N.seen notes.new })
+        (record { engine = engine.old; clock = answers clock.old; pacers = map (λ b. (⟦<dyn Pacer as Pacer>⟧ b.vtable).seen b.value) (drop conductor.old.front conductor.old.pacers.items) })
         (record { engine = engine.new; clock = answers clock.new; pacers = map (λ b. (⟦<dyn Pacer as Pacer>⟧ b.vtable).seen b.value) (drop conductor.new.front conductor.new.pacers.items) }) result }
 {
     served_to(serve_noted(alloc, engine, input, output, notes, clock, conductor, limit)).status()

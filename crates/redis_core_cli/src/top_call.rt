@@ -1,6 +1,6 @@
 //! The top call.
 
-ghost use Rattle.std.specs.Prelude.{◌≡◌, ◌^◌, ◌≤◌, map, string_bytes};
+ghost use Rattle.std.specs.Prelude.{◌≡◌, ◌^◌, ◌≤◌, [], map, string_bytes};
 ghost use Rattle.object_codec.specs.Limits.{AreInRange};
 ghost use Rattle.redis_core_cli.specs.Given.{given_by};
 ghost use Rattle.redis_core_cli.specs.WordsRead.{AreTaken, given_read, options_read};
@@ -30,8 +30,8 @@ fn run<H: Host, I: Source, O: Sink, N: Sink>(
 ) -> Ending
     requires limits { AreInRange options.limits }
     requires limit { options.max_input ≤ 2 ^ 62 }
-    ensures { RunsNoted (map (λ b. (⟦<dyn Pacer as Pacer>⟧ b.vtable).seen b.value) pacers.items) (Run (options_read options.entry)) (record { host = H.seen host.old; input = I.seen input.old; output = O.seen output.old; clock = answers clock.old })
-        (record { host = H.seen host.new; input = I.seen input.new; output = O.seen output.new; clock = answers clock.new }) (N.seen notes.old) (N.seen notes.new) result }
+    ensures { RunsNoted (Run (options_read options.entry)) (record { host = H.seen host.old; input = I.seen input.old; output = O.seen output.old; notes = N.seen notes.old; clock = answers clock.old; pacers = map (λ b. (⟦<dyn Pacer as Pacer>⟧ b.vtable).seen b.value) pacers.items })
+        (record { host = H.seen host.new; input = I.seen input.new; output = O.seen output.new; notes = N.seen notes.new; clock = answers clock.new; pacers = [] }) result }
 {
     let moment = moment_of(clock);
     match start(alloc, options, host, moment) {
@@ -67,8 +67,8 @@ pub fn run_given<H: Host, I: Source, O: Sink, N: Sink>(
     pacers: Vec<Box<dyn Pacer>>,
 ) -> Ending
     requires { AreTaken given }
-    ensures { RunsNoted (map (λ b. (⟦<dyn Pacer as Pacer>⟧ b.vtable).seen b.value) pacers.items) (given_read given.entry) (record { host = H.seen host.old; input = I.seen input.old; output = O.seen output.old; clock = answers clock.old })
-        (record { host = H.seen host.new; input = I.seen input.new; output = O.seen output.new; clock = answers clock.new }) (N.seen notes.old) (N.seen notes.new) result }
+    ensures { RunsNoted (given_read given.entry) (record { host = H.seen host.old; input = I.seen input.old; output = O.seen output.old; notes = N.seen notes.old; clock = answers clock.old; pacers = map (λ b. (⟦<dyn Pacer as Pacer>⟧ b.vtable).seen b.value) pacers.items })
+        (record { host = H.seen host.new; input = I.seen input.new; output = O.seen output.new; notes = N.seen notes.new; clock = answers clock.new; pacers = [] }) result }
 {
     match given {
         Given::Wrong => {
@@ -102,17 +102,18 @@ pub fn redis_core<H: Host, I: Source, O: Sink, N: Sink>(
     clock: &mut Box<dyn Clock>,
     pacers: Vec<Box<dyn Pacer>>,
 ) -> u8
-    ensures headline { Concludes (given_by (map string_bytes words.now)) (record { host = H.seen host.old; input = I.seen input.old; output = O.seen output.old; clock = answers clock.old })
-        (record { host = H.seen host.new; input = I.seen input.new; output = O.seen output.new; clock = answers clock.new }) (N.seen notes.old) (N.seen notes.new) result }
-    ensures stepped { StepsStatus (map (λ b. (⟦<dyn Pacer as Pacer>⟧ b.vtable).seen b.value) pacers.items) (given_by (map string_bytes words.now)) (record { host = H.seen host.old; input = I.seen input.old; output = O.seen output.old; clock = answers clock.old })
-        (record { host = H.seen host.new; input = I.seen input.new; output = O.seen output.new; clock = answers clock.new }) result }
-    ensures counts { CountsFaults (given_by (map string_bytes words.now)) (record { host = H.seen host.old; input = I.seen input.old; output = O.seen output.old; clock = answers clock.old })
-        (record { host = H.seen host.new; input = I.seen input.new; output = O.seen output.new; clock = answers clock.new }) result }
-    ensures exact { Exactly (given_by (map string_bytes words.now)) (record { host = H.seen host.old; input = I.seen input.old; output = O.seen output.old; clock = answers clock.old })
-        (record { host = H.seen host.new; input = I.seen input.new; output = O.seen output.new; clock = answers clock.new }) (N.seen notes.old) (N.seen notes.new) result }
-    ensures complete { Completes (given_by (map string_bytes words.now)) (record { host = H.seen host.old; input = I.seen input.old; output = O.seen output.old; clock = answers clock.old })
-        (record { host = H.seen host.new; input = I.seen input.new; output = O.seen output.new; clock = answers clock.new }) result }
-    ensures notes { NotesStatus (N.seen notes.old) (N.seen notes.new) result }
+    ensures headline { Concludes (given_by (map string_bytes words.now)) (record { host = H.seen host.old; input = I.seen input.old; output = O.seen output.old; notes = N.seen notes.old; clock = answers clock.old; pacers = map (λ b. (⟦<dyn Pacer as Pacer>⟧ b.vtable).seen b.value) pacers.items })
+        (record { host = H.seen host.new; input = I.seen input.new; output = O.seen output.new; notes = N.seen notes.new; clock = answers clock.new; pacers = [] }) result }
+    ensures stepped { StepsStatus (given_by (map string_bytes words.now)) (record { host = H.seen host.old; input = I.seen input.old; output = O.seen output.old; notes = N.seen notes.old; clock = answers clock.old; pacers = map (λ b. (⟦<dyn Pacer as Pacer>⟧ b.vtable).seen b.value) pacers.items })
+        (record { host = H.seen host.new; input = I.seen input.new; output = O.seen output.new; notes = N.seen notes.new; clock = answers clock.new; pacers = [] }) result }
+    ensures counts { CountsFaults (given_by (map string_bytes words.now)) (record { host = H.seen host.old; input = I.seen input.old; output = O.seen output.old; notes = N.seen notes.old; clock = answers clock.old; pacers = map (λ b. (⟦<dyn Pacer as Pacer>⟧ b.vtable).seen b.value) pacers.items })
+        (record { host = H.seen host.new; input = I.seen input.new; output = O.seen output.new; notes = N.seen notes.new; clock = answers clock.new; pacers = [] }) result }
+    ensures exact { Exactly (given_by (map string_bytes words.now)) (record { host = H.seen host.old; input = I.seen input.old; output = O.seen output.old; notes = N.seen notes.old; clock = answers clock.old; pacers = map (λ b. (⟦<dyn Pacer as Pacer>⟧ b.vtable).seen b.value) pacers.items })
+        (record { host = H.seen host.new; input = I.seen input.new; output = O.seen output.new; notes = N.seen notes.new; clock = answers clock.new; pacers = [] }) result }
+    ensures complete { Completes (given_by (map string_bytes words.now)) (record { host = H.seen host.old; input = I.seen input.old; output = O.seen output.old; notes = N.seen notes.old; clock = answers clock.old; pacers = map (λ b. (⟦<dyn Pacer as Pacer>⟧ b.vtable).seen b.value) pacers.items })
+        (record { host = H.seen host.new; input = I.seen input.new; output = O.seen output.new; notes = N.seen notes.new; clock = answers clock.new; pacers = [] }) result }
+    ensures notes { NotesStatus (record { host = H.seen host.old; input = I.seen input.old; output = O.seen output.old; notes = N.seen notes.old; clock = answers clock.old; pacers = map (λ b. (⟦<dyn Pacer as Pacer>⟧ b.vtable).seen b.value) pacers.items })
+        (record { host = H.seen host.new; input = I.seen input.new; output = O.seen output.new; notes = N.seen notes.new; clock = answers clock.new; pacers = [] }) result }
 {
     match read_words(alloc, words) {
         Ok(given) => run_given(alloc, given, host, input, output, notes, clock, pacers).status(),

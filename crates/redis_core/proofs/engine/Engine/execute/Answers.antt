@@ -15,4 +15,4 @@ pub returns-then-self-clause-served : goal.returns-then-self-clause-served
 returns-then-self-clause-served g c asks = observed_served g.B.BlockStore.step c.args.self.now c.observe.new.self _ c.observe.ensures
 
 pub returns-in-Ok-clause-least : goal.returns-in-Ok-clause-least
-returns-in-Ok-clause-least g c none ends = ends_least g.B.BlockStore.blocks g.B.BlockStore.heap _ _ _ _ _ _ (returns-in-Ok-clause-executes g c).tends none ends
+returns-in-Ok-clause-least g c none ends = ends_least g.B.BlockStore.blocks g.B.BlockStore.heap _ _ _ _ _ _ (returns-in-Ok-clause-executes g c).answers.tends none ends
