@@ -11,8 +11,6 @@ mod laws;
 mod scan_tests;
 mod settling;
 #[cfg(test)]
-mod string_tests;
-#[cfg(test)]
 mod test_talk;
 #[cfg(test)]
 mod tests;

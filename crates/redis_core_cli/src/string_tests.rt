@@ -1,4 +1,4 @@
-//! Commands on strings on the top call, beside the rows of the engine's own tests. The expected replies are those of the Redis command reference; the texts of
+//! Commands on strings on the top call. The expected replies are those of the Redis command reference; the texts of
 //! refusals are the program's own.
 
 use crate::top_call::redis_core;
@@ -26,7 +26,7 @@ const TIME: &[u8] = b"-ERR invalid expire time\r\n";
 const VALUE: &[u8] = b"-ERR value is out of range\r\n";
 
 // Requests in their order. Those that are refused here are refused for what stands at the key.
-const ROWS: [Row; 59] = [
+const ROWS: [Row; 75] = [
     // A number, and what becomes of its text.
     Row("SET n 10", b"+OK\r\n"),
     Row("INCRBY n 5", b":15\r\n"),
@@ -40,7 +40,9 @@ const ROWS: [Row; 59] = [
     Row("MSETNX m 1 q 2", b":0\r\n"),
     // SET with its options, and what reads whole values.
     Row("gEt n", b"$3\r\n15x\r\n"),
+    Row("SET a 1 XX", b"$-1\r\n"),
     Row("sET a 1 Nx", b"+OK\r\n"),
+    Row("SET a 2 NX", b"$-1\r\n"),
     Row("SET a 3 XX", b"+OK\r\n"),
     Row("SET a 4 xX GeT", b"$1\r\n3\r\n"),
     Row("SET a 5 GET NX", b"$1\r\n4\r\n"),
@@ -54,10 +56,12 @@ const ROWS: [Row; 59] = [
         b"*6\r\n$1\r\n6\r\n$1\r\n8\r\n$-1\r\n$1\r\n6\r\n$2\r\nXX\r\n$2\r\n\r\n\r\n",
     ),
     // The others that write whole values.
+    Row("SETNX a 9", b":0\r\n"),
     Row("SETNX c 9", b":1\r\n"),
     Row("gETsET c text", b"$1\r\n9\r\n"),
     Row("GETSET w ", b"$-1\r\n"),
     Row("GetDel c", b"$4\r\ntext\r\n"),
+    Row("GETDEL c", b"$-1\r\n"),
     Row("mSET p 1 r 2 p 3", b"+OK\r\n"),
     Row(
         "MGET p r c w",
@@ -68,10 +72,22 @@ const ROWS: [Row; 59] = [
     Row("MGET s t u", b"*3\r\n$1\r\n2\r\n$1\r\n3\r\n$-1\r\n"),
     // Parts of values.
     Row("STRLEN m", b":19\r\n"),
+    Row("STRLEN z", b":0\r\n"),
+    Row("APPEND z ", b":0\r\n"),
+    Row("GET z", b"$0\r\n\r\n"),
     Row("APPEND z hello", b":5\r\n"),
+    Row("GETRANGE z 1 99", b"$4\r\nello\r\n"),
+    Row("GETRANGE z -99 -3", b"$3\r\nhel\r\n"),
+    Row("GETRANGE z -6 -9", b"$0\r\n\r\n"),
+    Row("GETRANGE z 3 2", b"$0\r\n\r\n"),
+    Row("GETRANGE z 5 9", b"$0\r\n\r\n"),
+    Row("GETRANGE y 0 -1", b"$0\r\n\r\n"),
+    Row("SETRANGE z 1 EL", b":5\r\n"),
     Row("GETRANGE z 0 -99", b"$1\r\nh\r\n"),
     Row("SETRANGE z 7 !", b":8\r\n"),
+    Row("GET z", b"$8\r\nhELlo\0\0!\r\n"),
     Row("SETRANGE z 9223372036854775807 ", b":8\r\n"),
+    Row("SETRANGE y 2 ", b":0\r\n"),
     Row("GET y", b"$-1\r\n"),
     // Counting.
     Row("iNCR i", b":1\r\n"),
