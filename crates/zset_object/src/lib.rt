@@ -12,6 +12,8 @@ mod reading;
 mod relocating;
 mod removing;
 mod scanning;
+#[cfg(test)]
+mod scarce;
 mod scored;
 mod setting;
 #[cfg(test)]

@@ -6,12 +6,13 @@ ghost use Rattle.blocks.specs.Plain.{plain_blocks};
 ghost use Rattle.object_codec.specs.Limits.{AreInRange};
 ghost use Rattle.zset_object.specs.Scored.{IsScored};
 
-use crate::{Memory, Scored};
-use blocks::PlainStore;
+use crate::scarce::Scarce;
+use crate::{Memory, Moved, Scored, scored_laws};
 use itoa::Buffer;
 use listpack::Element;
 use object_codec::{Form, Limits};
 use pack_pairs::text;
+use scan_cursor::page;
 use std::alloc::Global;
 use std::cmp::Ordering;
 use std::marker::Model;
@@ -20,7 +21,7 @@ use std::test::Fail;
 // A sorted set in its store.
 #[derive(Drop)]
 struct Held {
-    store: PlainStore,
+    store: Scarce,
     set: Scored,
 }
 
@@ -33,7 +34,7 @@ impl Model for Held {
 
     ghost view = { λ held. 0 };
 
-    ghost invariant = { λ held. IsScored (plain_blocks held.store) held.set };
+    ghost invariant = { λ held. IsScored (plain_blocks held.store.plain) held.set };
 }
 
 fn limits(zset_entries: u32, zset_value: u32) -> Limits
@@ -53,8 +54,8 @@ fn limits(zset_entries: u32, zset_value: u32) -> Limits
 }
 
 // Whether a sorted set has this score of this member.
-fn has_pair(set: &Scored, store: &PlainStore, pair: (Element<'_>, i64)) -> bool
-    requires { IsScored (plain_blocks store.now) set.now }
+fn has_pair(set: &Scored, store: &Scarce, pair: (Element<'_>, i64)) -> bool
+    requires { IsScored (plain_blocks store.now.plain) set.now }
 {
     let (member, score) = pair;
     let mut room = Buffer::new();
@@ -62,8 +63,8 @@ fn has_pair(set: &Scored, store: &PlainStore, pair: (Element<'_>, i64)) -> bool
 }
 
 // How many members a walk along the ranks meets, each with the score that the sorted set has.
-fn walked(set: &Scored, store: &PlainStore) -> usize
-    requires { IsScored (plain_blocks store.now) set.now }
+fn walked(set: &Scored, store: &Scarce) -> usize
+    requires { IsScored (plain_blocks store.now.plain) set.now }
 {
     let mut count: usize = 0;
     let mut next = set.cursor(store, 0);
@@ -81,8 +82,8 @@ fn walked(set: &Scored, store: &PlainStore) -> usize
 }
 
 // How many item numbers have a member, each with the score that the sorted set has.
-fn numbered(set: &Scored, store: &PlainStore) -> usize
-    requires { IsScored (plain_blocks store.now) set.now }
+fn numbered(set: &Scored, store: &Scarce) -> usize
+    requires { IsScored (plain_blocks store.now.plain) set.now }
 {
     let mut count: usize = 0;
     for item in 0..set.top() {
@@ -98,7 +99,7 @@ impl Held {
         requires { AreInRange limits }
     {
         Held {
-            store: PlainStore::new(alloc),
+            store: Scarce::new(alloc),
             set: Scored::new(alloc, limits, 7),
         }
     }
@@ -177,19 +178,37 @@ impl Held {
         let Held { mut store, set } = self;
         set.release(&mut store);
     }
-}
 
-// Whether a copy of a sorted set of these members has its form and meets as many.
-fn is_copied(alloc: Global, limits: Limits, rows: &[(&[u8], i64, Form)]) -> Result<bool, Memory>
-    requires { AreInRange limits }
-{
-    let mut held = Held::new(alloc, limits);
-    held.rises(rows)?;
-    let Held { mut store, set } = held;
-    let copy = set.copy(&mut store)?;
-    let is_same = copy.form() == set.form() && walked(&copy, &store) == rows.len();
-    copy.release(&mut store);
-    Ok(is_same)
+    // Gives the members of the numbers below one their numbers for scores.
+    fn set_numbers(&mut self, count: u32) -> Result<(), Memory> {
+        for n in 0..count {
+            self.set(Buffer::new().format(n).as_bytes(), n as i64)?;
+        }
+        Ok(())
+    }
+
+    // Whether the sorted set has the numbers below one at their ranks and no other member, in this form.
+    fn is_whole(&self, count: u32, form: Form) -> bool {
+        for n in 0..count {
+            if !self.ranks(n as usize, Buffer::new().format(n).as_bytes(), n as i64) {
+                return false;
+            }
+        }
+        self.set.form() == form && self.set.len() == count as usize && self.meets(count as usize)
+    }
+
+    fn relocate(&mut self, from: u128) -> Moved {
+        self.set.relocate_part(&mut self.store, from, 32)
+    }
+
+    // Whether a copy has the form of the sorted set, and meets as many members.
+    fn is_copied(&mut self) -> Result<bool, Memory> {
+        let copy = self.set.copy(&mut self.store)?;
+        let is_same = copy.form() == self.set.form()
+            && walked(&copy, &self.store) == self.set.len();
+        copy.release(&mut self.store);
+        Ok(is_same)
+    }
 }
 
 // Whether so many members have one form, and with one more another.
@@ -229,8 +248,6 @@ fn forms_rise_by_length(rt: HostRuntime) -> Result<(), Fail> {
         (b"b", i64::MIN, Form::Skiplist),
     ];
     assert!(rt; Held::new(alloc, limits(128, 64)).rises(&by_member)?);
-    assert!(rt; is_copied(alloc, limits(128, 64), &by_member)?);
-    assert!(rt; is_copied(alloc, limits(128, 64), &by_member[..2])?);
     let none: [(&[u8], i64, Form); 2] = [(b"", 1, Form::Listpack), (b"a", 1, Form::Skiplist)];
     assert!(rt; Held::new(alloc, limits(4096, 0)).rises(&none)?);
     let most: [(&[u8], i64, Form); 2] = [
@@ -431,4 +448,137 @@ fn edits_agree_with_a_plain_list(rt: HostRuntime) {
     for (entries, value) in [(4, 64), (30, 64), (64, 40), (64, 64)] {
         assert!(rt; agrees_under_edits(alloc, limits(entries, value)));
     }
+}
+
+// A sorted set by ranks of a listpack and by item numbers of a table, and its pages: a listpack is one page, and none goes on from it.
+#[test]
+fn members_have_item_numbers(rt: HostRuntime) -> Result<(), Fail> {
+    scored_laws();
+    let mut held = Held::new(rt.alloc(), limits(3, 64));
+    for count in 0..=3u32 {
+        held.set_numbers(count)?;
+        let all = page(rt.alloc(), &held.set, 5, 1)?;
+        assert_eq!(rt; all.next, 0);
+        assert_eq!(rt; all.items.len(), count as usize);
+        assert_eq!(rt; held.set.top(), count as usize);
+    }
+    held.set_numbers(5)?;
+    assert!(rt; held.set.form() == Form::Skiplist);
+    assert_eq!(rt; page(rt.alloc(), &held.set, 0, 5)?.items.len(), 5);
+    assert!(rt; held.remove(b"3")?);
+    assert_eq!(rt; held.set.top(), 5);
+    assert!(rt; !held.set.is_entry(3) && held.set.is_entry(4));
+    assert!(rt; held.meets(4));
+    Ok(())
+}
+
+// Whether calls from these marks on answer these.
+fn passes(held: &mut Held, rows: &[(u128, Option<u128>, u32)]) -> bool {
+    for (from, next, used) in rows {
+        let moved = held.relocate(*from);
+        if moved.next != *next || moved.used != *used {
+            return false;
+        }
+    }
+    true
+}
+
+// The mark of the block of a listpack.
+#[test]
+fn a_listpack_is_passed_by_its_mark(rt: HostRuntime) -> Result<(), Fail> {
+    let mut packed = Held::new(rt.alloc(), limits(128, 64));
+    assert!(rt; passes(&mut packed, &[(0, None, 0)]));
+    assert_eq!(rt; packed.set.units(), 0);
+    assert!(rt; packed.set(b"m", 1)?);
+    assert!(rt; passes(&mut packed, &[(0, None, 1), (1, None, 0)]));
+    assert_eq!(rt; packed.set.units(), 1);
+    Ok(())
+}
+
+// The marks of the blocks of members, passed at most 32 at a time, a vacant item number among them.
+#[test]
+fn members_are_passed_by_marks(rt: HostRuntime) -> Result<(), Fail> {
+    let mut table = Held::new(rt.alloc(), limits(0, 0));
+    table.set_numbers(40)?;
+    assert!(rt; table.remove(b"3")?);
+    let rows = [
+        (0, Some(32), 32),
+        (1, Some(33), 32),
+        (7, Some(39), 32),
+        (8, None, 32),
+        (9, None, 31),
+        (39, None, 1),
+        (40, None, 0),
+    ];
+    assert!(rt; passes(&mut table, &rows));
+    assert_eq!(rt; table.set.units(), 40);
+    assert!(rt; table.meets(39));
+    Ok(())
+}
+
+// A call that can want memory.
+#[derive(Clone, Copy)]
+enum Call {
+    Set(&'static [u8], i64),
+    Remove(&'static [u8]),
+    Copy,
+}
+
+impl Held {
+    // Whether the answer of a call and what it leaves are right.
+    fn call(&mut self, call: Call) -> Result<bool, Memory> {
+        match call {
+            Call::Set(member, score) => {
+                let is_new = self.lacks(member);
+                Ok(self.set(member, score)? == is_new && self.score(member) == Some(score))
+            }
+            Call::Remove(member) => Ok(self.remove(member)? && self.lacks(member)),
+            Call::Copy => self.is_copied(),
+        }
+    }
+
+    // How many placings a call takes on a sorted set of the numbers below one, which is whole each time that the store refuses the
+    // next one.
+    fn placings(&mut self, count: u32, call: Call) -> Option<usize> {
+        let form = self.set.form();
+        for left in 0..64usize {
+            self.store.left = left;
+            let answer = self.call(call);
+            self.store.left = usize::MAX;
+            if let Ok(is_right) = answer {
+                return if is_right { Some(left) } else { None };
+            }
+            if !self.is_whole(count, form) {
+                return None;
+            }
+        }
+        None
+    }
+}
+
+// Calls by the number of their placings, each of which is refused in its turn: a listpack takes one, a conversion one for each member,
+// and a table one for a new member.
+#[test]
+fn refused_calls_leave_all(rt: HostRuntime) -> Result<(), Fail> {
+    let rows = [
+        (0, Call::Set(b"m".as_slice(), 9), 1),
+        (2, Call::Set(b"m", 9), 1),
+        (3, Call::Set(b"1", 9), 1),
+        (2, Call::Set(&[b'm'; 65], 9), 3),
+        (3, Call::Set(b"m", 9), 4),
+        (4, Call::Set(b"m", 9), 1),
+        (4, Call::Set(b"1", 9), 0),
+        (1, Call::Remove(b"0"), 0),
+        (3, Call::Remove(b"1"), 1),
+        (4, Call::Remove(b"1"), 0),
+        (0, Call::Copy, 0),
+        (3, Call::Copy, 1),
+        (4, Call::Copy, 4),
+    ];
+    for (count, call, placings) in rows {
+        let mut held = Held::new(rt.alloc(), limits(3, 64));
+        held.set_numbers(count)?;
+        assert_eq!(rt; held.placings(count, call), Some(placings));
+    }
+    Ok(())
 }
