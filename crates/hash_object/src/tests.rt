@@ -446,9 +446,11 @@ fn blocks_are_passed_by_marks(rt: HostRuntime) -> Result<(), Fail> {
     let passed = |next, used| Moved { next, used };
     let mut packed = Held::new(rt.alloc(), limits(512, 64));
     assert_eq!(rt; packed.relocate(0), passed(None, 0));
+    assert_eq!(rt; packed.hash.units(), 0);
     packed.set(b"f", b"v")?;
     assert_eq!(rt; packed.relocate(0), passed(None, 1));
     assert_eq!(rt; packed.relocate(1), passed(None, 0));
+    assert_eq!(rt; packed.hash.units(), 1);
     let mut hashed = Held::new(rt.alloc(), limits(0, 0));
     hashed.set_numbers(20)?;
     assert!(rt; hashed.remove(b"3")?);
@@ -464,6 +466,7 @@ fn blocks_are_passed_by_marks(rt: HostRuntime) -> Result<(), Fail> {
     for (from, next, used) in rows {
         assert_eq!(rt; hashed.relocate(from), passed(next, used));
     }
+    assert_eq!(rt; hashed.hash.units(), 39);
     assert!(rt; hashed.meets(19));
     Ok(())
 }
