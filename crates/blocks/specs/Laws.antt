@@ -12,12 +12,16 @@ pub record ChangesLaws : Type 0 where
   -- it goes on from one call to the next
   pub goes_on : (a b c : Blocks) (xs ys zs : List BlockRef) → Changes a b xs ys → Changes b c ys zs → Changes a c xs zs
   -- changes of disjoint references compose
-  pub both : (a b c : Blocks) (xs ys us vs : List BlockRef) → Owned (xs ++ us) a → Changes a b xs ys → Changes b c us vs → Changes a c (xs ++ us) (ys ++ vs)
+  pub both : (a b c : Blocks) (xs ys us vs : List BlockRef) → Owned (xs ++ us) a → Changes a b xs ys → Changes b c us vs
+      → Changes a c (xs ++ us) (ys ++ vs)
   -- what is outside keeps its bytes, and stays owned with what the change leaves
-  pub outside : (a b : Blocks) (xs ys others : List BlockRef) (r : BlockRef) → Owned (others ++ xs) a → Changes a b xs ys → IsIn r others → b r ≡ a r
-  pub owned : (a b : Blocks) (xs ys others : List BlockRef) → Owned (others ++ xs) a → Changes a b xs ys → Owned (others ++ ys) b
+  pub outside : (a b : Blocks) (xs ys others : List BlockRef) (r : BlockRef) → Owned (others ++ xs) a
+      → Changes a b xs ys → IsIn r others → b r ≡ a r
+  pub owned : (a b : Blocks) (xs ys others : List BlockRef) → Owned (others ++ xs) a → Changes a b xs ys
+      → Owned (others ++ ys) b
   -- who owned each live block and no other does so afterwards
-  pub owns : (a b : Blocks) (xs ys others : List BlockRef) → Owns (others ++ xs) a → Changes a b xs ys → Owns (others ++ ys) b
+  pub owns : (a b : Blocks) (xs ys others : List BlockRef) → Owns (others ++ xs) a → Changes a b xs ys
+      → Owns (others ++ ys) b
 
 -- What holds of `Served` over a store.
 pub record ServedLaws {S : Type 0} (blocks : S → Blocks) (heap : S → Heap) (step : S → S → Type 0) : Type 0 where
@@ -27,6 +31,7 @@ pub record ServedLaws {S : Type 0} (blocks : S → Blocks) (heap : S → Heap) (
   -- it goes on from one list of calls to the next
   pub goes_on : (s t u : S) → Served step s t → Served step t u → Served step s u
   -- each call is a placing, a return or a write
-  pub kinds : (s t : S) → Served step s t → Served (λ before after. IsStep (blocks before) (heap before) (blocks after) (heap after)) s t
+  pub kinds : (s t : S) → Served step s t
+      → Served (λ before after. IsStep (blocks before) (heap before) (blocks after) (heap after)) s t
   -- an open pass stays open
   pub passing : (s t : S) → Served step s t → (heap t).passing ≡ (heap s).passing

@@ -19,7 +19,10 @@ stands_below : (n : ℕ) (r : BlockRef) → r.slot ≡ 0 → r.slab < n → 0 < 
 unfolding refs_below
 stands_below zero r z lt = absurd (omega arith)
 stands_below (suc n) r z lt = elim (cases_eq n r.slab) [
-  | inl here ↦ (let counted : one_if (ref_eq (record { slab = n; slot = 0 }) r) ≡ 1 = cond-true _ _ _ (and_from _ _ (eq-eqb n r.slab here) (eq-eqb 0 r.slot (sym z))) in omega arith)
+  | inl here ↦
+      (let counted : one_if (ref_eq (record { slab = n; slot = 0 }) r) ≡ 1 =
+      cond-true _ _ _ (and_from _ _ (eq-eqb n r.slab here) (eq-eqb 0 r.slot (sym z))) in
+      omega arith)
   | inr there ↦ omega (arith, stands_below n r z (omega arith))
 ]
 
@@ -33,7 +36,12 @@ place_below (x ∷ rest) zero h = omega arith
 place_below (x ∷ rest) (suc n) h = let k : n < length rest = place_below rest n h in omega arith
 
 pub plain_finite : (places : List (Option (List ℕ))) → IsFinite (blocks_at places)
-plain_finite places = (refs_below (length places), λ r h. (let p = slot_by (eqb r.slot 0) _ r.slot h (eqb-true _ _) in stands_below (length places) r p.0 (place_below places r.slab p.1)))
+plain_finite places = (
+  refs_below (length places),
+  λ r h.
+      (let p = slot_by (eqb r.slot 0) _ r.slot h (eqb-true _ _) in
+      stands_below (length places) r p.0 (place_below places r.slab p.1)),
+)
 
 -- a store without a slab
 pub plain_sound : (blocks : Blocks) (passing : Bool) → IsSoundHeap blocks (record { passing = passing; slabs = [] })

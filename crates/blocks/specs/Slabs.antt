@@ -5,7 +5,9 @@ use Rattle.blocks.specs.Blocks.{Blocks, live}
 
 -- the sizes of the classes in bytes
 abbrev pub sizes : List ℕ
-sizes = 8 ∷ 16 ∷ 32 ∷ 48 ∷ 64 ∷ 80 ∷ 96 ∷ 112 ∷ 128 ∷ 160 ∷ 192 ∷ 224 ∷ 256 ∷ 320 ∷ 384 ∷ 448 ∷ 512 ∷ 640 ∷ 768 ∷ 896 ∷ 1024 ∷ 1280 ∷ 1536 ∷ 1792 ∷ 2048 ∷ 2560 ∷ 3072 ∷ 3584 ∷ 4096 ∷ 5120 ∷ 6144 ∷ 7168 ∷ 8192 ∷ 10240 ∷ 12288 ∷ 14336 ∷ []
+sizes = 8 ∷ 16 ∷ 32 ∷ 48 ∷ 64 ∷ 80 ∷ 96 ∷ 112 ∷ 128 ∷ 160 ∷ 192 ∷ 224 ∷ 256 ∷ 320 ∷ 384 ∷ 448 ∷ 512 ∷ 640 ∷ 768 ∷ 896
+    ∷ 1024 ∷ 1280 ∷ 1536 ∷ 1792 ∷ 2048 ∷ 2560 ∷ 3072 ∷ 3584 ∷ 4096 ∷ 5120 ∷ 6144 ∷ 7168 ∷ 8192 ∷ 10240 ∷ 12288 ∷ 14336
+    ∷ []
 
 -- the size of a class, and beyond the last one a whole slab
 abbrev pub size_of : ℕ → ℕ
@@ -128,7 +130,8 @@ pub record Begun (before after : Heap) : Type 0 where
   pub passing : after.passing ≡ true
   pub same : map unmarked after.slabs ≡ (ended before).slabs
   pub kept : (class : ℕ) → class < 36 → kept_of after class ≡ needed after class
-  pub fullest : (m n : ℕ) (s t : SlabUse) → slab_at after m ≡ Some s → slab_at after n ≡ Some t → s.class ≡ t.class → s.kept ≡ true → t.kept ≡ false → IsFuller m s n t
+  pub fullest : (m n : ℕ) (s t : SlabUse) → slab_at after m ≡ Some s → slab_at after n ≡ Some t → s.class ≡ t.class
+      → s.kept ≡ true → t.kept ≡ false → IsFuller m s n t
 
 -- the slab when one block has left it: without its last block it goes
 abbrev pub one_fewer : SlabUse → Option SlabUse
@@ -149,7 +152,8 @@ pub record Moves (before after : Heap) (at new : BlockRef) : Type 0 where
   pub from_other : from.kept ≡ false
   pub to_kept : to.kept ≡ true
   pub has_room : to.used < per_slab to.class
-  pub lowest : (n : ℕ) (s : SlabUse) → n < new.slab → slab_at before n ≡ Some s → s.class ≡ from.class → s.kept ≡ true → per_slab s.class ≤ s.used
+  pub lowest : (n : ℕ) (s : SlabUse) → n < new.slab → slab_at before n ≡ Some s → s.class ≡ from.class → s.kept ≡ true
+      → per_slab s.class ≤ s.used
   pub passing : after.passing ≡ before.passing
   pub left : slab_at after at.slab ≡ one_fewer from
   pub entered : slab_at after new.slab ≡ Some (one_more_in to)
@@ -176,7 +180,8 @@ pub record IsSoundHeap (blocks : Blocks) (h : Heap) : Type 0 where
   pub counted : (n : ℕ) (s : SlabUse) → slab_at h n ≡ Some s → blocks_in blocks n (per_slab s.class) ≡ s.used
   -- a live block in it has one of its places, and its class
   pub inside : (r : BlockRef) (s : SlabUse) → slab_at h r.slab ≡ Some s → IsSome (blocks r) → r.slot < per_slab s.class
-  pub sized : (r : BlockRef) (s : SlabUse) (bytes : List ℕ) → slab_at h r.slab ≡ Some s → blocks r ≡ Some bytes → IsClassOf (length bytes) s.class
+  pub sized : (r : BlockRef) (s : SlabUse) (bytes : List ℕ) → slab_at h r.slab ≡ Some s → blocks r ≡ Some bytes
+      → IsClassOf (length bytes) s.class
   -- slabs are kept only while a pass is open, and each other slab has a block
   pub marked : (n : ℕ) (s : SlabUse) → slab_at h n ≡ Some s → s.kept ≡ true → h.passing ≡ true
   pub filled : (n : ℕ) (s : SlabUse) → slab_at h n ≡ Some s → s.kept ≡ false → 0 < s.used

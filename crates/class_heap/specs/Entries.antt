@@ -25,8 +25,8 @@ abbrev pub class_in : Option SlabUse → Option ℕ
 class_in None = None
 class_in (Some s) = Some s.class
 
--- the label of a number with nothing, that of a slab that takes blocks of its class, and that of one whose blocks want to
--- move
+-- the label of a number with nothing, that of a slab that takes blocks of its class, and that of one whose blocks want
+-- to move
 abbrev pub labels_of : Bool → Entry → ℕ
 labels_of passing Vacant = 2 ^ 36
 labels_of passing (Large bytes) = 0
@@ -71,4 +71,5 @@ pub record IsHeap (passing : Bool) (entries : List Entry) (directory : Directory
   pub filled : (n : ℕ) (s : SlabUse) → use_in (entry_at entries n) ≡ Some s → s.kept ≡ false → 0 < s.used
   -- by so many the free places of a class's kept slabs are more than the blocks in its others
   pub margin : passing ≡ true → (class : ℕ) → class < 36
-      → waiting_of (heap_of passing entries) class + slice_index_or margins class 0 ≡ spare_of (heap_of passing entries) class
+      → waiting_of (heap_of passing entries) class + slice_index_or margins class 0
+      ≡ spare_of (heap_of passing entries) class

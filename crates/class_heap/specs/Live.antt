@@ -40,7 +40,8 @@ used_some words slot (suc k) lt h = elim (cases_eq k slot) [
 pub apart : (size a b : ℕ) → a < b → a * size + size ≤ b * size
 apart size a b lt = grind (arith, lt)
 
-pub known : (size : ℕ) (words mem : List ℕ) (s : ℕ) → is_used words s ≡ true → block_in_slot size words mem s ≡ Some (take (word_at words s) (drop (s * size) mem))
+pub known : (size : ℕ) (words mem : List ℕ) (s : ℕ) → is_used words s ≡ true
+    → block_in_slot size words mem s ≡ Some (take (word_at words s) (drop (s * size) mem))
 known size words mem s h = grind (arith, common_steps, h)
 
 pub unused : (size : ℕ) (words mem : List ℕ) (s : ℕ) → is_used words s ≡ false → block_in_slot size words mem s ≡ None
@@ -50,14 +51,16 @@ pub not_used : (words : List ℕ) (s : ℕ) → 32768 ≤ word_at words s → is
 not_used words s h = grind (arith, common_steps, h)
 
 -- a live block's slot is used
-pub live_used : (size : ℕ) (words mem : List ℕ) (s : ℕ) → IsSome (block_in_slot size words mem s) → is_used words s ≡ true
+pub live_used : (size : ℕ) (words mem : List ℕ) (s : ℕ) → IsSome (block_in_slot size words mem s)
+    → is_used words s ≡ true
 live_used size words mem s h = by_is (is_used words s) _ refl h
   where
     by_is : (b : Bool) (x : List ℕ) → b ≡ is_used words s → IsSome (cond b (Some x) None) → is_used words s ≡ true
     by_is true x e h' = sym e
     by_is false x e h' = cc
 
-pub used_live : (size : ℕ) (words mem : List ℕ) (s : ℕ) → is_used words s ≡ true → IsSome (block_in_slot size words mem s)
+pub used_live : (size : ℕ) (words mem : List ℕ) (s : ℕ) → is_used words s ≡ true
+    → IsSome (block_in_slot size words mem s)
 used_live size words mem s h = subst (λ o. IsSome o) (sym (known size words mem s h)) refl
 
 -- ---- within a sound slab
@@ -70,7 +73,9 @@ module _ {class size used head : ℕ} {words mem : List ℕ} (sound : IsSlab cla
   size_most = bounds.1
 
   pub cut : length words * size ≤ 65536
-  cut = (let s = slots_bounds class sound.classed in subst (λ n. n * size ≤ 65536) (sym sound.cut) (subst (λ n. per_slab class * n ≤ 65536) (sym sound.sized) s.2))
+  cut =
+      (let s = slots_bounds class sound.classed in
+      subst (λ n. n * size ≤ 65536) (sym sound.cut) (subst (λ n. per_slab class * n ≤ 65536) (sym sound.sized) s.2))
 
   pub slots_most : length words ≤ 8192
   slots_most = subst (λ n. n ≤ 8192) (sym sound.cut) (slots_bounds class sound.classed).1
@@ -83,21 +88,30 @@ module _ {class size used head : ℕ} {words mem : List ℕ} (sound : IsSlab cla
   short slot h = subst (λ n. word_at words slot ≤ n) (sym sound.sized) (sound.held slot h).holds
 
   pub part_fits : (slot : ℕ) → IsSome (block_in_slot size words mem slot) → slot * size + word_at words slot ≤ 65536
-  part_fits slot live = (let h = live_used size words mem slot live in let s = short slot h in let f = slot_fits slot (used_there words slot h) in omega (arith, s, f))
+  part_fits slot live =
+      (let h = live_used size words mem slot live in let s = short slot h in
+      let f = slot_fits slot (used_there words slot h) in omega (arith, s, f))
 
   pub live_there : (slot : ℕ) → IsSome (block_in_slot size words mem slot) → slot < length words
   live_there slot live = used_there words slot (live_used size words mem slot live)
 
-  pub block_known : (slot : ℕ) → IsSome (block_in_slot size words mem slot) → block_in_slot size words mem slot ≡ Some (take (word_at words slot) (drop (slot * size) mem))
+  pub block_known : (slot : ℕ) → IsSome (block_in_slot size words mem slot)
+      → block_in_slot size words mem slot ≡ Some (take (word_at words slot) (drop (slot * size) mem))
   block_known slot live = known size words mem slot (live_used size words mem slot live)
 
   -- the block is as long as its word says
-  pub block_length : (slot : ℕ) → IsSome (block_in_slot size words mem slot) → length (unwrap_or (block_in_slot size words mem slot) []) ≡ word_at words slot
-  block_length slot live = (let f = part_fits slot live in let l = sound.long in ap (λ o. length (unwrap_or o [])) (block_known slot live) ∙ omega (arith, length-take (word_at words slot) (drop (slot * size) mem), length-drop (slot * size) mem, f, l))
+  pub block_length : (slot : ℕ) → IsSome (block_in_slot size words mem slot)
+      → length (unwrap_or (block_in_slot size words mem slot) []) ≡ word_at words slot
+  block_length slot live =
+      (let f = part_fits slot live in let l = sound.long in
+      ap (λ o. length (unwrap_or o [])) (block_known slot live) ∙ omega
+      (arith, length-take (word_at words slot) (drop (slot * size) mem), length-drop (slot * size) mem, f, l))
 
   pub used_fits : used ≤ length words
   used_fits = subst (λ n. n ≤ length words) sound.counted (used_most words (length words))
 
   -- no more blocks than places
   pub used_least : (used ≤ per_slab class) × (used ≤ 8192)
-  used_least = (let f = used_fits in let m = slots_most in let q : used ≤ per_slab class = subst (λ n. used ≤ n) sound.cut f in (q, omega (arith, f, m)))
+  used_least =
+      (let f = used_fits in let m = slots_most in let q : used ≤ per_slab class = subst (λ n. used ≤ n) sound.cut f in
+      (q, omega (arith, f, m)))

@@ -20,16 +20,21 @@ abbrev pub GivesIn : {E : Type 0} → ℕ → World → KeyCommand → World →
 GivesIn moment old command new result = IfOk result (λ reply. key_outcome moment old command ≡ leaves reply new)
 
 -- from what the old keyspace means the command gives this reply, and leaves what the new one means
-abbrev pub Gives : {S E : Type 0} → (S → Blocks) → Keyspace S → Keyspace S → Ctx → KeyCommand → Result (List Part) E → Type 0
+abbrev pub Gives : {S E : Type 0} → (S → Blocks) → Keyspace S → Keyspace S → Ctx → KeyCommand → Result (List Part) E
+    → Type 0
 Gives blocks old new at command result = GivesIn at.moment (sight blocks old at) command (sight blocks new at) result
 
 -- the same of a command on the connection or the server
-abbrev pub Serves : {S E : Type 0} → (S → Blocks) → Keyspace S → Keyspace S → Ctx → ConnectionCommand → Result (List Part) E → Type 0
-Serves blocks old new at command result = IfOk result (λ reply. connection_outcome at.moment (sight blocks old at) command ≡ leaves reply (sight blocks new at))
+abbrev pub Serves : {S E : Type 0} → (S → Blocks) → Keyspace S → Keyspace S → Ctx → ConnectionCommand
+    → Result (List Part) E → Type 0
+Serves blocks old new at command result =
+    IfOk result
+    (λ reply. connection_outcome at.moment (sight blocks old at) command ≡ leaves reply (sight blocks new at))
 
 -- whatever the world is, the command tells this, and leaves it
 abbrev pub Tells : {E : Type 0} → ConnectionCommand → Result (List Part) E → Type 0
-Tells command result = (moment : ℕ) (world : World) → IfOk result (λ reply. connection_outcome moment world command ≡ tells reply world)
+Tells command result =
+    (moment : ℕ) (world : World) → IfOk result (λ reply. connection_outcome moment world command ≡ tells reply world)
 
 -- what is told in place of a deadline
 abbrev pub told_without : Timeless → ℤ
@@ -53,8 +58,8 @@ pub record IsAhead (moment deadline : ℕ) : Type 0 where
 abbrev pub IsDatabase : Option ℕ → Type 0
 IsDatabase db = IfSome db (λ number. number < 16)
 
--- what it may answer is one outcome in the world, over the keyspace alone: it selects no database, makes no steps of its own,
--- and tells nothing of slabs
+-- what it may answer is one outcome in the world, over the keyspace alone: it selects no database, makes no steps of
+-- its own, and tells nothing of slabs
 abbrev pub IsCommon : ConnectionCommand → Type 0
 IsCommon (Select number) = ⊥
 IsCommon MemorySlabs = ⊥

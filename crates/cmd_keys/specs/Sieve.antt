@@ -11,7 +11,8 @@ is_type (Some name) value = bytes_eq (type_name value) (in_lower_case name)
 
 -- a key of the item number is behind the names where one passes, or they stay
 abbrev pub Adds : (ℕ → List ℕ → Type 0) → ℕ → List (List ℕ) → List (List ℕ) → Type 0
-Adds P item old new = ((key : List ℕ) × P item key × (new ≡ old ++ key ∷ [])) ⊎ (((key : List ℕ) → P item key → ⊥) × (new ≡ old))
+Adds P item old new =
+    ((key : List ℕ) × P item key × (new ≡ old ++ key ∷ [])) ⊎ (((key : List ℕ) → P item key → ⊥) × (new ≡ old))
 
 -- so many numbers, from one on
 unfoldable pub numbers : ℕ → ℕ → List ℕ

@@ -1,4 +1,5 @@
--- The CRC-64 of the RDB file format: polynomial ad93d23594c935a9, reflected in and out, without a final exclusive-or, bit by bit.
+-- The CRC-64 of the RDB file format: polynomial ad93d23594c935a9, reflected in and out, without a final exclusive-or,
+-- bit by bit.
 use Rattle.std.specs.Prelude.{ℕ, zero, suc, ◌/◌, ◌%◌, List, [], ◌∷◌, ◌==◌, if◌then◌else◌}
 use Rattle.std.specs.Int.RustNames.{bit_xor}
 

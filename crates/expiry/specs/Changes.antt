@@ -15,12 +15,15 @@ pub record HasDeadline (blocks : Blocks) (t : Table ℕ) (key : List ℕ) (deadl
   pub found : item t at ≡ Some (record { key = ref; hash = hash; value = deadline })
   pub bytes : blocks ref ≡ Some key
 
--- The key whose block is handed in gets a deadline. Where it has one, the moment alone changes, and the block that names it
--- stays; else an element joins, under the block handed in.
+-- The key whose block is handed in gets a deadline. Where it has one, the moment alone changes, and the block that
+-- names it stays; else an element joins, under the block handed in.
 pub data Sets (blocks : Blocks) (old new : Table ℕ) (key : BlockRef) (deadline : ℕ) : Type 0 where
-  changes : (at was : ℕ) → Stands blocks old at (bytes_at blocks key) → Swaps old new at was deadline → key_tables blocks new ≡ key_tables blocks old → Sets blocks old new key deadline
-  joins : (at : ℕ) → Lacks blocks old (bytes_at blocks key) → Adds old new at (record { key = key; hash = hash_of old.seed (bytes_at blocks key); value = deadline })
-      → key_tables blocks new ≡ inserted (hash_of old.seed) (key_tables blocks old) (bytes_at blocks key) → Sets blocks old new key deadline
+  changes : (at was : ℕ) → Stands blocks old at (bytes_at blocks key) → Swaps old new at was deadline
+      → key_tables blocks new ≡ key_tables blocks old → Sets blocks old new key deadline
+  joins : (at : ℕ) → Lacks blocks old (bytes_at blocks key)
+      → Adds old new at (record { key = key; hash = hash_of old.seed (bytes_at blocks key); value = deadline })
+      → key_tables blocks new ≡ inserted (hash_of old.seed) (key_tables blocks old) (bytes_at blocks key)
+      → Sets blocks old new key deadline
 
 -- The key has its deadline no more. Its block stays with whoever owns it.
 pub record Clears (blocks : Blocks) (old new : Table ℕ) (key : List ℕ) : Type 0 where

@@ -1,5 +1,5 @@
--- Which keys a move finds gone. As with EXPIRE, a key stays through the moment of its deadline, and is gone from the next
--- moment on.
+-- Which keys a move finds gone. As with EXPIRE, a key stays through the moment of its deadline, and is gone from the
+-- next moment on.
 use Rattle.std.specs.Prelude.{◌≡◌, ℕ, ◌<◌, ◌≤◌, Bool, nat_lt, List, [], ◌∷◌, ◌++◌, slice_get, Option, Some, None, if◌then◌else◌}
 use Rattle.blocks.specs.declared.BlockRef.{BlockRef}
 use Rattle.blocks.specs.Blocks.{IsIn}
@@ -44,4 +44,5 @@ AreGone t moment refs = (index : ℕ) (ref : BlockRef) → slice_get refs index 
 
 -- the blocks name each key that is gone and has its place from a cursor to the next one
 abbrev pub NameAllGone : Table ℕ → ℕ → ℕ → ℕ → List BlockRef → Type 0
-NameAllGone t moment cursor next refs = (at : ℕ) (e : Element ℕ) → item t at ≡ Some e → e.value < moment → place cursor ≤ place e.hash → place e.hash < end_of next → IsIn e.key refs
+NameAllGone t moment cursor next refs = (at : ℕ) (e : Element ℕ) → item t at ≡ Some e → e.value < moment
+    → place cursor ≤ place e.hash → place e.hash < end_of next → IsIn e.key refs

@@ -1,5 +1,5 @@
--- What contracts see of deadlines: the dictionary from key blocks to moments, and the cursor at which the next move of a
--- search for keys that are gone begins.
+-- What contracts see of deadlines: the dictionary from key blocks to moments, and the cursor at which the next move of
+-- a search for keys that are gone begins.
 use Rattle.std.specs.Prelude.{◌≡◌, ℕ, [], refl}
 use Rattle.std.specs.Coded.{Coded, code_by, coded×, coded_ℕ}
 use Rattle.std.specs.Ordering.{nat_cmp}
@@ -26,11 +26,13 @@ Grows blocks old new = Grown (hash_of old.table.seed) (key_tables blocks old.tab
 
 -- deadlines as data
 abbrev pub timed_code : Coded Timed
-timed_code = code_by (Table ℕ × ℕ) (coded× (table_code coded_ℕ) coded_ℕ) (λ d. (d.table, d.cursor)) (λ p. record { table = p.0; cursor = p.1 }) (λ _. refl)
+timed_code = code_by (Table ℕ × ℕ) (coded× (table_code coded_ℕ) coded_ℕ) (λ d. (d.table, d.cursor))
+    (λ p. record { table = p.0; cursor = p.1 }) (λ _. refl)
 
 -- no deadline and no table, under this seed, and the first cursor
 abbrev pub no_deadline : ℕ → Timed
-no_deadline seed = record { table = record { items = []; older = []; newer = []; position = 0; seed = seed; top = 0 }; cursor = 0 }
+no_deadline seed =
+    record { table = record { items = []; older = []; newer = []; position = 0; seed = seed; top = 0 }; cursor = 0 }
 
 -- the search goes on where it stood
 abbrev pub KeepsCursor : Timed → Timed → Type 0

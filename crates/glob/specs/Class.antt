@@ -8,8 +8,8 @@ one byte width = record { least = byte; greatest = byte; width = width }
 abbrev pub range : ℕ → ℕ → Member
 range x y = record { least = min x y; greatest = max x y; width = 3 }
 
--- The member that a class begins with. `\` (92) takes the next byte as itself, where there is one. x-y is a range, where all
--- three bytes are there, its ends swapped where needed.
+-- The member that a class begins with. `\` (92) takes the next byte as itself, where there is one. x-y is a range,
+-- where all three bytes are there, its ends swapped where needed.
 abbrev pub first_member : List ℕ → Member
 first_member [] = one 0 1
 first_member (x ∷ []) = one x 1
@@ -23,7 +23,8 @@ is_within member byte = nat_le member.least byte && nat_le byte member.greatest
 abbrev pub holds_behind : ℕ → List ℕ → ℕ → Bool
 holds_behind passed [] byte = false
 holds_behind (suc passed) (x ∷ xs) byte = holds_behind passed xs byte
-holds_behind zero (x ∷ xs) byte = if x == 93 then false else (let member = first_member (x ∷ xs) in is_within member byte || holds_behind (member.width - 1) xs byte)
+holds_behind zero (x ∷ xs) byte = if x == 93 then false else
+    (let member = first_member (x ∷ xs) in is_within member byte || holds_behind (member.width - 1) xs byte)
 
 -- the pattern behind the class, likewise
 abbrev pub rest_behind : ℕ → List ℕ → List ℕ
@@ -40,7 +41,8 @@ members_of class = if is_negated class then drop 1 class else class
 
 -- whether the class takes the byte: one that is empty takes none, and a negated empty one takes each
 abbrev pub class_takes : List ℕ → ℕ → Bool
-class_takes class byte = if is_negated class then not (holds_behind 0 (members_of class) byte) else holds_behind 0 (members_of class) byte
+class_takes class byte =
+    if is_negated class then not (holds_behind 0 (members_of class) byte) else holds_behind 0 (members_of class) byte
 
 abbrev pub behind_class : List ℕ → List ℕ
 behind_class class = rest_behind 0 (members_of class)

@@ -25,16 +25,19 @@ module _ {V : Type 0} where
 
   -- whatever stands at the key of the database is so
   abbrev pub AllAt : (V → Type 0) → Bases V → Blocks → ℕ → List ℕ → Type 0
-  AllAt Is bases blocks db key = (at : ℕ) (element : Element V) → item (table_at bases db) at ≡ Some element → blocks element.key ≡ Some key → Is element.value
+  AllAt Is bases blocks db key = (at : ℕ) (element : Element V) → item (table_at bases db) at ≡ Some element
+      → blocks element.key ≡ Some key → Is element.value
 
   -- whatever stands at the key of the database is this value
   abbrev pub HasOnly : Bases V → Blocks → ℕ → List ℕ → V → Type 0
   HasOnly bases blocks db key value = AllAt (λ is. is ≡ value) bases blocks db key
 
   -- The value is what stands at the key of the database at the moment, and its blocks are live.
-  pub record Found (refs_of : V → List BlockRef) (value_of : Blocks → V → Value) (bases : Bases V) (blocks : Blocks) (db : ℕ) (key : List ℕ) (moment : ℕ) (value : V) : Type 0 where
+  pub record Found (refs_of : V → List BlockRef) (value_of : Blocks → V → Value) (bases : Bases V) (blocks : Blocks)
+      (db : ℕ) (key : List ℕ) (moment : ℕ) (value : V) : Type 0 where
     pub deadline : Option ℕ
-    pub stands : look (live (means value_of db bases blocks) moment) key ≡ Some (record { value = value_of blocks value; deadline = deadline })
+    pub stands : look (live (means value_of db bases blocks) moment) key
+        ≡ Some (record { value = value_of blocks value; deadline = deadline })
     pub owned : Owned (refs_of value) blocks
     pub has : HasValue bases blocks db key value
 
@@ -50,16 +53,19 @@ module _ {V : Type 0} where
   IsVacant vacant bases db at = value_at (item (table_at bases db) at) ≡ Some vacant
 
   -- The value was taken out of the place of the key, at which the world had it.
-  pub record Lifts (refs_of : V → List BlockRef) (value_of : Blocks → V → Value) (empty : V) (old new : Bases V) (blocks : Blocks) (db : ℕ) (key : List ℕ) (moment : ℕ) (lifted : Lifted V) : Type 0 where
+  pub record Lifts (refs_of : V → List BlockRef) (value_of : Blocks → V → Value) (empty : V) (old new : Bases V)
+      (blocks : Blocks) (db : ℕ) (key : List ℕ) (moment : ℕ) (lifted : Lifted V) : Type 0 where
     pub same_db : lifted.db ≡ db
     pub deadline : Option ℕ
-    pub stands : look (live (means value_of db old blocks) moment) key ≡ Some (record { value = value_of blocks lifted.value; deadline = deadline })
+    pub stands : look (live (means value_of db old blocks) moment) key
+        ≡ Some (record { value = value_of blocks lifted.value; deadline = deadline })
     pub owned : Owned (refs_of lifted.value) blocks
     pub had : HasValue old blocks db key lifted.value
     pub vacant : IsVacant empty new db lifted.item
     pub place : IsPlace new blocks db lifted.item key deadline
     -- whatever is put at the key next, the world becomes what it would have become before
-    pub back : (entry : Entry) → put (means value_of db new blocks) key entry ≡ put (means value_of db old blocks) key entry
+    pub back : (entry : Entry)
+        → put (means value_of db new blocks) key entry ≡ put (means value_of db old blocks) key entry
 
 -- the references `all` are those of `part` and those of `rest`
 abbrev pub AreParts : List BlockRef → List BlockRef → List BlockRef → Type 0
@@ -78,7 +84,8 @@ module _ {V : Type 0} where
     pub lacks : IfNone sought.item (Lacks blocks (table_at bases db) key)
 
   -- the deadline of a key that is to join stands already, where it has one
-  pub record Begins (old mid : Bases V) (blocks : Blocks) (db : ℕ) (name : BlockRef) (key : List ℕ) (deadline : Option ℕ) : Type 0 where
+  pub record Begins (old mid : Bases V) (blocks : Blocks) (db : ℕ) (name : BlockRef) (key : List ℕ)
+      (deadline : Option ℕ) : Type 0 where
     pub changes : ChangesDeadlines old mid db
     pub keyed : Keyed blocks (deadlines_at mid db).table
     pub seed : (deadlines_at mid db).table.seed ≡ (deadlines_at old db).table.seed
@@ -86,12 +93,17 @@ module _ {V : Type 0} where
     pub grown : Grows blocks (deadlines_at old db) (deadlines_at mid db)
     pub cursor : KeepsCursor (deadlines_at old db) (deadlines_at mid db)
     -- where the key joins, each deadline is a key's
-    pub joined : (keys : Table V) → Names keys name → Keyed blocks keys → IsTimed blocks keys (deadlines_at old db) → IsTimed blocks keys (deadlines_at mid db)
+    pub joined : (keys : Table V) → Names keys name → Keyed blocks keys → IsTimed blocks keys (deadlines_at old db)
+        → IsTimed blocks keys (deadlines_at mid db)
     -- where its deadline goes again, too
-    pub undone : (new : Timed) → Clears blocks (deadlines_at mid db).table new.table key ⊎ ((new ≡ deadlines_at mid db) × Lacks blocks (deadlines_at mid db).table key) → Keyed blocks new.table → IsTimed blocks (table_at old db) new
+    pub undone : (new : Timed)
+        → Clears blocks (deadlines_at mid db).table new.table key
+        ⊎ ((new ≡ deadlines_at mid db) × Lacks blocks (deadlines_at mid db).table key) → Keyed blocks new.table
+        → IsTimed blocks (table_at old db) new
 
   -- a key joined with its value and its deadline
-  pub record Joins (old new : Bases V) (blocks : Blocks) (db : ℕ) (ref : BlockRef) (key : List ℕ) (value : V) (deadline : Option ℕ) : Type 0 where
+  pub record Joins (old new : Bases V) (blocks : Blocks) (db : ℕ) (ref : BlockRef) (key : List ℕ) (value : V)
+      (deadline : Option ℕ) : Type 0 where
     pub base : ChangesBase old new db
     pub at : ℕ
     pub hash : ℕ
@@ -122,9 +134,10 @@ pub record HasUntil (world : World) (key : List ℕ) (deadline : Option ℕ) : T
 abbrev pub IsDeadline : Option ℕ → Type 0
 IsDeadline deadline = IfSome deadline (λ d. d < 2 ^ 63)
 
--- What a search for a key and for its deadline found, and what is seen of the key at a moment: it is there, with this deadline
--- or without one, or it isn't. The deadline is told also where it is past.
-pub record Sees {V : Type 0} (value_of : Blocks → V → Value) (bases : Bases V) (blocks : Blocks) (db : ℕ) (key : List ℕ) (moment : ℕ) (found : SoughtAt) : Type 0 where
+-- What a search for a key and for its deadline found, and what is seen of the key at a moment: it is there, with this
+-- deadline or without one, or it isn't. The deadline is told also where it is past.
+pub record Sees {V : Type 0} (value_of : Blocks → V → Value) (bases : Bases V) (blocks : Blocks) (db : ℕ) (key : List ℕ)
+    (moment : ℕ) (found : SoughtAt) : Type 0 where
   pub seeks : Seeks bases blocks db key found.sought
   pub timed : IfSome found.timed (λ at. Stands blocks (deadlines_at bases db).table at key)
   pub untimed : IfNone found.timed (Lacks blocks (deadlines_at bases db).table key)

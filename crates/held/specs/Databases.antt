@@ -22,7 +22,8 @@ pub record Bases (V : Type 0) : Type 0 where
 
 -- what a value means is read out of the blocks that it owns, and out of no other
 abbrev pub ReadsOwn : {V : Type 0} → (V → List BlockRef) → (Blocks → V → Value) → Type 0
-ReadsOwn {V} refs_of value_of = (m after : Blocks) (value : V) → ((r : BlockRef) → 0 < times r (refs_of value) → after r ≡ m r) → value_of after value ≡ value_of m value
+ReadsOwn {V} refs_of value_of = (m after : Blocks) (value : V)
+    → ((r : BlockRef) → 0 < times r (refs_of value) → after r ≡ m r) → value_of after value ≡ value_of m value
 
 -- from each key to its value, and from each key that has a deadline to that
 abbrev pub Values : Type 0
@@ -33,7 +34,8 @@ Moments = FinMap (slice_cmp nat_cmp) ℕ
 
 -- each key stands with its value, and with its deadline where it has one
 unfoldable pub with_deadlines : Values → Moments → Database
-with_deadlines values moments = from_sorted (map (λ e. (e.0, record { value = e.1; deadline = get moments e.0 })) (entries values))
+with_deadlines values moments =
+    from_sorted (map (λ e. (e.0, record { value = e.1; deadline = get moments e.0 })) (entries values))
 
 -- the key has this deadline, or none, and all others have theirs
 abbrev pub with_deadline : Moments → List ℕ → Option ℕ → Moments
@@ -63,11 +65,13 @@ module _ {V : Type 0} where
 
   -- what a database means: each key, value and deadline is read out of the blocks
   abbrev pub base_means : (Blocks → V → Value) → Blocks → Base V → Database
-  base_means value_of blocks base = with_deadlines (map_of blocks (value_of blocks) base.keys) (moments blocks base.deadlines)
+  base_means value_of blocks base =
+      with_deadlines (map_of blocks (value_of blocks) base.keys) (moments blocks base.deadlines)
 
   -- The world that the databases mean. The selected database is given.
   abbrev pub means : (Blocks → V → Value) → ℕ → Bases V → Blocks → World
-  means value_of selected bases blocks = record { bases = λ number. base_means value_of blocks (base_at bases number); selected = selected }
+  means value_of selected bases blocks =
+      record { bases = λ number. base_means value_of blocks (base_at bases number); selected = selected }
 
   -- what values are made with stays, and whose turn the next expiry step is
   pub record SameSettings (old new : Bases V) : Type 0 where

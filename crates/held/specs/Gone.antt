@@ -25,8 +25,11 @@ pub record Loses (blocks : Blocks) (old new : Timed) (key : List ℕ) : Type 0 w
   pub lacks : Lacks blocks new.table key
 
 -- So many keys of one database left, each of them gone at the moment.
-pub record Thins {V : Type 0} (value_of : Blocks → V → Value) (old new : Bases V) (m after : Blocks) (db moment count : ℕ) : Type 0 where
-  pub world : means value_of db new after ≡ with_base (means value_of db old m) (base_means value_of after (base_at new db))
-  pub same : live_keys (base_means value_of after (base_at new db)) moment ≡ live_keys (base_means value_of m (base_at old db)) moment
+pub record Thins {V : Type 0} (value_of : Blocks → V → Value) (old new : Bases V) (m after : Blocks)
+    (db moment count : ℕ) : Type 0 where
+  pub world : means value_of db new after
+      ≡ with_base (means value_of db old m) (base_means value_of after (base_at new db))
+  pub same : live_keys (base_means value_of after (base_at new db)) moment
+      ≡ live_keys (base_means value_of m (base_at old db)) moment
   pub counted : len (base_means value_of m (base_at old db)) ≡ count + len (base_means value_of after (base_at new db))
   pub part : IsPart (deadlines_at old db) (deadlines_at new db)

@@ -32,23 +32,28 @@ module _ {V : Type 0} where
   deadlines_move bases db = is_rehashing (tables (deadlines_at bases db).table)
 
   -- The databases stay in order, mean what they meant, and own what they owned.
-  pub record Preserves (refs_of : V → List BlockRef) (value_of : Blocks → V → Value) (m : Blocks) (old new : Bases V) : Type 0 where
+  pub record Preserves (refs_of : V → List BlockRef) (value_of : Blocks → V → Value) (m : Blocks) (old new : Bases V)
+      : Type 0 where
     pub arranged : IsArranged new m
     pub means : (number : ℕ) → means value_of number new m ≡ means value_of number old m
     pub sound : (out : List BlockRef) → SoundBeside refs_of old m out → SoundBeside refs_of new m out
     pub settings : SameSettings old new
 
-  -- A rehash step goes to the lowest database whose key table is in a rehash, or else to the lowest whose deadlines are.
-  -- Nothing else changes.
+  -- A rehash step goes to the lowest database whose key table is in a rehash, or else to the lowest whose deadlines
+  -- are. Nothing else changes.
   pub data Rehashes (blocks : Blocks) (old new : Bases V) : Type 0 where
-    of_keys : (db : ℕ) → IsLowest (keys_move old) db → ChangesTable old new db → StepsTable blocks (table_at old db) (table_at new db) → Rehashes blocks old new
-    of_deadlines : (db : ℕ) → ((number : ℕ) → keys_move old number ≡ false) → IsLowest (deadlines_move old) db → ChangesDeadlines old new db
-        → StepsTable blocks (deadlines_at old db).table (deadlines_at new db).table → KeepsCursor (deadlines_at old db) (deadlines_at new db) → Rehashes blocks old new
+    of_keys : (db : ℕ) → IsLowest (keys_move old) db → ChangesTable old new db
+        → StepsTable blocks (table_at old db) (table_at new db) → Rehashes blocks old new
+    of_deadlines : (db : ℕ) → ((number : ℕ) → keys_move old number ≡ false) → IsLowest (deadlines_move old) db
+        → ChangesDeadlines old new db
+        → StepsTable blocks (deadlines_at old db).table (deadlines_at new db).table
+        → KeepsCursor (deadlines_at old db) (deadlines_at new db) → Rehashes blocks old new
 
   -- so many steps, one after the other
   pub data Steps (blocks : Blocks) (old : Bases V) : ℕ → Bases V → Type 0 where
     start : Steps blocks old 0 old
-    more : (count : ℕ) (mid new : Bases V) → Steps blocks old count mid → Rehashes blocks mid new → Steps blocks old (count + 1) new
+    more : (count : ℕ) (mid new : Bases V) → Steps blocks old count mid → Rehashes blocks mid new
+        → Steps blocks old (count + 1) new
 
   -- no table is in a rehash
   pub record AreStill (bases : Bases V) : Type 0 where

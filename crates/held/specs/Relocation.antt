@@ -82,7 +82,8 @@ module _ {V : Type 0} where
     pub same_value : now.value ≡ was.value
     pub calm : wants later now.key ≡ false
 
-module _ {V E : Type 0} (refs_of : V → List BlockRef) (marks : V → List ℕ) (encoding : V → E) (later : Heap) (old new : Bases V) where
+module _ {V E : Type 0} (refs_of : V → List BlockRef) (marks : V → List ℕ) (encoding : V → E) (later : Heap)
+    (old new : Bases V) where
   -- A part of an element's blocks was passed: its key's block where there is no mark, and those of its value from the
   -- mark on.
   pub record PassesElement (db at : ℕ) (mark : Option ℕ) (room : ℕ) (answer : Moved) : Type 0 where

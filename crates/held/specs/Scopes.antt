@@ -12,8 +12,8 @@ use Rattle.held.specs.declared.databases.Base.{Base}
 use Rattle.held.specs.Table.{Element, item}
 use Rattle.held.specs.Databases.{Bases, no_base, base_at, table_at, deadlines_at}
 
--- Which databases a call may change, which of their keys it may write, and which of them may lose all their keys at once.
--- Other keys may leave, or their deadlines change.
+-- Which databases a call may change, which of their keys it may write, and which of them may lose all their keys at
+-- once. Other keys may leave, or their deadlines change.
 pub record Scope : Type 1 where
   pub touches : ℕ → Type 0
   pub writes : ℕ → List ℕ → Type 0
@@ -25,7 +25,8 @@ untouched = record { touches = λ number. ⊥; writes = λ number key. ⊥; empt
 
 -- these keys of a database
 abbrev pub keys_of : ℕ → (List ℕ → Type 0) → Scope
-keys_of db named = record { touches = λ number. number ≡ db; writes = λ number key. (number ≡ db) × named key; empties = λ number. ⊥ }
+keys_of db named =
+    record { touches = λ number. number ≡ db; writes = λ number key. (number ≡ db) × named key; empties = λ number. ⊥ }
 
 abbrev pub one_key : ℕ → List ℕ → Scope
 one_key db key = keys_of db (λ other. other ≡ key)
@@ -58,8 +59,8 @@ abbrev pub anything : Scope
 anything = record { touches = λ number. Unit {0}; writes = λ number key. Unit {0}; empties = λ number. Unit {0} }
 
 module _ {V : Type 0} where
-  -- both tables of a database come from those before by inserts, removals and calls of `shrink`, and the search for keys
-  -- that are gone goes on where it stood
+  -- both tables of a database come from those before by inserts, removals and calls of `shrink`, and the search for
+  -- keys that are gone goes on where it stood
   pub record BaseGrows (seed : ℕ) (old new : Base V) (m after : Blocks) : Type 0 where
     pub keys : Grown (hash_of seed) (key_tables m old.keys) (key_tables after new.keys)
     pub deadlines : Grown (hash_of seed) (key_tables m old.deadlines.table) (key_tables after new.deadlines.table)
@@ -67,14 +68,16 @@ module _ {V : Type 0} where
 
   -- the same, or from no table and the first cursor where all keys may have left at once
   abbrev pub Grew : Type 0 → ℕ → Base V → Base V → Blocks → Blocks → Type 0
-  Grew emptied seed old new m after = BaseGrows seed old new m after ⊎ (emptied × BaseGrows seed (no_base seed) new m after)
+  Grew emptied seed old new m after =
+      BaseGrows seed old new m after ⊎ (emptied × BaseGrows seed (no_base seed) new m after)
 
   -- both tables of each database come from none, and each search for keys that are gone stands at its first cursor
   abbrev pub AreGrown : Bases V → Blocks → Type 0
   AreGrown bases blocks = (db : ℕ) → BaseGrows bases.seed (no_base bases.seed) (base_at bases db) blocks blocks
 
   -- an element stood there before, and its key and its value have the blocks and bytes that they had
-  pub record Stayed (refs_of : V → List BlockRef) (old : Bases V) (m after : Blocks) (db at : ℕ) (element : Element V) : Type 0 where
+  pub record Stayed (refs_of : V → List BlockRef) (old : Bases V) (m after : Blocks) (db at : ℕ) (element : Element V)
+      : Type 0 where
     pub stood : item (table_at old db) at ≡ Some element
     pub bytes : (r : BlockRef) → 0 < times r (element.key ∷ refs_of element.value) → after r ≡ m r
 
@@ -82,7 +85,8 @@ module _ {V : Type 0} where
   pub record Within (refs_of : V → List BlockRef) (scope : Scope) (old new : Bases V) (m after : Blocks) : Type 0 where
     pub same : (db : ℕ) → (scope.touches db → ⊥) → base_at new db ≡ base_at old db
     pub grew : (db : ℕ) → Grew (scope.empties db) old.seed (base_at old db) (base_at new db) m after
-    pub stayed : (db at : ℕ) (element : Element V) → item (table_at new db) at ≡ Some element → (scope.writes db (bytes_at after element.key) → ⊥) → Stayed refs_of old m after db at element
+    pub stayed : (db at : ℕ) (element : Element V) → item (table_at new db) at ≡ Some element
+        → (scope.writes db (bytes_at after element.key) → ⊥) → Stayed refs_of old m after db at element
     pub seed : new.seed ≡ old.seed
 
   -- a call of `shrink` would begin nothing in either table of the database

@@ -38,12 +38,15 @@ module _ {V : Type 0} where
     pub turn : bases.turn < 16
 
   -- The databases, and the values that are out of them with these references, name live blocks, none of them twice.
-  pub record IsIntact (refs_of : V → List BlockRef) (bases : Bases V) (blocks : Blocks) (out : List BlockRef) : Type 0 where
+  pub record IsIntact (refs_of : V → List BlockRef) (bases : Bases V) (blocks : Blocks) (out : List BlockRef)
+      : Type 0 where
     pub owned : (r : BlockRef) → times r (owned refs_of bases) + times r out ≤ live blocks r
     pub arranged : IsArranged bases blocks
 
-  -- The databases, and the values that are out of them with these references, name each live block exactly once, and no other.
-  pub record SoundBeside (refs_of : V → List BlockRef) (bases : Bases V) (blocks : Blocks) (out : List BlockRef) : Type 0 where
+  -- The databases, and the values that are out of them with these references, name each live block exactly once, and no
+  -- other.
+  pub record SoundBeside (refs_of : V → List BlockRef) (bases : Bases V) (blocks : Blocks) (out : List BlockRef)
+      : Type 0 where
     pub owns : (r : BlockRef) → times r (owned refs_of bases) + times r out ≡ live blocks r
     pub arranged : IsArranged bases blocks
 

@@ -5,8 +5,8 @@ use Rattle.std.specs.Int.{w64}
 use Rattle.std.specs.Str.Parse.{IsNumeral, digits_value, signed_digits_value}
 use lib.Signed.{mag}
 
--- The canonical text of a whole number: a minus sign where it is negative, and its decimal digits, of which the first is no
--- 0 but in `0` itself. (Redis command reference: the text of an integer value, as INCR writes it.)
+-- The canonical text of a whole number: a minus sign where it is negative, and its decimal digits, of which the first
+-- is no 0 but in `0` itself. (Redis command reference: the text of an integer value, as INCR writes it.)
 abbrev pub canonical : ℤ → List ℕ
 canonical n = signed_decimal n
 
@@ -18,8 +18,8 @@ IsI64Text text = (n : ℤ) × FitsSigned w64 n × (text ≡ canonical n)
 abbrev pub is_i64 : ℤ → Bool
 is_i64 n = nat_lt (mag n) (2 ^ 63)
 
--- the number of 64 bits whose canonical text it is, where there is one: the number that the digits make, where its text is
--- this one
+-- the number of 64 bits whose canonical text it is, where there is one: the number that the digits make, where its text
+-- is this one
 abbrev pub number_of : List ℕ → Option ℤ
 number_of text = let n = signed_digits_value 10 text in if bytes_eq (canonical n) text && is_i64 n then Some n else None
 

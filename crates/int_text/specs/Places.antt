@@ -14,7 +14,9 @@ module _ (whole fraction : List ℕ) (before : ℕ) where
 
   -- the digits before the point, and zeros where there are too few
   abbrev pub kept : ℕ
-  kept = digits_value_after 10 (digits_value 10 (take whole_kept whole)) (take fraction_kept fraction) * 10 ^ (before - whole_kept - fraction_kept)
+  kept =
+      digits_value_after 10 (digits_value 10 (take whole_kept whole)) (take fraction_kept fraction)
+      * 10 ^ (before - whole_kept - fraction_kept)
 
   -- nothing but zeros stands behind the point
   pub record IsNothingBehind : Type 0 where
@@ -24,5 +26,6 @@ module _ (whole fraction : List ℕ) (before : ℕ) where
   abbrev pub IsValueAt : Result ℕ ScoreFault → Type 0
   IsValueAt (Ok n) = IsNothingBehind × (n ≡ kept) × (n ≤ 2 ^ 53)
   IsValueAt (Err Malformed) = ⊥
-  IsValueAt (Err NotWhole) = (digits_value 10 (drop whole_kept whole) ≢ 0) ⊎ (digits_value 10 (drop fraction_kept fraction) ≢ 0)
+  IsValueAt (Err NotWhole) =
+      (digits_value 10 (drop whole_kept whole) ≢ 0) ⊎ (digits_value 10 (drop fraction_kept fraction) ≢ 0)
   IsValueAt (Err TooLarge) = IsNothingBehind × (2 ^ 53 < kept)

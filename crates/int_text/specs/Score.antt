@@ -1,5 +1,5 @@
--- Score texts, and the whole numbers that they mean. (Redis command reference, ZADD: a score is the text of a floating point
--- number. Here the whole ones of magnitude at most 2^53 are taken, which such numbers hold exactly.)
+-- Score texts, and the whole numbers that they mean. (Redis command reference, ZADD: a score is the text of a floating
+-- point number. Here the whole ones of magnitude at most 2^53 are taken, which such numbers hold exactly.)
 use Rattle.std.specs.Prelude.{◌≡◌, ℕ, ◌+◌, ◌*◌, ◌^◌, ◌<◌, ◌≤◌, ◌⊎◌, Bool, true, false, List, [], ◌∷◌, ◌++◌, length, Result, Ok, Err, if◌then◌else◌, ℤ, pos, neg_ℤ, codes}
 use Rattle.std.specs.Str.{str_to_ascii_lowercase}
 use Rattle.std.specs.Str.Parse.{AllDigits, IsNumeral, digits_value}
@@ -20,10 +20,12 @@ pub data IsFraction : List ℕ → List ℕ → Type 0 where
 -- nothing, or `e` or `E`, a sign that may stand, and one digit or more: whether to divide, and by which power of ten
 pub data IsExponent : List ℕ → Bool → ℕ → Type 0 where
   no_exponent : IsExponent [] false 0
-  exponent : (mark : ℕ) (sign digits : List ℕ) (divides : Bool) → (mark ≡ 101) ⊎ (mark ≡ 69) → IsSign sign divides → IsNumeral 10 digits
+  exponent : (mark : ℕ) (sign digits : List ℕ) (divides : Bool) → (mark ≡ 101) ⊎ (mark ≡ 69) → IsSign sign divides
+      → IsNumeral 10 digits
       → IsExponent (mark ∷ sign ++ digits) divides (digits_value 10 digits)
 
--- The parts of a number without a sign: digits, a fraction and an exponent, with one digit at least before the exponent.
+-- The parts of a number without a sign: digits, a fraction and an exponent, with one digit at least before the
+-- exponent.
 pub record Number : Type 0 where
   pub whole : List ℕ
   pub fraction : List ℕ
@@ -39,7 +41,8 @@ pub record IsNumber (body : List ℕ) (number : Number) : Type 0 where
   pub is_exponent : IsExponent exponent_text number.divides number.power
   pub some : 0 < length number.whole + length number.fraction
 
--- The value is the number n: the digits, as one number, times the power of ten, over a power for each digit of the fraction.
+-- The value is the number n: the digits, as one number, times the power of ten, over a power for each digit of the
+-- fraction.
 abbrev pub IsWhole : Number → ℕ → Type 0
 IsWhole number n =
     digits_value 10 (number.whole ++ number.fraction) * 10 ^ (if number.divides then 0 else number.power)
@@ -72,17 +75,21 @@ pub record IsInfinity (text : List ℕ) : Type 0 where
   pub is_sign : IsSign sign negative
   pub is_word : IsInfinityWord word
 
--- The score of a text: the whole number that it means, of magnitude at most 2^53, or why there is none. A malformed text is
--- neither a score text nor an infinity; a value that is not whole is so whatever its magnitude; too large is a whole value
--- above 2^53 in magnitude, or an infinity.
+-- The score of a text: the whole number that it means, of magnitude at most 2^53, or why there is none. A malformed
+-- text is neither a score text nor an infinity; a value that is not whole is so whatever its magnitude; too large is a
+-- whole value above 2^53 in magnitude, or an infinity.
 abbrev pub IsScoreOf : List ℕ → Result ℤ ScoreFault → Type 0
 IsScoreOf text (Ok z) =
     (negative : Bool) × (number : Number) × (n : ℕ) × IsScoreText text negative number × IsWhole number n × (n ≤ 2 ^ 53)
     × (z ≡ (if negative then neg_ℤ (pos n) else pos n))
-IsScoreOf text (Err Malformed) = ((negative : Bool) (number : Number) → ¬ (IsScoreText text negative number)) × ¬ (IsInfinity text)
-IsScoreOf text (Err NotWhole) = (negative : Bool) × (number : Number) × IsScoreText text negative number × ((n : ℕ) → ¬ (IsWhole number n))
+IsScoreOf text (Err Malformed) =
+    ((negative : Bool) (number : Number) → ¬ (IsScoreText text negative number)) × ¬ (IsInfinity text)
+IsScoreOf text (Err NotWhole) =
+    (negative : Bool) × (number : Number) × IsScoreText text negative number × ((n : ℕ) → ¬ (IsWhole number n))
 IsScoreOf text (Err TooLarge) =
-    IsInfinity text ⊎ ((negative : Bool) × (number : Number) × (n : ℕ) × IsScoreText text negative number × IsWhole number n × (2 ^ 53 < n))
+    IsInfinity text
+    ⊎ ((negative : Bool) × (number : Number) × (n : ℕ) × IsScoreText text negative number × IsWhole number n
+    × (2 ^ 53 < n))
 
 -- a text has one score, or one fault
 abbrev pub ScoresAreOne : Type 0

@@ -25,25 +25,30 @@ pub record Ready {S : Type 0} (blocks : S → Blocks) (keyspace : Keyspace S) (a
   pub db : at.db < 16
   pub sound : Sound keyspace.bases (blocks keyspace.store)
 
--- The keyspace is sound afterwards, also for want of memory, the store was served placings, returns and writes alone, and
--- nothing changed outside the scope.
-pub record Held {S : Type 0} (blocks : S → Blocks) (step : S → S → Type 0) (scope : Scope) (old new : Keyspace S) : Type 0 where
+-- The keyspace is sound afterwards, also for want of memory, the store was served placings, returns and writes alone,
+-- and nothing changed outside the scope.
+pub record Held {S : Type 0} (blocks : S → Blocks) (step : S → S → Type 0) (scope : Scope) (old new : Keyspace S)
+    : Type 0 where
   pub sound : Sound new.bases (blocks new.store)
   pub served : Served step old.store new.store
   pub settings : SameSettings old.bases new.bases
   pub within : Within scope old.bases new.bases (blocks old.store) (blocks new.store)
 
 -- The same, and where the command is refused, keyspace and store stay as they are.
-pub record Kept {S E : Type 0} (blocks : S → Blocks) (step : S → S → Type 0) (scope : Scope) (old new : Keyspace S) (result : Result (List Part) E) : Type 0 where
+pub record Kept {S E : Type 0} (blocks : S → Blocks) (step : S → S → Type 0) (scope : Scope) (old new : Keyspace S)
+    (result : Result (List Part) E) : Type 0 where
   pub refusals : IfOk result (λ reply. IsRefusal reply → new ≡ old)
   pub sound : Sound new.bases (blocks new.store)
   pub served : Served step old.store new.store
   pub settings : SameSettings old.bases new.bases
   pub within : Within scope old.bases new.bases (blocks old.store) (blocks new.store)
 
--- The command is a step of the model on what the keyspace means, before and after, and what it writes is encoded by its rule.
-pub record Runs {S E : Type 0} (blocks : S → Blocks) (step : S → S → Type 0) (old new : Keyspace S) (at : Ctx) (command : Command) (result : Result (List Part) E) : Type 0 where
-  pub answers : IfOk result (λ reply. may old.bases.seed (sight blocks old at) at.moment command reply (sight blocks new at))
+-- The command is a step of the model on what the keyspace means, before and after, and what it writes is encoded by its
+-- rule.
+pub record Runs {S E : Type 0} (blocks : S → Blocks) (step : S → S → Type 0) (old new : Keyspace S) (at : Ctx)
+    (command : Command) (result : Result (List Part) E) : Type 0 where
+  pub answers : IfOk result
+      (λ reply. may old.bases.seed (sight blocks old at) at.moment command reply (sight blocks new at))
   pub kept : Kept blocks step (scope_of at.db command) old new result
   pub shows : IfOk result (λ reply. Shows blocks old new at command reply)
   pub forms : IfOk result (λ reply. Formed blocks (form_of at.db (sight blocks old at) command) old new)

@@ -17,10 +17,11 @@ use Rattle.keyspace.specs.declared.value.Value.{Value}
 
 -- every value is encoded as one written whole
 abbrev pub AreWhole : Bases → Type 0
-AreWhole bases = (db at : ℕ) (element : Element Value) → item (table_at bases db) at ≡ Some element → IsWhole element.value
+AreWhole bases =
+    (db at : ℕ) (element : Element Value) → item (table_at bases db) at ≡ Some element → IsWhole element.value
 
--- how a value is encoded that a command writes: as one written whole, as one of which a part was changed, or as the value that
--- stood at a key of a database; or no value is written
+-- how a value is encoded that a command writes: as one written whole, as one of which a part was changed, or as the
+-- value that stood at a key of a database; or no value is written
 pub data Form : Type 0 where
   Unwritten : Form
   Whole : Form

@@ -35,8 +35,10 @@ pub record PassesAt (bases : Bases) (m : Blocks) (at : Ctx) (sought : Sought) (i
 -- the keys of those item numbers of which one passes, in their order
 pub data Sifted (P : ℕ → List ℕ → Type 0) : List ℕ → List (List ℕ) → Type 0 where
   end : Sifted P [] []
-  keeps : (item : ℕ) (key : List ℕ) (items : List ℕ) (names : List (List ℕ)) → P item key → Sifted P items names → Sifted P (item ∷ items) (key ∷ names)
-  drops : (item : ℕ) (items : List ℕ) (names : List (List ℕ)) → ((key : List ℕ) → P item key → ⊥) → Sifted P items names → Sifted P (item ∷ items) names
+  keeps : (item : ℕ) (key : List ℕ) (items : List ℕ) (names : List (List ℕ)) → P item key → Sifted P items names
+      → Sifted P (item ∷ items) (key ∷ names)
+  drops : (item : ℕ) (items : List ℕ) (names : List (List ℕ)) → ((key : List ℕ) → P item key → ⊥) → Sifted P items names
+      → Sifted P (item ∷ items) names
 
 -- the item numbers of a move over a table, and the cursor behind it
 abbrev pub move_at : Table Value → ℕ → List ℕ
@@ -45,13 +47,15 @@ move_at t cursor = (scanned t.older t.newer cursor).0
 abbrev pub after : Table Value → ℕ → ℕ
 after t cursor = (scanned t.older t.newer cursor).1
 
--- The page is that of the key table as it stands: its moves until enough keys were met, without those that are gone, or that
--- MATCH or TYPE drop.
-pub record IsTablePage (bases : Bases) (m : Blocks) (at : Ctx) (cursor : ℕ) (options : ScanOptions) (reply : List Part) : Type 0 where
+-- The page is that of the key table as it stands: its moves until enough keys were met, without those that are gone, or
+-- that MATCH or TYPE drop.
+pub record IsTablePage (bases : Bases) (m : Blocks) (at : Ctx) (cursor : ℕ) (options : ScanOptions) (reply : List Part)
+    : Type 0 where
   pub items : List ℕ
   pub next : ℕ
   pub names : List (List ℕ)
-  pub moves : scan_list (move_at (table_at bases at.db)) (after (table_at bases at.db)) cursor options.count ≡ (items, next)
+  pub moves : scan_list (move_at (table_at bases at.db)) (after (table_at bases at.db)) cursor options.count
+      ≡ (items, next)
   pub sifted : Sifted (PassesAt bases m at (keys_sought at.db options)) items names
   pub is : reply ≡ paged next names
 
@@ -60,12 +64,14 @@ pub record IsTablePage (bases : Bases) (m : Blocks) (at : Ctx) (cursor : ℕ) (o
 -- the name of the encoding of the value that stands at the key
 pub data IsActual (bases : Bases) (m : Blocks) (at : Ctx) (key : List ℕ) (reply : List Part) : Type 0 where
   nothing : look (live (means at.db bases m) at.moment) key ≡ None → reply ≡ Null ∷ [] → IsActual bases m at key reply
-  encoded : (value : Value) (name : List ℕ) → held.Found value_refs value_of bases m at.db key at.moment value → IsEncodedAs m value name → reply ≡ Bulk name ∷ [] → IsActual bases m at key reply
+  encoded : (value : Value) (name : List ℕ) → held.Found value_refs value_of bases m at.db key at.moment value
+      → IsEncodedAs m value name → reply ≡ Bulk name ∷ [] → IsActual bases m at key reply
 
 -- ---- DEBUG REHASH
 
 -- so many steps were made, and the reply says how many found a table
-pub record IsRehashed {S : Type 0} (blocks : S → Blocks) (steps : ℕ) (old new : Keyspace S) (reply : List Part) : Type 0 where
+pub record IsRehashed {S : Type 0} (blocks : S → Blocks) (steps : ℕ) (old new : Keyspace S) (reply : List Part)
+    : Type 0 where
   pub found : ℕ
   pub tables : Rehashed (blocks old.store) steps found old.bases new.bases
   pub store : new.store ≡ old.store
@@ -95,7 +101,8 @@ key_shown bases m at (keys.ObjectEncoding key) reply = IsActual bases m at key r
 key_shown bases m at (keys.Scan cursor options) reply = IsTablePage bases m at cursor options reply
 key_shown bases m at other reply = Unit {0}
 
-abbrev pub connection_shown : {S : Type 0} → (S → Blocks) → Keyspace S → Keyspace S → ConnectionCommand → List Part → Type 0
+abbrev pub connection_shown : {S : Type 0} → (S → Blocks) → Keyspace S → Keyspace S → ConnectionCommand → List Part
+    → Type 0
 connection_shown blocks old new (connection.DebugRehash steps) reply = IsRehashed blocks steps old new reply
 connection_shown blocks old new other reply = Unit {0}
 

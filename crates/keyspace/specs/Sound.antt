@@ -11,7 +11,8 @@ pub use Rattle.held.specs.Sound.{IsArranged}
 abbrev pub IsIntact : Bases → Blocks → List BlockRef → Type 0
 IsIntact bases blocks out = held.IsIntact value_refs bases blocks out
 
--- The databases, and the values that are out of them with these references, name each live block exactly once, and no other.
+-- The databases, and the values that are out of them with these references, name each live block exactly once, and no
+-- other.
 abbrev pub SoundBeside : Bases → Blocks → List BlockRef → Type 0
 SoundBeside bases blocks out = held.SoundBeside value_refs bases blocks out
 

@@ -32,7 +32,8 @@ value_marked (Text text) = length-map (text_refs text) (λ at. 0)
 
 -- this is the name of its encoding (Redis command reference, "OBJECT ENCODING")
 abbrev pub IsEncodedAs : Blocks → Value → List ℕ → Type 0
-IsEncodedAs blocks (Text text) name = (own : Name) × IsNameOf (text_bytes blocks text) (is_raw text) own × (name ≡ name_text own)
+IsEncodedAs blocks (Text text) name =
+    (own : Name) × IsNameOf (text_bytes blocks text) (is_raw text) own × (name ≡ name_text own)
 
 -- how a value is encoded beside what it means: for a string, whether it was made raw by a change of a part
 pub data Encoding : Type 0 where

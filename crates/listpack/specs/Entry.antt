@@ -26,8 +26,8 @@ encoding_of b =
     if nat_lt b 0xF4 then Signed 4 else
     if nat_lt b 0xF5 then Signed 8 else NoEncoding
 
--- How many bytes encoding and content take, by the first byte b and the bytes behind it, where missing ones count as zeros.
--- A byte that is no encoding asks for more than there are.
+-- How many bytes encoding and content take, by the first byte b and the bytes behind it, where missing ones count as
+-- zeros. A byte that is no encoding asks for more than there are.
 abbrev pub needed_by : Encoding → ℕ → List ℕ → ℕ
 needed_by SmallNumber b more = 1
 needed_by ShortText b more = 1 + (b - 0x80)
@@ -68,8 +68,8 @@ text_of (b ∷ more) = text_by (encoding_of b) b more
 abbrev pub seven_bits : ℕ → ℕ
 seven_bits n = 0x80 + n % 128
 
--- The back length of n bytes: seven bits a byte, the highest first, all but the first byte with the top bit set. It has one
--- byte up to 127, two below 16,383, three below 2,097,151, four below 268,435,455, and else five.
+-- The back length of n bytes: seven bits a byte, the highest first, all but the first byte with the top bit set. It has
+-- one byte up to 127, two below 16,383, three below 2,097,151, four below 268,435,455, and else five.
 unfoldable pub back_length : ℕ → List ℕ
 back_length n =
     if nat_lt n 128 then n ∷ [] else

@@ -50,7 +50,8 @@ IsCutShort rest = (0 < length rest) × (length rest < needed rest)
 
 -- The rest begins with an entry whose content is there, and behind it something else than its back length.
 abbrev pub LacksBackLength : List ℕ → Type 0
-LacksBackLength rest = (s : List ℕ) × (more : List ℕ) × (rest ≡ s ++ more) × IsSpelling s × ((after : List ℕ) → more ≢ back_length (length s) ++ after)
+LacksBackLength rest = (s : List ℕ) × (more : List ℕ) × (rest ≡ s ++ more) × IsSpelling s
+    × ((after : List ℕ) → more ≢ back_length (length s) ++ after)
 
 -- the fault of the entry that the rest begins with
 abbrev pub IsEntryFault : List ℕ → PackFault → Type 0
@@ -63,17 +64,21 @@ IsEntryFault rest faults.End = ⊥
 
 -- the fault of the first entry that has one, from left to right
 abbrev pub IsRegionFault : List ℕ → PackFault → Type 0
-IsRegionFault bytes fault = (spellings : List (List ℕ)) × (rest : List ℕ) × Begins bytes spellings rest × IsEntryFault rest fault
+IsRegionFault bytes fault =
+    (spellings : List (List ℕ)) × (rest : List ℕ) × Begins bytes spellings rest × IsEntryFault rest fault
 
--- The first fault of bytes that are no listpack: too short; another total; an entry's first byte or content, then its back
--- length, from left to right; the last byte; the count.
+-- The first fault of bytes that are no listpack: too short; another total; an entry's first byte or content, then its
+-- back length, from left to right; the last byte; the count.
 abbrev pub IsFault : List ℕ → PackFault → Type 0
 IsFault bytes faults.Short = length bytes < 7
 IsFault bytes faults.Total = (7 ≤ length bytes) × (total bytes ≢ length bytes)
 IsFault bytes faults.Entry = IsSized bytes × IsRegionFault (region bytes) faults.Entry
 IsFault bytes faults.BackLength = IsSized bytes × IsRegionFault (region bytes) faults.BackLength
-IsFault bytes faults.End = IsSized bytes × ((spellings : List (List ℕ)) × Begins (region bytes) spellings [] × (last_byte bytes ≢ 0xFF))
-IsFault bytes faults.Count = IsSized bytes × ((spellings : List (List ℕ)) × Begins (region bytes) spellings [] × (last_byte bytes ≡ 0xFF) × (told bytes ≢ 65535) × (told bytes ≢ length spellings))
+IsFault bytes faults.End =
+    IsSized bytes × ((spellings : List (List ℕ)) × Begins (region bytes) spellings [] × (last_byte bytes ≢ 0xFF))
+IsFault bytes faults.Count = IsSized bytes
+    × ((spellings : List (List ℕ)) × Begins (region bytes) spellings [] × (last_byte bytes ≡ 0xFF)
+    × (told bytes ≢ 65535) × (told bytes ≢ length spellings))
 
 -- The spellings of the entries, read from left to right; n bounds their number.
 unfoldable pub cut : ℕ → List ℕ → List (List ℕ)
@@ -94,7 +99,8 @@ IsPack bytes = HasSpellings bytes (spellings_of bytes)
 abbrev pub texts : List ℕ → List (List ℕ)
 texts bytes = map text_of (spellings_of bytes)
 
--- Bytes are a listpack of one list, or have one first fault, and never both; and the list is the one that reading gives.
+-- Bytes are a listpack of one list, or have one first fault, and never both; and the list is the one that reading
+-- gives.
 pub record ExactlyOne (bytes : List ℕ) : Type 0 where
   pub either : ((list : List (List ℕ)) × Packs bytes list) ⊎ ((fault : PackFault) × IsFault bytes fault)
   pub not_both : (list : List (List ℕ)) (fault : PackFault) → Packs bytes list → IsFault bytes fault → ⊥

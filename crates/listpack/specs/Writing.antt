@@ -1,5 +1,5 @@
--- How an element is spelled by a writer: the shortest number form for a canonical text of a signed number of 64 bits, else the
--- shortest string form. (Listpack specification, "Element encoding".)
+-- How an element is spelled by a writer: the shortest number form for a canonical text of a signed number of 64 bits,
+-- else the shortest string form. (Listpack specification, "Element encoding".)
 use Rattle.std.specs.Prelude.{ℕ, ◌+◌, ◌-◌, ◌/◌, ◌%◌, ◌^◌, ◌<◌, Bool, false, List, [], ◌∷◌, ◌++◌, length, ℤ, pos, negsuc, nat_lt, if◌then◌else◌, Option, Some, None}
 use Rattle.std.specs.Int.{w64}
 use Rattle.byteorder.specs.Endian.{little_bytes, low_bytes}

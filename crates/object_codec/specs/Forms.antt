@@ -1,4 +1,5 @@
--- Which form a collection has. (Redis command reference, OBJECT ENCODING, and the configuration of listpack and intset limits.)
+-- Which form a collection has. (Redis command reference, OBJECT ENCODING, and the configuration of listpack and intset
+-- limits.)
 use Rattle.std.specs.Prelude.{◌≡◌, ℕ, ◌≤◌, Bool, true, ⊤, List, codes}
 use Rattle.object_codec.specs.declared.limits.Limits.{Limits}
 use Rattle.object_codec.specs.declared.form.Form.{Form}

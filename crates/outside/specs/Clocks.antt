@@ -19,7 +19,8 @@ rest_of (answer ∷ left) = left
 -- a clock that tells its answers gives the next one
 abbrev pub Tells : Option Answers → ℕ → Option Answers → Type 0
 Tells None now new = ⊤
-Tells (Some answers) now new = (now ≡ next_of answers.left answers.after) × (new ≡ Some (record { left = rest_of answers.left; after = answers.after }))
+Tells (Some answers) now new = (now ≡ next_of answers.left answers.after)
+    × (new ≡ Some (record { left = rest_of answers.left; after = answers.after }))
 
 -- the last of a clock's answers, or this where there is none
 abbrev pub last_or : ℕ → List ℕ → ℕ

@@ -10,8 +10,8 @@ use Rattle.outside.specs.Streams.{SourceSeen, Takes, Fits, without}
 abbrev pub Files : Type 0
 Files = Option (List ℕ → Option (List ℕ))
 
--- a host: the files, and the one that is begun as a source, of which nothing is left where none is begun; its faults are
--- those of calls of both kinds, and none follows that is sure but by a name that has no file
+-- a host: the files, and the one that is begun as a source, of which nothing is left where none is begun; its faults
+-- are those of calls of both kinds, and none follows that is sure but by a name that has no file
 pub record HostSeen : Type 0 where
   pub files : Files
   pub reading : SourceSeen
@@ -54,8 +54,9 @@ abbrev pub left_by : {F : Type 0} → (F → Option (List ℕ)) → Option F →
 left_by remaining None = Some []
 left_by remaining (Some file) = remaining file
 
--- a shelf: the files, and the name whose bytes are made, where they are told; whether a name is made; how many faults there
--- were in calls of both kinds, up to the greatest u64; and how many bytes more a put takes without one, where it surely does
+-- a shelf: the files, and the name whose bytes are made, where they are told; whether a name is made; how many faults
+-- there were in calls of both kinds, up to the greatest u64; and how many bytes more a put takes without one, where it
+-- surely does
 pub record ShelfSeen : Type 0 where
   pub files : Files
   pub made : Option (List ℕ)
@@ -91,7 +92,8 @@ pub record PutsOn {E : Type 0} (old new : ShelfSeen) (result : Result ℕ E) (pi
   pub begun : OnOk result (old.begun ≡ true)
   pub same : new.begun ≡ old.begun
   pub made : new.made ≡ old.made
-  pub grown : (name bytes : List ℕ) → old.made ≡ Some name → Has old.files name bytes → IfOk result (λ n. Has new.files name (bytes ++ take n piece))
+  pub grown : (name bytes : List ℕ) → old.made ≡ Some name → Has old.files name bytes
+      → IfOk result (λ n. Has new.files name (bytes ++ take n piece))
   pub others : (name : List ℕ) → old.made ≡ Some name → KeepsOthers old.files new.files name
   pub none : old.made ≡ None → new.files ≡ old.files
   pub tally : Tallies old.faults new.faults ((old.begun ≡ true) × Fits old.room (length piece)) result

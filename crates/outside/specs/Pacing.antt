@@ -48,7 +48,8 @@ SaysSpent (Some plans) spent = spent ≡ is_spent plans.left plans.goes_on
 -- a pacer that tells its plans gives the next one
 abbrev pub GivesPlan : ℕ → Option Plans → Plan → Option Plans → Type 0
 GivesPlan effort None plan new = ⊤
-GivesPlan effort (Some plans) plan new = (plan ≡ next_plan effort plans.left plans.goes_on) × (new ≡ Some (record { left = later_plans plans.left; goes_on = plans.goes_on }))
+GivesPlan effort (Some plans) plan new = (plan ≡ next_plan effort plans.left plans.goes_on)
+    × (new ≡ Some (record { left = later_plans plans.left; goes_on = plans.goes_on }))
 
 -- a pacer is asked for its next plan
 pub record Paces (old : PacerSeen) (plan : Plan) (new : PacerSeen) : Type 0 where
@@ -59,9 +60,11 @@ pub record Paces (old : PacerSeen) (plan : Plan) (new : PacerSeen) : Type 0 wher
 abbrev pub cut : Plan → Plan
 cut plan = record { rehash = min plan.rehash 1000; defrag = min plan.defrag 1000; expire = min plan.expire 1000 }
 
--- A conductor over pacers is asked for the next plan: spent ones are dropped from the front, and the front one's plan is
--- cut; with none left it is three zeros.
+-- A conductor over pacers is asked for the next plan: spent ones are dropped from the front, and the front one's plan
+-- is cut; with none left it is three zeros.
 pub data Conducts : List PacerSeen → Plan → List PacerSeen → Type 0 where
-  Drops : (front : PacerSeen) (pacers new : List PacerSeen) (plan : Plan) → SaysSpent front.plans true → Conducts pacers plan new → Conducts (front ∷ pacers) plan new
-  Asks : (front front' : PacerSeen) (pacers : List PacerSeen) (plan : Plan) → SaysSpent front.plans false → Paces front plan front' → Conducts (front ∷ pacers) (cut plan) (front' ∷ pacers)
+  Drops : (front : PacerSeen) (pacers new : List PacerSeen) (plan : Plan) → SaysSpent front.plans true
+      → Conducts pacers plan new → Conducts (front ∷ pacers) plan new
+  Asks : (front front' : PacerSeen) (pacers : List PacerSeen) (plan : Plan) → SaysSpent front.plans false
+      → Paces front plan front' → Conducts (front ∷ pacers) (cut plan) (front' ∷ pacers)
   HasNone : Conducts [] no_plan []

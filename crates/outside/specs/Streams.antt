@@ -3,8 +3,8 @@ use Rattle.std.specs.Prelude.{◌≡◌, ℕ, ◌-◌, ◌≤◌, Bool, true, fa
 use Rattle.std.specs.Io.KnownBytes.{Consumes, ReadConsumes, WriteAppends}
 use Rattle.outside.specs.Counts.{Rose, Tallies}
 
--- a source: the bytes that are left, where they are told; how many faults there were, up to the greatest u64; and whether
--- none follows
+-- a source: the bytes that are left, where they are told; how many faults there were, up to the greatest u64; and
+-- whether none follows
 pub record SourceSeen : Type 0 where
   pub told : Option (List ℕ)
   pub faults : ℕ

@@ -34,7 +34,8 @@ pub record IsSlabTable (reply : List Part) : Type 0 where
   pub rising : AllPairs (λ (a b : ClassSlabs). a.size < b.size) classes
   pub is : reply ≡ slab_table classes
 
--- What a command answers and leaves, in the world that is live at the moment. Of MEMORY SLABS and DEBUG only the world is fixed.
+-- What a command answers and leaves, in the world that is live at the moment. Of MEMORY SLABS and DEBUG only the world
+-- is fixed.
 abbrev pub connection_outcome : ℕ → World → ConnectionCommand → Outcome
 connection_outcome moment old (connection.Ping text) = tells (pong text ∷ []) old
 connection_outcome moment old (connection.Echo text) = tells (Bulk text ∷ []) old
@@ -42,7 +43,8 @@ connection_outcome moment old connection.Quit = tells (Simple (codes "OK") ∷ [
 connection_outcome moment old (connection.Select number) = leaves (Simple (codes "OK") ∷ []) (selecting old number)
 connection_outcome moment old connection.DbSize = tells (Number (pos (len (old.bases old.selected))) ∷ []) old
 connection_outcome moment old connection.FlushDb = leaves (Simple (codes "OK") ∷ []) (with_base old no_keys)
-connection_outcome moment old connection.FlushAll = leaves (Simple (codes "OK") ∷ []) (record { bases = λ number. no_keys; selected = old.selected })
+connection_outcome moment old connection.FlushAll =
+    leaves (Simple (codes "OK") ∷ []) (record { bases = λ number. no_keys; selected = old.selected })
 connection_outcome moment old connection.MemorySlabs = tells [] old
 connection_outcome moment old (connection.DebugRehash n) = tells [] old
 connection_outcome moment old (connection.DebugDefrag n) = tells [] old

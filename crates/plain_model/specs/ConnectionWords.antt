@@ -19,7 +19,8 @@ ping_words (text ∷ more ∷ words) = Err WrongNumberOfArguments
 
 -- ASYNC and SYNC set nothing
 abbrev pub flush_choices : List (Choice (Unit {0}))
-flush_choices = record { name = codes "async"; kinds = []; sets = λ own c. c } ∷ record { name = codes "sync"; kinds = []; sets = λ own c. c } ∷ []
+flush_choices = record { name = codes "async"; kinds = []; sets = λ own c. c }
+    ∷ record { name = codes "sync"; kinds = []; sets = λ own c. c } ∷ []
 
 abbrev pub flush_words : ConnectionCommand → Words → Read
 flush_words command = with_choices [] flush_choices tt (λ a c. Ok command)
@@ -31,8 +32,10 @@ memory_of second = if bytes_eq (in_lower_case second) (codes "slabs") then Ok co
 -- the second word of DEBUG is REHASH or DEFRAG, and the next one a number of steps
 abbrev pub debug_of : List ℕ → List ℕ → Read
 debug_of second n =
-    if bytes_eq (in_lower_case second) (codes "rehash") then and_then (told Steps n) (λ n. Ok (connection.DebugRehash n))
-    else (if bytes_eq (in_lower_case second) (codes "defrag") then and_then (told Steps n) (λ n. Ok (connection.DebugDefrag n)) else Err Syntax)
+    if bytes_eq (in_lower_case second) (codes "rehash") then and_then (told Steps n)
+    (λ n. Ok (connection.DebugRehash n))
+    else (if bytes_eq (in_lower_case second) (codes "defrag") then and_then (told Steps n)
+    (λ n. Ok (connection.DebugDefrag n)) else Err Syntax)
 
 abbrev pub connection_rows : List (Row ConnectionCommand)
 connection_rows =

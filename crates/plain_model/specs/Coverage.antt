@@ -35,10 +35,13 @@ pub record Reports (sought : Sought) (cursor : ℕ) (turn : Turn) (next : ℕ) (
 -- A scan from a cursor on, in a stretch of turns: its calls ask for the same, each at the cursor that the one before
 -- answered, until one answers 0. Other turns may stand between them.
 pub data Chain (sought : Sought) : ℕ → List Turn → List (List (List ℕ)) → Type 0 where
-  between : (cursor : ℕ) (turn : Turn) (turns : List Turn) (pages : List (List (List ℕ))) → Chain sought cursor turns pages → Chain sought cursor (turn ∷ turns) pages
-  more : (cursor next : ℕ) (turn : Turn) (turns : List Turn) (page : List (List ℕ)) (pages : List (List (List ℕ))) → Reports sought cursor turn next page → next ≢ 0
+  between : (cursor : ℕ) (turn : Turn) (turns : List Turn) (pages : List (List (List ℕ)))
+      → Chain sought cursor turns pages → Chain sought cursor (turn ∷ turns) pages
+  more : (cursor next : ℕ) (turn : Turn) (turns : List Turn) (page : List (List ℕ)) (pages : List (List (List ℕ)))
+      → Reports sought cursor turn next page → next ≢ 0
       → Chain sought next turns pages → Chain sought cursor (turn ∷ turns) (page ∷ pages)
-  last : (cursor : ℕ) (turn : Turn) (page : List (List ℕ)) → Reports sought cursor turn 0 page → Chain sought cursor (turn ∷ []) (page ∷ [])
+  last : (cursor : ℕ) (turn : Turn) (page : List (List ℕ)) → Reports sought cursor turn 0 page
+      → Chain sought cursor (turn ∷ []) (page ∷ [])
 
 -- one of the pages lists the element
 pub record IsReported (pages : List (List (List ℕ))) (element : List ℕ) : Type 0 where
@@ -48,10 +51,14 @@ pub record IsReported (pages : List (List (List ℕ))) (element : List ℕ) : Ty
 
 -- Every element that passed in the live world of each turn is reported, and none is that was absent from all of them.
 pub record Covers (sought : Sought) (stretch : List Turn) (pages : List (List (List ℕ))) : Type 0 where
-  pub whole : (element : List ℕ) → AllByRecursion (λ (turn : Turn). Passes turn.seen sought element) stretch → IsReported pages element
-  pub real : (element : List ℕ) → AllByRecursion (λ (turn : Turn). is_in turn.seen sought.target element ≡ false) stretch → IsReported pages element → ⊥
+  pub whole : (element : List ℕ) → AllByRecursion (λ (turn : Turn). Passes turn.seen sought element) stretch
+      → IsReported pages element
+  pub real : (element : List ℕ)
+      → AllByRecursion (λ (turn : Turn). is_in turn.seen sought.target element ≡ false) stretch
+      → IsReported pages element → ⊥
 
 -- each complete scan among the turns covers what stayed, whatever stands between its calls, other scans among it
 abbrev pub IsCovered : List Turn → Type 0
 IsCovered turns =
-    (before stretch after : List Turn) (sought : Sought) (pages : List (List (List ℕ))) → turns ≡ before ++ (stretch ++ after) → Chain sought 0 stretch pages → Covers sought stretch pages
+    (before stretch after : List Turn) (sought : Sought) (pages : List (List (List ℕ)))
+    → turns ≡ before ++ (stretch ++ after) → Chain sought 0 stretch pages → Covers sought stretch pages

@@ -26,7 +26,8 @@ due moment time = (time.n *ℤ pos (milliseconds time.unit)) +ℤ pos (begins mo
 
 -- with the deadline; one that 64 bits with a sign don't hold is refused, before the world is looked at
 abbrev pub with_due : World → ℕ → Time → (ℤ → Outcome) → Outcome
-with_due old moment time answer = if is_i64 (due moment time) then answer (due moment time) else refused InvalidExpireTime old
+with_due old moment time answer =
+    if is_i64 (due moment time) then answer (due moment time) else refused InvalidExpireTime old
 
 -- a deadline before moment 0 counts as moment 0
 abbrev pub from_zero : ℤ → ℕ

@@ -34,7 +34,8 @@ abbrev pub expire_of : (List ℕ → ℤ → ExpireOptions → KeyCommand) → L
 expire_of make key n options = if clash options then Err Syntax else Ok (make key n options)
 
 abbrev pub expire_words : (List ℕ → ℤ → ExpireOptions → KeyCommand) → Words → Read
-expire_words make = with_choices (Plain ∷ Whole ∷ []) expire_choices no_expire_options (λ a options. expire_of make a.0 a.1.0 options)
+expire_words make =
+    with_choices (Plain ∷ Whole ∷ []) expire_choices no_expire_options (λ a options. expire_of make a.0 a.1.0 options)
 
 abbrev pub copy_choices : List (Choice CopyOptions)
 copy_choices =
@@ -48,9 +49,24 @@ no_copy_options = record { db = None; replace = false }
 
 abbrev pub scan_choices : List (Choice ScanOptions)
 scan_choices =
-    record { name = codes "match"; kinds = Plain ∷ []; sets = λ own o. record { pattern = Some own.0; count = o.count; type_name = o.type_name } }
-    ∷ record { name = codes "count"; kinds = Count ∷ []; sets = λ own o. record { pattern = o.pattern; count = own.0; type_name = o.type_name } }
-    ∷ record { name = codes "type"; kinds = Plain ∷ []; sets = λ own o. record { pattern = o.pattern; count = o.count; type_name = Some own.0 } }
+    record {
+      name = codes "match";
+      kinds = Plain
+          ∷ [];
+      sets = λ own o. record { pattern = Some own.0; count = o.count; type_name = o.type_name };
+    }
+    ∷ record {
+      name = codes "count";
+      kinds = Count
+          ∷ [];
+      sets = λ own o. record { pattern = o.pattern; count = own.0; type_name = o.type_name };
+    }
+    ∷ record {
+      name = codes "type";
+      kinds = Plain
+          ∷ [];
+      sets = λ own o. record { pattern = o.pattern; count = o.count; type_name = Some own.0 };
+    }
     ∷ []
 
 -- none of the options of SCAN: ten keys are to be met
@@ -59,7 +75,8 @@ no_scan_options = record { pattern = None; count = 10; type_name = None }
 
 -- the second word of OBJECT is ENCODING
 abbrev pub object_of : List ℕ → List ℕ → Read
-object_of second key = if bytes_eq (in_lower_case second) (codes "encoding") then Ok (keys.ObjectEncoding key) else Err Syntax
+object_of second key =
+    if bytes_eq (in_lower_case second) (codes "encoding") then Ok (keys.ObjectEncoding key) else Err Syntax
 
 abbrev pub key_rows : List (Row KeyCommand)
 key_rows =
@@ -79,10 +96,17 @@ key_rows =
     ∷ record { name = codes "persist"; read = fixed (Plain ∷ []) (λ a. Ok (keys.Persist a.0)) }
     ∷ record { name = codes "rename"; read = fixed (Plain ∷ Plain ∷ []) (λ a. Ok (keys.Rename a.0 a.1.0)) }
     ∷ record { name = codes "renamenx"; read = fixed (Plain ∷ Plain ∷ []) (λ a. Ok (keys.RenameNx a.0 a.1.0)) }
-    ∷ record { name = codes "copy"; read = with_choices (Plain ∷ Plain ∷ []) copy_choices no_copy_options (λ a options. Ok (keys.Copy a.0 a.1.0 options)) }
+    ∷ record {
+      name = codes "copy";
+      read = with_choices (Plain ∷ Plain ∷ []) copy_choices no_copy_options
+          (λ a options. Ok (keys.Copy a.0 a.1.0 options));
+    }
     ∷ record { name = codes "move"; read = fixed (Plain ∷ Database ∷ []) (λ a. Ok (keys.MoveKey a.0 a.1.0)) }
     ∷ record { name = codes "randomkey"; read = fixed [] (λ a. Ok keys.RandomKey) }
     ∷ record { name = codes "object"; read = fixed (Plain ∷ Plain ∷ []) (λ a. object_of a.0 a.1.0) }
     ∷ record { name = codes "keys"; read = fixed (Plain ∷ []) (λ a. Ok (keys.KeysLike a.0)) }
-    ∷ record { name = codes "scan"; read = with_choices (Cursor ∷ []) scan_choices no_scan_options (λ a options. Ok (keys.Scan a.0 options)) }
+    ∷ record {
+      name = codes "scan";
+      read = with_choices (Cursor ∷ []) scan_choices no_scan_options (λ a options. Ok (keys.Scan a.0 options));
+    }
     ∷ []

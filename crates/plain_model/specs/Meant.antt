@@ -13,18 +13,21 @@ use Rattle.plain_world.specs.declared.refusal.Refusal.TheVariants.{UnknownComman
 
 -- a family's row among all rows
 abbrev pub of_family : {A : Type 0} → (A → Command) → Row A → Row Command
-of_family family row = record { name = row.name; read = λ words. and_then (row.read words) (λ command. Ok (family command)) }
+of_family family row =
+    record { name = row.name; read = λ words. and_then (row.read words) (λ command. Ok (family command)) }
 
 -- the rows of all commands
 abbrev pub rows : List (Row Command)
-rows = map (of_family Strings) string_rows ++ map (of_family Keys) key_rows ++ map (of_family Connection) connection_rows
+rows = map (of_family Strings) string_rows ++ map (of_family Keys) key_rows
+    ++ map (of_family Connection) connection_rows
 
 -- the row of this name, in lower case, reads the words
 abbrev pub read_by : List (Row Command) → List ℕ → Words → Result Command Refusal
 read_by [] name words = Err UnknownCommand
 read_by (row ∷ rows) name words = if bytes_eq name row.name then row.read words else read_by rows name words
 
--- what the words of a request mean: the name is looked up, whatever its case, and the words behind it are read by its row
+-- what the words of a request mean: the name is looked up, whatever its case, and the words behind it are read by its
+-- row
 abbrev pub meant : Words → Result Command Refusal
 meant [] = Err UnknownCommand
 meant (name ∷ words) = read_by rows (in_lower_case name) words

@@ -26,7 +26,8 @@ replies_of turns = map (λ turn. turn.reply) turns
 abbrev pub run : ℕ → World → List Turn → World → Type 0
 run seed old [] new = new ≡ old
 run seed old (turn ∷ turns) new =
-    (turn.seen ≡ live old turn.call.moment) × (mid : World) × step seed old turn.call.moment turn.call.words turn.reply mid × run seed mid turns new
+    (turn.seen ≡ live old turn.call.moment) × (mid : World)
+    × step seed old turn.call.moment turn.call.words turn.reply mid × run seed mid turns new
 
 -- the greatest moment in milliseconds
 abbrev pub latest : ℕ

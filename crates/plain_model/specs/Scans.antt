@@ -67,8 +67,8 @@ pub record Passes (world : World) (sought : Sought) (element : List ℕ) : Type 
 
 -- ---- which of them a call reports
 
--- where an element stands in the order of a scan: by its SipHash with 1 and 2 rounds under the seed and its complement, with
--- the bits reversed
+-- where an element stands in the order of a scan: by its SipHash with 1 and 2 rounds under the seed and its complement,
+-- with the bits reversed
 abbrev pub place_of : ℕ → List ℕ → ℕ
 place_of seed element = place (sip 1 2 seed (2 ^ 64 - 1 - seed) element)
 

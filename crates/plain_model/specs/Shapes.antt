@@ -1,7 +1,7 @@
 -- How the words behind a command's name are read (Redis command reference, the syntax of each command).
 --
--- First their number is looked at, then they are read from left to right, and each is refused where it stands. What words
--- break together comes last. A command is a row: the kinds of its first words, and what may follow them.
+-- First their number is looked at, then they are read from left to right, and each is refused where it stands. What
+-- words break together comes last. A command is a row: the kinds of its first words, and what may follow them.
 use Rattle.std.specs.Prelude.{ℕ, zero, suc, ◌-◌, ◌%◌, ◌==◌, List, [], ◌∷◌, length, drop, ℤ, pos, negsuc, Option, Some, None, Bool, ◌&&◌, ◌^◌, nat_le, nat_lt, int_lt, bytes_eq, Result, Ok, Err, if◌then◌else◌}
 use Rattle.std.specs.Str.{all_ascii_digits}
 use Rattle.std.specs.Str.Parse.{digits_value}
@@ -73,7 +73,8 @@ abbrev pub are_digits : List ℕ → Bool
 are_digits word = nat_lt 0 (length word) && all_ascii_digits word
 
 abbrev pub cursor : List ℕ → Result ℕ Refusal
-cursor word = if are_digits word && nat_lt (digits_value 10 word) (2 ^ 64) then Ok (digits_value 10 word) else Err InvalidCursor
+cursor word =
+    if are_digits word && nat_lt (digits_value 10 word) (2 ^ 64) then Ok (digits_value 10 word) else Err InvalidCursor
 
 -- a word of this kind
 abbrev pub told : (kind : Kind) → List ℕ → Result (Told kind) Refusal
@@ -95,7 +96,8 @@ AllTold (kind ∷ kinds) = Told kind × AllTold kinds
 abbrev pub all_told : (kinds : List Kind) → Words → Result (AllTold kinds) Refusal
 all_told [] words = Ok tt
 all_told (kind ∷ kinds) [] = Err WrongNumberOfArguments
-all_told (kind ∷ kinds) (word ∷ words) = and_then (told kind word) (λ a. and_then (all_told kinds words) (λ rest. Ok (a, rest)))
+all_told (kind ∷ kinds) (word ∷ words) =
+    and_then (told kind word) (λ a. and_then (all_told kinds words) (λ rest. Ok (a, rest)))
 
 -- a command's name in lower case, and how the words behind it are read
 pub record Row (A : Type 0) : Type 0 where
@@ -104,10 +106,12 @@ pub record Row (A : Type 0) : Type 0 where
 
 -- a row of just these words
 abbrev pub fixed : {A : Type 0} (kinds : List Kind) → (AllTold kinds → Result A Refusal) → Words → Result A Refusal
-fixed kinds make words = if length words == length kinds then and_then (all_told kinds words) make else Err WrongNumberOfArguments
+fixed kinds make words =
+    if length words == length kinds then and_then (all_told kinds words) make else Err WrongNumberOfArguments
 
 -- a row of these words, and then one or more groups of so many words
-abbrev pub repeated : {A : Type 0} (kinds : List Kind) (size : ℕ) → (AllTold kinds → Words → Result A Refusal) → Words → Result A Refusal
+abbrev pub repeated : {A : Type 0} (kinds : List Kind) (size : ℕ) → (AllTold kinds → Words → Result A Refusal) → Words
+    → Result A Refusal
 repeated kinds size make words =
     let behind = length words - length kinds in
     if nat_lt (length kinds) (length words) && (behind % size == 0)
@@ -140,11 +144,14 @@ module _ {A : Type 0} where
   chosen choices before skip [] = Ok before
   chosen choices before (suc skip) (word ∷ words) = chosen choices before skip words
   chosen choices before zero (word ∷ words) =
-      and_then (choose before (choice_of choices (in_lower_case word)) words) (λ read. chosen choices read.0 read.1 words)
+      and_then (choose before (choice_of choices (in_lower_case word)) words)
+      (λ read. chosen choices read.0 read.1 words)
 
   -- a row of these words, and then options
-  abbrev pub with_choices : {B : Type 0} (kinds : List Kind) → List (Choice A) → A → (AllTold kinds → A → Result B Refusal) → Words → Result B Refusal
+  abbrev pub with_choices : {B : Type 0} (kinds : List Kind) → List (Choice A) → A
+      → (AllTold kinds → A → Result B Refusal) → Words → Result B Refusal
   with_choices kinds choices none make words =
       if nat_le (length kinds) (length words)
-      then and_then (all_told kinds words) (λ first. and_then (chosen choices none 0 (drop (length kinds) words)) (make first))
+      then and_then (all_told kinds words)
+      (λ first. and_then (chosen choices none 0 (drop (length kinds) words)) (make first))
       else Err WrongNumberOfArguments

@@ -11,13 +11,16 @@ use Rattle.plain_model.specs.declared.command.Command.TheVariants.{Strings, Keys
 use Rattle.plain_world.specs.declared.reply.Part.{Part}
 use Rattle.plain_world.specs.declared.reply.Part.TheVariants.{Refused}
 
--- under this seed of the hash, and from a live world, the command at this moment may be answered by this reply, and leave the new world
+-- under this seed of the hash, and from a live world, the command at this moment may be answered by this reply, and
+-- leave the new world
 abbrev pub may : ℕ → World → ℕ → Command → List Part → World → Type 0
 may seed old moment (Strings command) reply new = may_strings old moment command reply new
 may seed old moment (Keys command) reply new = may_keys seed old moment command reply new
 may seed old moment (Connection command) reply new = may_connection old moment command reply new
 
--- the same of a request and any world: what is gone at the moment is not seen, and a request that is refused changes nothing
+-- the same of a request and any world: what is gone at the moment is not seen, and a request that is refused changes
+-- nothing
 abbrev pub step : ℕ → World → ℕ → Words → List Part → World → Type 0
 step seed old moment words reply new =
-    MatchResult (meant words) (λ command. may seed (live old moment) moment command reply new) (λ refusal. (reply ≡ Refused refusal ∷ []) × (new ≡ live old moment))
+    MatchResult (meant words) (λ command. may seed (live old moment) moment command reply new)
+    (λ refusal. (reply ≡ Refused refusal ∷ []) × (new ≡ live old moment))

@@ -101,17 +101,20 @@ written_over bytes at piece = take at (bytes ++ replicate at 0) ++ piece ++ drop
 abbrev pub with_lifetime : World → ℕ → List ℕ → Lifetime → (Option ℕ → Outcome) → Outcome
 with_lifetime old moment key lifetimes.Forever answer = answer None
 with_lifetime old moment key lifetimes.Kept answer = answer (deadline_of (look old key))
-with_lifetime old moment key (lifetimes.Until time) answer = with_due old moment time (λ deadline. answer (Some (from_zero deadline)))
+with_lifetime old moment key (lifetimes.Until time) answer =
+    with_due old moment time (λ deadline. answer (Some (from_zero deadline)))
 
 -- SET writes where its condition allows it. What it writes stands unless its deadline is past already.
 abbrev pub set : World → ℕ → List ℕ → Entry → Condition → World
-set old moment key entry condition = if allows condition (is_some (look old key)) then stand old moment key entry else old
+set old moment key entry condition =
+    if allows condition (is_some (look old key)) then stand old moment key entry else old
 
 -- a string is appended to, unless it would pass the greatest length
 abbrev pub append : World → List ℕ → List ℕ → Option (List ℕ) → Outcome
 append old key tail before =
     let bytes = or_empty before ++ tail in
-    if nat_le (length bytes) longest then leaves (Number (pos (length bytes)) ∷ []) (change old key bytes) else refused ValueOutOfRange old
+    if nat_le (length bytes) longest then leaves (Number (pos (length bytes)) ∷ []) (change old key bytes)
+    else refused ValueOutOfRange old
 
 -- an empty piece changes nothing, and makes no key
 abbrev pub set_range : World → List ℕ → ℕ → List ℕ → Option (List ℕ) → Outcome
@@ -139,39 +142,55 @@ count old key next = on_string old (look old key) (λ before. count_on old key n
 
 -- the reply of SET: the old value where it is asked for, else OK, or null where nothing is written
 abbrev pub set_outcome : World → ℕ → List ℕ → Entry → Condition → Bool → Outcome
-set_outcome old moment key entry condition true = on_string old (look old key) (λ before. leaves (or_null before ∷ []) (set old moment key entry condition))
+set_outcome old moment key entry condition true =
+    on_string old (look old key) (λ before. leaves (or_null before ∷ []) (set old moment key entry condition))
 set_outcome old moment key entry condition false =
     leaves ((if allows condition (is_some (look old key)) then ok else Null) ∷ []) (set old moment key entry condition)
 
 -- a value is written that lasts for so many units
 abbrev pub set_for : World → ℕ → List ℕ → TimeUnit → ℤ → List ℕ → Outcome
 set_for old moment key unit n value =
-    with_due old moment (record { unit = unit; from = Now; n = n }) (λ deadline. leaves (ok ∷ []) (stand old moment key (lasts_until (Str value) (from_zero deadline))))
+    with_due old moment (record { unit = unit; from = Now; n = n })
+    (λ deadline. leaves (ok ∷ []) (stand old moment key (lasts_until (Str value) (from_zero deadline))))
 
 -- the value is answered, and its deadline is set, goes, or stays
 abbrev pub getex_outcome : World → ℕ → List ℕ → Renewal → Outcome
-getex_outcome old moment key renewals.Unchanged = on_string old (look old key) (λ before. tells (or_null before ∷ []) old)
-getex_outcome old moment key renewals.Persist = on_string old (look old key) (λ before. leaves (or_null before ∷ []) (persist old key (look old key)))
+getex_outcome old moment key renewals.Unchanged =
+    on_string old (look old key) (λ before. tells (or_null before ∷ []) old)
+getex_outcome old moment key renewals.Persist =
+    on_string old (look old key) (λ before. leaves (or_null before ∷ []) (persist old key (look old key)))
 getex_outcome old moment key (renewals.Until time) =
-    with_due old moment time (λ deadline. on_string old (look old key) (λ before. leaves (or_null before ∷ []) (expire old moment key deadline (look old key))))
+    with_due old moment time
+    (λ deadline.
+    on_string old (look old key)
+    (λ before. leaves (or_null before ∷ []) (expire old moment key deadline (look old key))))
 
 -- what a command answers and leaves, in the world that is live at the moment
 abbrev pub string_outcome : ℕ → World → StringCommand → Outcome
 string_outcome moment old (strings.Get key) = on_string old (look old key) (λ before. tells (or_null before ∷ []) old)
 string_outcome moment old (strings.Set key value options) =
-    with_lifetime old moment key options.lifetime (λ deadline. set_outcome old moment key (record { value = Str value; deadline = deadline }) options.condition options.get)
-string_outcome moment old (strings.SetNx key value) = if is_some (look old key) then tells (Number (pos 0) ∷ []) old else leaves (Number (pos 1) ∷ []) (replace old key value)
+    with_lifetime old moment key options.lifetime
+    (λ deadline.
+    set_outcome old moment key (record { value = Str value; deadline = deadline }) options.condition options.get)
+string_outcome moment old (strings.SetNx key value) = if is_some (look old key) then tells (Number (pos 0) ∷ []) old
+    else leaves (Number (pos 1) ∷ []) (replace old key value)
 string_outcome moment old (strings.SetEx key n value) = set_for old moment key Seconds n value
 string_outcome moment old (strings.PSetEx key n value) = set_for old moment key Milliseconds n value
-string_outcome moment old (strings.GetSet key value) = on_string old (look old key) (λ before. leaves (or_null before ∷ []) (replace old key value))
-string_outcome moment old (strings.GetDel key) = on_string old (look old key) (λ before. leaves (or_null before ∷ []) (remove old key))
+string_outcome moment old (strings.GetSet key value) =
+    on_string old (look old key) (λ before. leaves (or_null before ∷ []) (replace old key value))
+string_outcome moment old (strings.GetDel key) =
+    on_string old (look old key) (λ before. leaves (or_null before ∷ []) (remove old key))
 string_outcome moment old (strings.GetEx key renewal) = getex_outcome old moment key renewal
-string_outcome moment old (strings.MGet keys) = tells (Array (length keys) ∷ map (λ key. string_or_null (look old key)) keys) old
+string_outcome moment old (strings.MGet keys) =
+    tells (Array (length keys) ∷ map (λ key. string_or_null (look old key)) keys) old
 string_outcome moment old (strings.MSet pairs) = leaves (ok ∷ []) (replace_all old pairs)
-string_outcome moment old (strings.MSetNx pairs) = if any_there old pairs then tells (Number (pos 0) ∷ []) old else leaves (Number (pos 1) ∷ []) (replace_all old pairs)
+string_outcome moment old (strings.MSetNx pairs) = if any_there old pairs then tells (Number (pos 0) ∷ []) old
+    else leaves (Number (pos 1) ∷ []) (replace_all old pairs)
 string_outcome moment old (strings.Append key tail) = on_string old (look old key) (append old key tail)
-string_outcome moment old (strings.StrLen key) = on_string old (look old key) (λ before. tells (Number (pos (length (or_empty before))) ∷ []) old)
-string_outcome moment old (strings.GetRange key a b) = on_string old (look old key) (λ before. tells (Bulk (range (or_empty before) a b) ∷ []) old)
+string_outcome moment old (strings.StrLen key) =
+    on_string old (look old key) (λ before. tells (Number (pos (length (or_empty before))) ∷ []) old)
+string_outcome moment old (strings.GetRange key a b) =
+    on_string old (look old key) (λ before. tells (Bulk (range (or_empty before) a b) ∷ []) old)
 string_outcome moment old (strings.SetRange key at piece) = on_string old (look old key) (set_range old key at piece)
 string_outcome moment old (strings.Incr key) = count old key (λ n. n +ℤ pos 1)
 string_outcome moment old (strings.Decr key) = count old key (λ n. n -ℤ pos 1)

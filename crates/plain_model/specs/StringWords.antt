@@ -31,7 +31,8 @@ pairs_of (key ∷ value ∷ words) = (key, value) ∷ pairs_of words
 
 -- an option that gives a time, which is above 0
 abbrev pub time_choice : {A : Type 0} → List ℕ → TimeUnit → TimeOrigin → (Time → A → A) → Choice A
-time_choice name unit from until = record { name = name; kinds = Span ∷ []; sets = λ own c. until (record { unit = unit; from = from; n = own.0 }) c }
+time_choice name unit from until =
+    record { name = name; kinds = Span ∷ []; sets = λ own c. until (record { unit = unit; from = from; n = own.0 }) c }
 
 abbrev pub time_choices : {A : Type 0} → (Time → A → A) → List (Choice A)
 time_choices until =
@@ -48,13 +49,29 @@ is_given (lifetimes.Until time) = true
 
 -- one more option gives a lifetime
 abbrev pub lasting : Lifetime → SetChoices → SetChoices
-lasting lifetime c = record { nx = c.nx; xx = c.xx; get = c.get; lifetime = lifetime; twice = c.twice || is_given c.lifetime }
+lasting lifetime c =
+    record { nx = c.nx; xx = c.xx; get = c.get; lifetime = lifetime; twice = c.twice || is_given c.lifetime }
 
 abbrev pub set_choices : List (Choice SetChoices)
 set_choices =
-    record { name = codes "nx"; kinds = []; sets = λ own c. record { nx = true; xx = c.xx; get = c.get; lifetime = c.lifetime; twice = c.twice } }
-    ∷ record { name = codes "xx"; kinds = []; sets = λ own c. record { nx = c.nx; xx = true; get = c.get; lifetime = c.lifetime; twice = c.twice } }
-    ∷ record { name = codes "get"; kinds = []; sets = λ own c. record { nx = c.nx; xx = c.xx; get = true; lifetime = c.lifetime; twice = c.twice } }
+    record {
+      name = codes "nx";
+      kinds = [];
+      sets = λ own c.
+          record { nx = true; xx = c.xx; get = c.get; lifetime = c.lifetime; twice = c.twice };
+    }
+    ∷ record {
+      name = codes "xx";
+      kinds = [];
+      sets = λ own c.
+          record { nx = c.nx; xx = true; get = c.get; lifetime = c.lifetime; twice = c.twice };
+    }
+    ∷ record {
+      name = codes "get";
+      kinds = [];
+      sets = λ own c.
+          record { nx = c.nx; xx = c.xx; get = true; lifetime = c.lifetime; twice = c.twice };
+    }
     ∷ record { name = codes "keepttl"; kinds = []; sets = λ own c. lasting lifetimes.Kept c }
     ∷ time_choices (λ time. lasting (lifetimes.Until time))
 
@@ -65,7 +82,13 @@ no_set_choices = record { nx = false; xx = false; get = false; lifetime = lifeti
 abbrev pub set_of : List ℕ → List ℕ → SetChoices → Read
 set_of key value c =
     if c.nx && c.xx || c.twice then Err Syntax
-    else Ok (strings.Set key value (record { condition = if c.nx then IfMissing else (if c.xx then IfThere else Always); get = c.get; lifetime = c.lifetime }))
+    else Ok (strings.Set key value
+    (record {
+      condition = if c.nx then IfMissing
+          else (if c.xx then IfThere else Always);
+      get = c.get;
+      lifetime = c.lifetime;
+    }))
 
 abbrev pub is_renewed : Renewal → Bool
 is_renewed renewals.Unchanged = false
@@ -77,7 +100,8 @@ abbrev pub renewed : Renewal → GetExChoices → GetExChoices
 renewed renewal c = record { renewal = renewal; twice = c.twice || is_renewed c.renewal }
 
 abbrev pub getex_choices : List (Choice GetExChoices)
-getex_choices = record { name = codes "persist"; kinds = []; sets = λ own c. renewed renewals.Persist c } ∷ time_choices (λ time. renewed (renewals.Until time))
+getex_choices = record { name = codes "persist"; kinds = []; sets = λ own c. renewed renewals.Persist c }
+    ∷ time_choices (λ time. renewed (renewals.Until time))
 
 -- none of the options of GETEX
 abbrev pub no_getex_choices : GetExChoices
@@ -99,20 +123,38 @@ decrease_of key n = if is_i64 (neg_ℤ n) then Ok (strings.DecrBy key n) else Er
 abbrev pub string_rows : List (Row StringCommand)
 string_rows =
     record { name = codes "get"; read = fixed (Plain ∷ []) (λ a. Ok (strings.Get a.0)) }
-    ∷ record { name = codes "set"; read = with_choices (Plain ∷ Plain ∷ []) set_choices no_set_choices (λ a c. set_of a.0 a.1.0 c) }
+    ∷ record {
+      name = codes "set";
+      read = with_choices (Plain ∷ Plain ∷ []) set_choices no_set_choices (λ a c. set_of a.0 a.1.0 c);
+    }
     ∷ record { name = codes "setnx"; read = fixed (Plain ∷ Plain ∷ []) (λ a. Ok (strings.SetNx a.0 a.1.0)) }
-    ∷ record { name = codes "setex"; read = fixed (Plain ∷ Span ∷ Plain ∷ []) (λ a. Ok (strings.SetEx a.0 a.1.0 a.1.1.0)) }
-    ∷ record { name = codes "psetex"; read = fixed (Plain ∷ Span ∷ Plain ∷ []) (λ a. Ok (strings.PSetEx a.0 a.1.0 a.1.1.0)) }
+    ∷ record {
+      name = codes "setex";
+      read = fixed (Plain ∷ Span ∷ Plain ∷ []) (λ a. Ok (strings.SetEx a.0 a.1.0 a.1.1.0));
+    }
+    ∷ record {
+      name = codes "psetex";
+      read = fixed (Plain ∷ Span ∷ Plain ∷ []) (λ a. Ok (strings.PSetEx a.0 a.1.0 a.1.1.0));
+    }
     ∷ record { name = codes "getset"; read = fixed (Plain ∷ Plain ∷ []) (λ a. Ok (strings.GetSet a.0 a.1.0)) }
     ∷ record { name = codes "getdel"; read = fixed (Plain ∷ []) (λ a. Ok (strings.GetDel a.0)) }
-    ∷ record { name = codes "getex"; read = with_choices (Plain ∷ []) getex_choices no_getex_choices (λ a c. getex_of a.0 c) }
+    ∷ record {
+      name = codes "getex";
+      read = with_choices (Plain ∷ []) getex_choices no_getex_choices (λ a c. getex_of a.0 c);
+    }
     ∷ record { name = codes "mget"; read = repeated [] 1 (λ a keys. Ok (strings.MGet keys)) }
     ∷ record { name = codes "mset"; read = repeated [] 2 (λ a words. Ok (strings.MSet (pairs_of words))) }
     ∷ record { name = codes "msetnx"; read = repeated [] 2 (λ a words. Ok (strings.MSetNx (pairs_of words))) }
     ∷ record { name = codes "append"; read = fixed (Plain ∷ Plain ∷ []) (λ a. Ok (strings.Append a.0 a.1.0)) }
     ∷ record { name = codes "strlen"; read = fixed (Plain ∷ []) (λ a. Ok (strings.StrLen a.0)) }
-    ∷ record { name = codes "getrange"; read = fixed (Plain ∷ Whole ∷ Whole ∷ []) (λ a. Ok (strings.GetRange a.0 a.1.0 a.1.1.0)) }
-    ∷ record { name = codes "setrange"; read = fixed (Plain ∷ Offset ∷ Plain ∷ []) (λ a. set_range_of a.0 a.1.0 a.1.1.0) }
+    ∷ record {
+      name = codes "getrange";
+      read = fixed (Plain ∷ Whole ∷ Whole ∷ []) (λ a. Ok (strings.GetRange a.0 a.1.0 a.1.1.0));
+    }
+    ∷ record {
+      name = codes "setrange";
+      read = fixed (Plain ∷ Offset ∷ Plain ∷ []) (λ a. set_range_of a.0 a.1.0 a.1.1.0);
+    }
     ∷ record { name = codes "incr"; read = fixed (Plain ∷ []) (λ a. Ok (strings.Incr a.0)) }
     ∷ record { name = codes "decr"; read = fixed (Plain ∷ []) (λ a. Ok (strings.Decr a.0)) }
     ∷ record { name = codes "incrby"; read = fixed (Plain ∷ Whole ∷ []) (λ a. Ok (strings.IncrBy a.0 a.1.0)) }

@@ -6,8 +6,8 @@ use Rattle.std.specs.FinMap as map
 use Rattle.std.specs.Cmp.Lexicographic.{slice_cmp}
 use Rattle.std.specs.Ordering.{nat_cmp}
 
--- a value: a string; a list; a set; a hash, which is a finite map from fields to values; a sorted set, which is a finite map
--- from members to whole scores
+-- a value: a string; a list; a set; a hash, which is a finite map from fields to values; a sorted set, which is a
+-- finite map from members to whole scores
 pub data Value : Type 0 where
   Str : List ℕ → Value
   ListOf : List (List ℕ) → Value
@@ -60,7 +60,12 @@ look world key = get (world.bases world.selected) key
 
 -- the world with this database in the place of the selected one
 abbrev pub with_base : World → Database → World
-with_base world base = record { bases = λ number. if number == world.selected then base else world.bases number; selected = world.selected }
+with_base world base =
+    record {
+      bases = λ number. if number == world.selected then base
+          else world.bases number;
+      selected = world.selected;
+    }
 
 -- the world in which this stands at a key of the selected database
 abbrev pub put : World → List ℕ → Entry → World

@@ -18,7 +18,8 @@ pub record Chain : Type 0 where
   pub len : ℕ
   pub form : Form
 
--- the elements of the list, by the blocks of its nodes (Redis command reference, data type Lists: a sequence of strings)
+-- the elements of the list, by the blocks of its nodes (Redis command reference, data type Lists: a sequence of
+-- strings)
 abbrev pub elements : Blocks → Chain → List (List ℕ)
 elements blocks q = elements_of blocks q.nodes
 
@@ -95,8 +96,8 @@ abbrev pub passed_to : ℕ → Option ℕ → ℕ
 passed_to count None = count
 passed_to count (Some next) = next
 
--- The blocks from the mark `from` to below the answer's are passed and want no move, and so many of them were; those before it
--- have the references that they had.
+-- The blocks from the mark `from` to below the answer's are passed and want no move, and so many of them were; those
+-- before it have the references that they had.
 pub record IsPassed (heap : Heap) (old new : List BlockRef) (from room : ℕ) (answer : Moved) : Type 0 where
   pub within : answer.used ≤ room
   pub counted : from < length old → from + answer.used ≡ passed_to (length old) answer.next

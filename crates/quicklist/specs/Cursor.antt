@@ -17,4 +17,5 @@ IsOffsetIn Packed bytes index at = IsAt bytes index at
 pub record IsCursor (blocks : Blocks) (q : Chain) (cursor : Cursor) : Type 0 where
   pub among : ℕ
   pub place : IsPlace q.nodes cursor.index cursor.node among
-  pub offset : IsOffsetIn (node_at q.nodes cursor.node).container (bytes_of blocks (node_at q.nodes cursor.node)) among cursor.at
+  pub offset : IsOffsetIn (node_at q.nodes cursor.node).container
+      (bytes_of blocks (node_at q.nodes cursor.node)) among cursor.at

@@ -1,5 +1,5 @@
--- Elements that are a text, taken out. (Redis command reference, LREM: the first ones from the head on, the first ones from the
--- tail on, or all.)
+-- Elements that are a text, taken out. (Redis command reference, LREM: the first ones from the head on, the first ones
+-- from the tail on, or all.)
 use Rattle.std.specs.Prelude.{◌≡◌, ℕ, zero, suc, ◌+◌, ◌<◌, ◌≤◌, min, List, [], ◌∷◌, ◌++◌, length, Some, None, Bool, not, ◌&&◌, bytes_eq, nat_le, nat_lt, if◌then◌else◌}
 use Rattle.std.specs.List.{All, count_by, filter}
 use Rattle.std.specs.VecDeque.{deque_len, deque_capacity}
@@ -49,8 +49,8 @@ abbrev pub IsFrom : End → List ℕ → ℕ → List (List ℕ) → List (List 
 IsFrom Head text many old new = IsFromHead text many old new
 IsFrom Tail text many old new = IsFromTail text many old new
 
--- Of the elements that are the text, the first ones from that end on were taken out, and this many: those that were wanted, or
--- all where there are fewer, or where 0 are wanted.
+-- Of the elements that are the text, the first ones from that end on were taken out, and this many: those that were
+-- wanted, or all where there are fewer, or where 0 are wanted.
 pub record Removes (text : List ℕ) (end : End) (wanted many : ℕ) (old new : List (List ℕ)) : Type 0 where
   pub many_is : many ≡ going wanted (equals text old)
   pub taken : IsFrom end text many old new
@@ -69,7 +69,8 @@ cleared reach index (element ∷ list) =
 abbrev pub IsLeft : List (List ℕ) → List (List ℕ) → Left → Type 0
 IsLeft was list Whole = list ≡ was
 IsLeft was list Nothing = list ≡ []
-IsLeft was list (Part pack count) = IsPacked pack.items × (texts pack.items ≡ list) × (count ≡ length list) × (0 < count)
+IsLeft was list (Part pack count) =
+    IsPacked pack.items × (texts pack.items ≡ list) × (count ≡ length list) × (0 < count)
 
 -- a packed node
 abbrev pub IsPackedNode : Node → Type 0
@@ -78,7 +79,9 @@ IsPackedNode node = node.container ≡ Packed
 -- Nodes of these elements were made of old ones: some are the same, some were placed, and some old ones go.
 pub record IsRebuilt (before after : Blocks) (old : List Node) (list : List (List ℕ)) (r : Rebuilt) : Type 0 where
   pub changes : Changes before after [] (refs_of r.placed.items)
-  pub balance : (at : BlockRef) → times at (refs_of r.nodes.items) + times at (refs_of r.replaced.items) ≡ times at (refs_of old) + times at (refs_of r.placed.items)
+  pub balance : (at : BlockRef)
+      → times at (refs_of r.nodes.items) + times at (refs_of r.replaced.items)
+      ≡ times at (refs_of old) + times at (refs_of r.placed.items)
   pub within : (at : BlockRef) → times at (refs_of r.replaced.items) ≤ times at (refs_of old)
   pub each : All (IsNode after) r.nodes.items
   pub list_is : elements_of after r.nodes.items ≡ list
@@ -120,4 +123,5 @@ pub record IsFresh (before after : Blocks) (fresh : Node) (bytes : List ℕ) (co
 abbrev pub IsAdded : Blocks → Blocks → Node → Left → Rebuilt → Rebuilt → Type 0
 IsAdded before after node Whole old new = (after ≡ before) × IsGrown old new (node ∷ []) [] []
 IsAdded before after node Nothing old new = (after ≡ before) × IsGrown old new [] [] (node ∷ [])
-IsAdded before after node (Part pack count) old new = (fresh : Node) × IsFresh before after fresh pack.items count × IsGrown old new (fresh ∷ []) (fresh ∷ []) (node ∷ [])
+IsAdded before after node (Part pack count) old new =
+    (fresh : Node) × IsFresh before after fresh pack.items count × IsGrown old new (fresh ∷ []) (fresh ∷ []) (node ∷ [])

@@ -10,5 +10,7 @@ pub record QuickLaws : Type 0 where
   pub own : (a b : Blocks) (q : Chain) → ((r : BlockRef) → IsIn r (refs q) → b r ≡ a r) → elements b q ≡ elements a q
   pub sound : (a b : Blocks) (q : Chain) → ((r : BlockRef) → IsIn r (refs q) → b r ≡ a r) → IsQuick a q → IsQuick b q
   -- what others change among their blocks leaves its elements, and it is sound
-  pub others : (a b : Blocks) (q : Chain) (old new : List BlockRef) → Owned (refs q ++ old) a → Changes a b old new → elements b q ≡ elements a q
-  pub stays : (a b : Blocks) (q : Chain) (old new : List BlockRef) → Owned (refs q ++ old) a → Changes a b old new → IsQuick a q → IsQuick b q
+  pub others : (a b : Blocks) (q : Chain) (old new : List BlockRef) → Owned (refs q ++ old) a → Changes a b old new
+      → elements b q ≡ elements a q
+  pub stays : (a b : Blocks) (q : Chain) (old new : List BlockRef) → Owned (refs q ++ old) a → Changes a b old new
+      → IsQuick a q → IsQuick b q

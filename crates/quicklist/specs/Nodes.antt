@@ -1,5 +1,5 @@
--- The nodes of a list, and what their blocks hold. (Redis, quicklist: a node is packed, a listpack of elements, or plain, one
--- element alone.)
+-- The nodes of a list, and what their blocks hold. (Redis, quicklist: a node is packed, a listpack of elements, or
+-- plain, one element alone.)
 use Rattle.std.specs.Prelude.{◌≡◌, ℕ, ◌+◌, ◌<◌, ◌≤◌, List, [], ◌∷◌, ◌++◌, length, map, take, drop, sum_by, get_or, Option, Some, None}
 use Rattle.std.specs.List.{All, flat_map}
 use Rattle.std.specs.Borrow.{Bor}
@@ -122,12 +122,14 @@ pub record Placed (before after : Blocks) (pieces : List Piece) (fresh : List No
   pub containers : map container_of fresh ≡ map container_of_piece pieces
 
 abbrev pub Inserted : Blocks → Blocks → List Node → List Node → ℕ → List Piece → Type 0
-Inserted before after old new k pieces = (fresh : List Node) × Placed before after pieces fresh × (new ≡ take k old ++ (fresh ++ drop k old))
+Inserted before after old new k pieces =
+    (fresh : List Node) × Placed before after pieces fresh × (new ≡ take k old ++ (fresh ++ drop k old))
 
 -- Nodes that were placed of these pieces stand in the place of the nodes from k to below e.
 pub record Exchanged (before after : Blocks) (old new : List Node) (k e : ℕ) (pieces : List Piece) : Type 0 where
   pub chain : IsChain after new
-  pub list : elements_of after new ≡ elements_of before (take k old) ++ (flat_map piece_list pieces ++ elements_of before (drop e old))
+  pub list : elements_of after new ≡ elements_of before (take k old)
+      ++ (flat_map piece_list pieces ++ elements_of before (drop e old))
   pub changes : Changes before after (refs_of old) (refs_of new)
   pub containers : map container_of new
       ≡ take k (map container_of old) ++ (map container_of_piece pieces ++ drop e (map container_of old))

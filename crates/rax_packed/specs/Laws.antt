@@ -18,6 +18,8 @@ pub record PackedLaws : Type 0 where
   -- a map depends on the blocks that it owns, and on no other
   pub own : (a b : Blocks) (tree : PackedTree) → ((r : BlockRef) → IsIn r (refs_of a tree) → b r ≡ a r) → Stays a b tree
   -- what others change among their blocks leaves it
-  pub others : (a b : Blocks) (tree : PackedTree) (old new : List BlockRef) → Owned (refs_of a tree ++ old) a → Changes a b old new → Stays a b tree
+  pub others : (a b : Blocks) (tree : PackedTree) (old new : List BlockRef) → Owned (refs_of a tree ++ old) a
+      → Changes a b old new → Stays a b tree
   -- the least key below each node is a key of the map
-  pub least : (a : Blocks) (tree : PackedTree) → IsSound a tree → AllByRecursion (λ m. IsSome (value_at (entries_of a tree) m.least)) (marks_of a tree)
+  pub least : (a : Blocks) (tree : PackedTree) → IsSound a tree
+      → AllByRecursion (λ m. IsSome (value_at (entries_of a tree) m.least)) (marks_of a tree)

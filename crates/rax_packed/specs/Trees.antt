@@ -58,7 +58,8 @@ marks_in below (Inner prefix links) = flat_map (λ l. map (mark_under (prefix ++
 unfoldable pub marks : ℕ → Blocks → BlockRef → List Mark
 marks zero blocks at = []
 marks (suc levels) blocks at =
-    record { least = first_key (entries (suc levels) blocks at); at = at } ∷ marks_in (marks levels blocks) (node_at blocks at)
+    record { least = first_key (entries (suc levels) blocks at); at = at }
+    ∷ marks_in (marks levels blocks) (node_at blocks at)
 
 -- what holds of each node that a node names, where so many bytes of each key are left
 abbrev pub Below : (ℕ → BlockRef → Type 0) → ℕ → Node → Type 0

@@ -57,8 +57,8 @@ module _ {S : Type 0} (blocks : S → Blocks) (heap : S → Heap) where
     new_walk : mid.bases ≡ old.bases → blocks mid.store ≡ blocks old.store → Begun (heap old.store) (heap mid.store)
         → IsSweptTo mid first_place → Opens old mid None first_place
 
-  -- One step of the walk moves blocks, which leaves how values are encoded, and leaves the walk further on, or none where
-  -- it came through all databases.
+  -- One step of the walk moves blocks, which leaves how values are encoded, and leaves the walk further on, or none
+  -- where it came through all databases.
   pub record WalksOn (old new : Keyspace S) (before after : Option Walk) : Type 0 where
     pub mid : Keyspace S
     pub from : Walk
@@ -79,8 +79,8 @@ module _ {S : Type 0} (blocks : S → Blocks) (heap : S → Heap) where
     more : (steps : ℕ) (mid new : Keyspace S) (walk after : Option Walk) → Packs old before steps mid walk
         → WalksOn mid new walk after → Packs old before (steps + 1) new after
 
-  -- DEBUG DEFRAG: steps of the walk that is open, or of one that begins, until so many are made or the pass ends. How many
-  -- passes ended, which is none or one, is told.
+  -- DEBUG DEFRAG: steps of the walk that is open, or of one that begins, until so many are made or the pass ends. How
+  -- many passes ended, which is none or one, is told.
   pub data Defrags : ℕ → Keyspace S → Keyspace S → Option Walk → Option Walk → ℕ → Type 0 where
     made : (keyspace : Keyspace S) (walk : Option Walk) → Defrags 0 keyspace keyspace walk walk 0
     ends : (left : ℕ) (old new : Keyspace S) (before : Option Walk) → WalksOn old new before None

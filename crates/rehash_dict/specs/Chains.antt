@@ -38,7 +38,8 @@ module _ {V : Type 0} where
   -- from this link these entries are linked in order, and the last links to none
   abbrev pub IsChain : List (Option (Entry V)) → ℕ → List ℕ → Type 0
   IsChain slots link [] = link ≡ 0
-  IsChain slots link (i ∷ rest) = (link ≡ suc i) × (e : Entry V) × (entry_at slots i ≡ Some e) × IsChain slots e.next rest
+  IsChain slots link (i ∷ rest) =
+      (link ≡ suc i) × (e : Entry V) × (entry_at slots i ≡ Some e) × IsChain slots e.next rest
 
   -- each chain comes to its end
   abbrev pub Ends : List (Option (Entry V)) → List ℕ → Type 0
@@ -55,17 +56,20 @@ module _ {V : Type 0} where
   chain_left c = chain c.entries.now.slots c.left c.link
 
   -- an entry is put before the head of its bucket's chain
-  pub record Links (old : Slab (Entry V)) (heads : List ℕ) (at : ℕ) (new : Slab (Entry V)) (after : List ℕ) : Type 0 where
+  pub record Links (old : Slab (Entry V)) (heads : List ℕ) (at : ℕ) (new : Slab (Entry V)) (after : List ℕ)
+      : Type 0 where
     pub entry : Entry V
     pub found : get old at ≡ Some entry
-    pub slots : new.slots ≡ slice_set old.slots at (Some (record entry { next = slice_index heads (entry.hash % length heads) }))
+    pub slots : new.slots
+        ≡ slice_set old.slots at (Some (record entry { next = slice_index heads (entry.hash % length heads) }))
     pub heads_after : after ≡ slice_set heads (entry.hash % length heads) (suc at)
     pub capacity : new.capacity ≡ old.capacity
 
   -- the entry at the head of a chain leaves it
   abbrev pub Pops : Slab (Entry V) → List ℕ → ℕ → Option ℕ → List ℕ → Type 0
   Pops entries heads k None after = (after ≡ heads) × ((at : ℕ) → slice_index heads k ≡ suc at → get entries at ≡ None)
-  Pops entries heads k (Some at) after = (e : Entry V) × (get entries at ≡ Some e) × (slice_index heads k ≡ suc at) × (after ≡ slice_set heads k e.next)
+  Pops entries heads k (Some at) after =
+      (e : Entry V) × (get entries at ≡ Some e) × (slice_index heads k ≡ suc at) × (after ≡ slice_set heads k e.next)
 
   -- the entry links to another
   abbrev pub relinked : ℕ → Option (Entry V) → Option (Entry V)
@@ -78,7 +82,8 @@ module _ {V : Type 0} where
   bridged slots (Some p) next = slice_set slots p (relinked next (entry_at slots p))
 
   -- an entry, with this key and value, leaves its bucket's chain and the slots
-  pub record Unlinks (old : Slab (Entry V)) (heads : List ℕ) (k : ℕ) (before : Option ℕ) (at : ℕ) (key : BlockRef) (value : V) (new : Slab (Entry V)) (after : List ℕ) : Type 0 where
+  pub record Unlinks (old : Slab (Entry V)) (heads : List ℕ) (k : ℕ) (before : Option ℕ) (at : ℕ) (key : BlockRef)
+      (value : V) (new : Slab (Entry V)) (after : List ℕ) : Type 0 where
     pub hash : ℕ
     pub next : ℕ
     pub found : get old at ≡ Some (record { key = key; hash = hash; next = next; value = value })

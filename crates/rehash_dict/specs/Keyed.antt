@@ -38,7 +38,8 @@ module _ {V : Type 0} where
     pub placed : IsPlaced t
     pub live : (at : ℕ) (e : Element V) → item t at ≡ Some e → IsSome (blocks e.key)
     pub hashed : (at : ℕ) (e : Element V) → item t at ≡ Some e → e.hash ≡ hash_of t.seed (bytes_at blocks e.key)
-    pub apart : (at other : ℕ) (e f : Element V) → item t at ≡ Some e → item t other ≡ Some f → blocks e.key ≡ blocks f.key → at ≡ other
+    pub apart : (at other : ℕ) (e f : Element V) → item t at ≡ Some e → item t other ≡ Some f
+        → blocks e.key ≡ blocks f.key → at ≡ other
 
   -- the tables, where each element is named by its key bytes
   abbrev pub key_tables : Blocks → Table V → Tables (List ℕ)

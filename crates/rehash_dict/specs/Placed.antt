@@ -12,13 +12,15 @@ pub data IsSize (n : ℕ) : Type 0 where
 module _ {V : Type 0} where
   -- a table names only elements, each in the bucket of its hash
   abbrev pub Names : List (Option (Element V)) → List (List ℕ) → Type 0
-  Names items rows = (k at : ℕ) → 0 < times at (bucket rows k) → (e : Element V) × (at_item items at ≡ Some e) × (e.hash % length rows ≡ k)
+  Names items rows = (k at : ℕ) → 0 < times at (bucket rows k)
+      → (e : Element V) × (at_item items at ≡ Some e) × (e.hash % length rows ≡ k)
 
   -- each element stands once, in the bucket of its hash, in one of the tables
   pub record Stand (items : List (Option (Element V))) (older newer : List (List ℕ)) : Type 0 where
     pub of_older : Names items older
     pub of_newer : Names items newer
-    pub once : (at : ℕ) (e : Element V) → at_item items at ≡ Some e → times at (bucket older (e.hash % length older)) + times at (bucket newer (e.hash % length newer)) ≡ 1
+    pub once : (at : ℕ) (e : Element V) → at_item items at ≡ Some e
+        → times at (bucket older (e.hash % length older)) + times at (bucket newer (e.hash % length newer)) ≡ 1
     pub counted : count older + count newer ≡ count_by is_some items
     pub older_size : IsSize (length older)
     pub newer_size : IsSize (length newer)

@@ -31,12 +31,17 @@ module _ {X : Type 0} where
   walk rows small large (suc fuel) v =
       if bit_and (next_of v large) (bit_xor (2 ^ small - 1) (2 ^ large - 1)) == 0
       then (turn rows large v, next_of v large)
-      else (turn rows large v ++ (walk rows small large fuel (next_of v large)).0, (walk rows small large fuel (next_of v large)).1)
+      else (
+        turn rows large v
+            ++ (walk rows small large fuel (next_of v large)).0,
+        (walk rows small large fuel (next_of v large)).1,
+      )
 
   -- the bucket of the smaller table, and then those of the larger one that its elements would be in
   abbrev pub moved_over : List (List X) → List (List X) → ℕ → List X × ℕ
   moved_over smaller larger v = (
-    turn smaller (bits_of (length smaller)) v ++ (walk larger (bits_of (length smaller)) (bits_of (length larger)) (length larger) v).0,
+    turn smaller (bits_of (length smaller)) v
+        ++ (walk larger (bits_of (length smaller)) (bits_of (length larger)) (length larger) v).0,
     (walk larger (bits_of (length smaller)) (bits_of (length larger)) (length larger) v).1,
   )
 
@@ -49,7 +54,9 @@ module _ {X : Type 0} where
 
   -- the buckets of the larger table that a move at a cursor gives, and its next cursor
   abbrev pub walked_over : List (List X) → List (List X) → ℕ → List X × ℕ
-  walked_over older newer v = walk (larger_of older newer) (bits_of (length (smaller_of older newer))) (bits_of (length (larger_of older newer))) (length (larger_of older newer)) v
+  walked_over older newer v =
+      walk (larger_of older newer) (bits_of (length (smaller_of older newer)))
+      (bits_of (length (larger_of older newer))) (length (larger_of older newer)) v
 
   -- The elements of one move at a cursor over the tables, and the next cursor: without a table nothing and 0.
   unfoldable pub scanned : List (List X) → List (List X) → ℕ → List X × ℕ
@@ -66,14 +73,17 @@ module _ {X : Type 0} where
   turns_of older newer v =
       if length older == 0 then 0
       else (if nat_lt 0 (length newer)
-      then 1 + (last_block (bits_of (length (smaller_of older newer))) (bits_of (length (larger_of older newer))) v - first_block (bits_of (length (larger_of older newer))) v)
+      then 1 + (last_block (bits_of (length (smaller_of older newer)))
+      (bits_of (length (larger_of older newer))) v - first_block (bits_of (length (larger_of older newer))) v)
       else 1)
 
   -- the bucket of a turn
   abbrev pub turn_at : List (List X) → List (List X) → ℕ → ℕ → List X
   turn_at older newer v n =
       if n == 0 then turn (smaller_of older newer) (bits_of (length (smaller_of older newer))) v
-      else turn (larger_of older newer) (bits_of (length (larger_of older newer))) (reversed (bits_of (length (larger_of older newer))) (first_block (bits_of (length (larger_of older newer))) v + (n - 1)))
+      else turn (larger_of older newer) (bits_of (length (larger_of older newer)))
+      (reversed (bits_of (length (larger_of older newer)))
+      (first_block (bits_of (length (larger_of older newer))) v + (n - 1)))
 
   -- what so many turns give, from turn n on
   unfoldable pub turns_from : List (List X) → List (List X) → ℕ → ℕ → ℕ → List X

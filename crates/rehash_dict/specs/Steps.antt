@@ -13,7 +13,8 @@ use Rattle.rehash_dict.specs.declared.chains.Side.TheVariants.{Older, Newer}
 module _ {V : Type 0} where
   -- the dictionary of these elements and buckets
   abbrev pub table_of : Held V → ℕ → ℕ → ℕ → Table V
-  table_of h position seed top = record { items = h.items; older = h.older; newer = h.newer; position = position; seed = seed; top = top }
+  table_of h position seed top =
+      record { items = h.items; older = h.older; newer = h.newer; position = position; seed = seed; top = top }
 
   -- the item number has an element of this key block and this value
   pub record Holds (t : Table V) (at : ℕ) (key : BlockRef) (value : V) : Type 0 where
@@ -27,9 +28,13 @@ module _ {V : Type 0} where
     pub seed : new.seed ≡ old.seed
     pub top : new.top ≡ max old.top (at + 1)
     pub placed : IsPlaced new
-    -- over a store in which its key is a live block with bytes of this hash that no element has, it is an insert of this key
-    pub keyed : (blocks : Blocks) → Keyed blocks old → IsSome (blocks element.key) → element.hash ≡ hash_of old.seed (bytes_at blocks element.key) → Lacks blocks old (bytes_at blocks element.key)
-        → Keyed blocks new × (key_tables blocks new ≡ inserted (hash_of old.seed) (key_tables blocks old) (bytes_at blocks element.key))
+    -- over a store in which its key is a live block with bytes of this hash that no element has, it is an insert of
+    -- this key
+    pub keyed : (blocks : Blocks) → Keyed blocks old → IsSome (blocks element.key)
+        → element.hash ≡ hash_of old.seed (bytes_at blocks element.key) → Lacks blocks old (bytes_at blocks element.key)
+        → Keyed blocks new
+        × (key_tables blocks new
+        ≡ inserted (hash_of old.seed) (key_tables blocks old) (bytes_at blocks element.key))
 
   -- an element's value changes, from this one
   pub record Swaps (old new : Table V) (at : ℕ) (was value : V) : Type 0 where
@@ -49,8 +54,11 @@ module _ {V : Type 0} where
     pub tables : tables new ≡ tables old
     pub seed : new.seed ≡ old.seed
     pub top : new.top ≡ old.top
-    -- over a store in which the new block has the key's bytes, and all other keys theirs, the dictionary means what it meant
-    pub keyed : (before after : Blocks) → Keyed before old → after ref ≡ before element.key → ((other : ℕ) (e : Element V) → other ≢ at → item old other ≡ Some e → after e.key ≡ before e.key) → Keyed after new × (key_tables after new ≡ key_tables before old)
+    -- over a store in which the new block has the key's bytes, and all other keys theirs, the dictionary means what it
+    -- meant
+    pub keyed : (before after : Blocks) → Keyed before old → after ref ≡ before element.key
+        → ((other : ℕ) (e : Element V) → other ≢ at → item old other ≡ Some e → after e.key ≡ before e.key)
+        → Keyed after new × (key_tables after new ≡ key_tables before old)
 
   -- the element of this key leaves, with this block and this value
   pub record Removes (blocks : Blocks) (old new : Table V) (key : List ℕ) (ref : BlockRef) (value : V) : Type 0 where
@@ -72,7 +80,8 @@ module _ {V : Type 0} where
   IsOther blocks t hash key at = (e : Element V) → item t at ≡ Some e → e.hash ≡ hash → blocks e.key ≢ Some key
 
   -- the key stands in the table, behind this element or first
-  pub record IsSpot (blocks : Blocks) (t : Table V) (side : Side) (hash : ℕ) (key : List ℕ) (before : Option ℕ) (at : ℕ) : Type 0 where
+  pub record IsSpot (blocks : Blocks) (t : Table V) (side : Side) (hash : ℕ) (key : List ℕ) (before : Option ℕ) (at : ℕ)
+      : Type 0 where
     pub table : 0 < length (table_rows side t)
     pub behind : IsBehind (bucket (table_rows side t) (hash % length (table_rows side t))) before at
     pub stands : Stands blocks t at key

@@ -88,7 +88,8 @@ module _ {X : Type 0} (hash : X → ℕ) where
 
   -- the elements of a bucket of the older table move to the newer one
   abbrev pub moved : Tables X → ℕ → Tables X
-  moved t at = ended (record { older = slice_set t.older at []; newer = put_all t.newer (bucket t.older at); position = suc at })
+  moved t at = ended
+      (record { older = slice_set t.older at []; newer = put_all t.newer (bucket t.older at); position = suc at })
 
   abbrev pub stepped_to : Tables X → Option ℕ → Tables X
   stepped_to t None = record t { position = t.position + 10 }
@@ -119,7 +120,8 @@ module _ {X : Type 0} (same : X → X → Bool) where
 
   -- the element leaves
   unfoldable pub removed : Tables X → X → Tables X
-  removed t x = ended (record { older = map (without x) t.older; newer = map (without x) t.newer; position = t.position })
+  removed t x =
+      ended (record { older = map (without x) t.older; newer = map (without x) t.newer; position = t.position })
 
 -- the same buckets, with other names for the elements
 abbrev pub named : {X Y : Type 0} → (X → Y) → Tables X → Tables Y

@@ -36,22 +36,28 @@ next_of cursor bits = reversed 64 ((reversed 64 (all_above cursor bits) + 1) % 2
 
 -- the places of a cursor's bucket: those of all hashes with the cursor's low bits
 pub record IsBucket (bits cursor next : ℕ) : Type 0 where
-  pub whole : (hash : ℕ) → hash % 2 ^ bits ≡ cursor % 2 ^ bits → (block_start (64 - bits) (place cursor) ≤ place hash) × (place hash < end_of next)
-  pub only : (hash : ℕ) → block_start (64 - bits) (place cursor) ≤ place hash → place hash < end_of next → hash % 2 ^ bits ≡ cursor % 2 ^ bits
+  pub whole : (hash : ℕ) → hash % 2 ^ bits ≡ cursor % 2 ^ bits
+      → (block_start (64 - bits) (place cursor) ≤ place hash) × (place hash < end_of next)
+  pub only : (hash : ℕ) → block_start (64 - bits) (place cursor) ≤ place hash → place hash < end_of next
+      → hash % 2 ^ bits ≡ cursor % 2 ^ bits
 
 -- Moves from a cursor to cursor 0, each over a table of its own size: `bits` says the sizes in turn. A
 -- walk goes on from each cursor that isn't 0.
 pub data IsWalk : ℕ → List ℕ → Type 0 where
   last : (cursor bits : ℕ) → bits < 64 → next_of cursor bits ≡ 0 → IsWalk cursor (bits ∷ [])
-  more : (cursor bits : ℕ) (rest : List ℕ) → bits < 64 → next_of cursor bits ≢ 0 → IsWalk (next_of cursor bits) rest → IsWalk cursor (bits ∷ rest)
+  more : (cursor bits : ℕ) (rest : List ℕ) → bits < 64 → next_of cursor bits ≢ 0 → IsWalk (next_of cursor bits) rest
+      → IsWalk cursor (bits ∷ rest)
 
 -- how many moves of a walk have the place in their interval, from the reversed cursor to below the
 -- reversed next one
 unfoldable pub moves_over : ℕ → ℕ → List ℕ → ℕ
 moves_over at cursor [] = 0
-moves_over at cursor (bits ∷ rest) = (if nat_le (place cursor) at && nat_lt at (end_of (next_of cursor bits)) then 1 else 0) + moves_over at (next_of cursor bits) rest
+moves_over at cursor (bits ∷ rest) =
+    (if nat_le (place cursor) at && nat_lt at (end_of (next_of cursor bits)) then 1 else 0) + moves_over at
+    (next_of cursor bits) rest
 
 -- how many moves of a walk give the bucket that an element with this hash is in
 unfoldable pub meetings : ℕ → ℕ → List ℕ → ℕ
 meetings hash cursor [] = 0
-meetings hash cursor (bits ∷ rest) = (if hash % 2 ^ bits == cursor % 2 ^ bits then 1 else 0) + meetings hash (next_of cursor bits) rest
+meetings hash cursor (bits ∷ rest) =
+    (if hash % 2 ^ bits == cursor % 2 ^ bits then 1 else 0) + meetings hash (next_of cursor bits) rest

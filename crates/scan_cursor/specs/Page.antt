@@ -5,9 +5,10 @@ use Rattle.std.specs.Prelude.{zero, suc, ◌+◌, ◌-◌, ◌*◌, ◌==◌, �
 unfoldable pub scan_from : (ℕ → List ℕ) → (ℕ → ℕ) → ℕ → ℕ → List ℕ → ℕ → List ℕ × ℕ
 scan_from move after zero count met at = (met, at)
 scan_from move after (suc moves) count met at =
-    if (at == 0) || nat_le count (length met) then (met, at) else scan_from move after moves count (met ++ move at) (after at)
+    if (at == 0) || nat_le count (length met) then (met, at)
+    else scan_from move after moves count (met ++ move at) (after at)
 
--- The elements met and the next cursor: moves are made until the cursor is 0, until `count` elements or more were met, or
--- until ten times as many moves were made.
+-- The elements met and the next cursor: moves are made until the cursor is 0, until `count` elements or more were met,
+-- or until ten times as many moves were made.
 abbrev pub scan_list : (ℕ → List ℕ) → (ℕ → ℕ) → ℕ → ℕ → List ℕ × ℕ
 scan_list move after cursor count = scan_from move after (count * 10 - 1) count (move cursor) (after cursor)

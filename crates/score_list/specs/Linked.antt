@@ -81,11 +81,13 @@ IsLinked t = LinkedAs t (order t)
 
 -- an owner of the level stands in front of the rank, after so many elements
 abbrev pub StandsAt : Towers → ℕ → ℕ → ℕ → ℕ → Type 0
-StandsAt t level rank owner after = (rest : List ℕ) × Stands (tall t level) (take rank (order t)) owner rest × (after + length rest ≡ rank)
+StandsAt t level rank owner after =
+    (rest : List ℕ) × Stands (tall t level) (take rank (order t)) owner rest × (after + length rest ≡ rank)
 
 -- it is the last one in front of the rank
 abbrev pub Arrives : Towers → ℕ → ℕ → ℕ → ℕ → Type 0
-Arrives t level rank owner after = (left : ℕ) × Reaches (tall t level) (take rank (order t)) 0 0 owner left × (after + left ≡ rank)
+Arrives t level rank owner after =
+    (left : ℕ) × Reaches (tall t level) (take rank (order t)) 0 0 owner left × (after + left ≡ rank)
 
 -- what an edit of links leaves
 pub record Keeps (old new : Towers) : Type 0 where
@@ -102,12 +104,14 @@ pub record SetsLink (old new : Towers) (level owner : ℕ) (link : Link) : Type 
 
 pub record Hangs (old new : Towers) (level x owner left : ℕ) : Type 0 where
   pub other_levels : (l o : ℕ) → l ≢ level → link_at new l o ≡ link_at old l o
-  pub hung : Hung (tall old level) x owner left (next_at old level) (span_at old level) (next_at new level) (span_at new level)
+  pub hung : Hung (tall old level) x owner left (next_at old level) (span_at old level) (next_at new level)
+      (span_at new level)
   pub keeps : Keeps old new
 
 pub record Unhangs (old new : Towers) (level x owner left : ℕ) : Type 0 where
   pub other_levels : (l o : ℕ) → l ≢ level → link_at new l o ≡ link_at old l o
-  pub unhung : Unhung (tall old level) x owner left (next_at old level) (span_at old level) (next_at new level) (span_at new level)
+  pub unhung : Unhung (tall old level) x owner left (next_at old level) (span_at old level) (next_at new level)
+      (span_at new level)
   pub keeps : Keeps old new
 
 -- the list with one more at a rank, and without the one there

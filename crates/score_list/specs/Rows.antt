@@ -1,5 +1,5 @@
--- One level of the towers: from which owner the links go where, and how many elements each passes. An owner is 0 for the
--- head, or a tower's key plus one. A link is 0 where it ends the row.
+-- One level of the towers: from which owner the links go where, and how many elements each passes. An owner is 0 for
+-- the head, or a tower's key plus one. A link is 0 where it ends the row.
 use Rattle.std.specs.Prelude.{◌≡◌, ◌≢◌, ℕ, suc, ◌+◌, Bool, true, false, List, [], ◌∷◌, ◌++◌, ◌⊎◌}
 
 -- an owner is none of these towers
@@ -18,26 +18,33 @@ AllTall tall [] = Unit {0}
 AllTall tall (k ∷ ks) = (tall k ≡ true) × AllTall tall ks
 
 module _ (tall : ℕ → Bool) where
-  -- Behind an owner that stands so many elements back, the links go from each tower of the level to the next one, and each
-  -- span is the number of places to it. The last link's span goes to the end.
+  -- Behind an owner that stands so many elements back, the links go from each tower of the level to the next one, and
+  -- each span is the number of places to it. The last link's span goes to the end.
   abbrev pub IsRow : (ℕ → ℕ) → (ℕ → ℕ) → ℕ → ℕ → List ℕ → Type 0
   IsRow next span owner passed [] = (next owner ≡ 0) × (span owner ≡ suc passed)
-  IsRow next span owner passed (k ∷ ks) = ((tall k ≡ true) × (next owner ≡ suc k) × (span owner ≡ suc passed) × IsRow next span (suc k) 0 ks) ⊎ ((tall k ≡ false) × IsRow next span owner (suc passed) ks)
+  IsRow next span owner passed (k ∷ ks) =
+      ((tall k ≡ true) × (next owner ≡ suc k) × (span owner ≡ suc passed) × IsRow next span (suc k) 0 ks)
+      ⊎ ((tall k ≡ false) × IsRow next span owner (suc passed) ks)
 
-  -- over these elements, from an owner so many elements back, the last owner of the level is this one, so many elements back
+  -- over these elements, from an owner so many elements back, the last owner of the level is this one, so many elements
+  -- back
   abbrev pub Reaches : List ℕ → ℕ → ℕ → ℕ → ℕ → Type 0
   Reaches [] owner passed last left = (last ≡ owner) × (left ≡ passed)
-  Reaches (k ∷ ks) owner passed last left = ((tall k ≡ true) × Reaches ks (suc k) 0 last left) ⊎ ((tall k ≡ false) × Reaches ks owner (suc passed) last left)
+  Reaches (k ∷ ks) owner passed last left =
+      ((tall k ≡ true) × Reaches ks (suc k) 0 last left) ⊎ ((tall k ≡ false) × Reaches ks owner (suc passed) last left)
 
   -- an owner of the level stands in the list, and behind it stand the rest
   pub data Stands (front : List ℕ) (owner : ℕ) (rest : List ℕ) : Type 0 where
     at_head : owner ≡ 0 → rest ≡ front → Stands front owner rest
-    at_tower : (before : List ℕ) (k : ℕ) → tall k ≡ true → owner ≡ suc k → front ≡ before ++ k ∷ rest → Stands front owner rest
+    at_tower : (before : List ℕ) (k : ℕ) → tall k ≡ true → owner ≡ suc k → front ≡ before ++ k ∷ rest
+        → Stands front owner rest
 
 -- a tower joins the row so many elements behind an owner
 pub record Hung (tall : ℕ → Bool) (x owner left : ℕ) (next span next' span' : ℕ → ℕ) : Type 0 where
   pub others : (p : ℕ) → p ≢ owner → p ≢ suc x → (next' p ≡ next p) × (span' p ≡ span p)
-  pub joins : tall x ≡ true → (next' owner ≡ suc x) × (span' owner ≡ suc left) × (next' (suc x) ≡ next owner) × (span' (suc x) + left ≡ span owner)
+  pub joins : tall x ≡ true
+      → (next' owner ≡ suc x) × (span' owner ≡ suc left) × (next' (suc x) ≡ next owner)
+      × (span' (suc x) + left ≡ span owner)
   pub low : tall x ≡ false → (next' owner ≡ next owner) × (span' owner ≡ suc (span owner))
 
 -- a tower leaves the row so many elements behind an owner

@@ -47,12 +47,17 @@ HasAt blocks key xs rank = (rank < length xs) × (key_of blocks (slice_index_or 
 
 -- the element with the key has left, or there was none
 abbrev pub Removes : Blocks → Key → List Element → Bool → List Element → Type 0
-Removes blocks key old removed new = MatchBool removed (HasAt blocks key old (place_of blocks key old) × (new ≡ without_at old (place_of blocks key old))) (Misses blocks key old × (new ≡ old))
+Removes blocks key old removed new =
+    MatchBool removed
+    (HasAt blocks key old (place_of blocks key old) × (new ≡ without_at old (place_of blocks key old)))
+    (Misses blocks key old × (new ≡ old))
 
--- the second store holds the bytes of the member at the rank under the new reference, and those of the other members as the first does
+-- the second store holds the bytes of the member at the rank under the new reference, and those of the other members as
+-- the first does
 pub record Carries (before after : Blocks) (xs : List Element) (rank : ℕ) (new : BlockRef) : Type 0 where
   pub moved : after new ≡ before (slice_index_or xs rank no_element).1
-  pub others : (n : ℕ) → n < length xs → n ≢ rank → after (slice_index_or xs n no_element).1 ≡ before (slice_index_or xs n no_element).1
+  pub others : (n : ℕ) → n < length xs → n ≢ rank
+      → after (slice_index_or xs n no_element).1 ≡ before (slice_index_or xs n no_element).1
 
 -- each score is at least this one
 abbrev pub AllFrom : ℤ → List Element → Type 0

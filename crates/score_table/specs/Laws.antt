@@ -12,15 +12,20 @@ use Rattle.score_table.specs.Scored.{IsScoreTable, IsArranged, scores, ranked, r
 pub record ScoreTableLaws : Type 0 where
   -- where those are the same, so is what it means, and it is sound
   pub own : (a b : Blocks) (s : ScoreTable) → ((r : BlockRef) → IsIn r (refs s) → b r ≡ a r) → scores b s ≡ scores a s
-  pub sound : (a b : Blocks) (s : ScoreTable) → ((r : BlockRef) → IsIn r (refs s) → b r ≡ a r) → IsScoreTable a s → IsScoreTable b s × (ranked b s ≡ ranked a s) × (tables b s ≡ tables a s)
+  pub sound : (a b : Blocks) (s : ScoreTable) → ((r : BlockRef) → IsIn r (refs s) → b r ≡ a r) → IsScoreTable a s
+      → IsScoreTable b s × (ranked b s ≡ ranked a s) × (tables b s ≡ tables a s)
   -- what others change among their blocks leaves what it means, and it is sound
-  pub others : (a b : Blocks) (s : ScoreTable) (old new : List BlockRef) → Owned (refs s ++ old) a → Changes a b old new → scores b s ≡ scores a s
-  pub stays : (a b : Blocks) (s : ScoreTable) (old new : List BlockRef) → Owned (refs s ++ old) a → Changes a b old new → IsScoreTable a s → IsScoreTable b s
+  pub others : (a b : Blocks) (s : ScoreTable) (old new : List BlockRef) → Owned (refs s ++ old) a → Changes a b old new
+      → scores b s ≡ scores a s
+  pub stays : (a b : Blocks) (s : ScoreTable) (old new : List BlockRef) → Owned (refs s ++ old) a → Changes a b old new
+      → IsScoreTable a s → IsScoreTable b s
   -- its blocks are live, and none stands twice
   pub owned : (blocks : Blocks) (s : ScoreTable) → IsScoreTable blocks s → Owned (refs s) blocks
   -- its pairs stand in order in one list, whose length is the number of members
-  pub ranking : (blocks : Blocks) (s : ScoreTable) → IsScoreTable blocks s → IsRanking (scores blocks s) (ranked blocks s)
-  pub counted : (blocks : Blocks) (s : ScoreTable) → IsScoreTable blocks s → length (ranked blocks s) ≡ len (scores blocks s)
+  pub ranking : (blocks : Blocks) (s : ScoreTable) → IsScoreTable blocks s
+      → IsRanking (scores blocks s) (ranked blocks s)
+  pub counted : (blocks : Blocks) (s : ScoreTable) → IsScoreTable blocks s
+      → length (ranked blocks s) ≡ len (scores blocks s)
   -- each of its members has exactly one item number
   pub arranged : (blocks : Blocks) (s : ScoreTable) → IsScoreTable blocks s → IsArranged blocks s
   -- a map has one such list

@@ -1,5 +1,5 @@
--- Finite maps from members to scores, and the order of their pairs. (Redis command reference, data type Sorted sets: members are
--- ordered by their scores, and lexicographically where these are the same.)
+-- Finite maps from members to scores, and the order of their pairs. (Redis command reference, data type Sorted sets:
+-- members are ordered by their scores, and lexicographically where these are the same.)
 use Rattle.std.specs.Prelude.{◌≡◌, ◌↔◌, ℤ, List, [], ◌∷◌, Contains, Some}
 use Rattle.std.specs.declared.cmp.Ordering.TheVariants.{Less}
 use Rattle.std.specs.Ordering.{nat_cmp}

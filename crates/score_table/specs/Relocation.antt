@@ -6,8 +6,8 @@ use Rattle.rehash_dict.specs.Table.{Element, item}
 use Rattle.score_table.specs.declared.table.ScoreTable.{ScoreTable}
 use Rattle.score_table.specs.Scored.{IsScoreTable, scores, ranked, refs, seed_of, tables}
 
--- Blocks of members moved: all means what it meant, a member stands at each item number at which one stood, and these item numbers
--- keep their blocks.
+-- Blocks of members moved: all means what it meant, a member stands at each item number at which one stood, and these
+-- item numbers keep their blocks.
 pub record IsSettled (before after : Blocks) (old new : ScoreTable) (stays : ℕ → Type 0) : Type 0 where
   pub sound : IsScoreTable after new
   pub scores_are : scores after new ≡ scores before old

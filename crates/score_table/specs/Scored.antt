@@ -19,7 +19,8 @@ pub record Agree (t : Table ℤ) (list : List Scored) : Type 0 where
   pub listed : (at : ℕ) (e : Element ℤ) → item t at ≡ Some e → Contains list (e.value, e.key)
   pub named : (x : Scored) → Contains list x → (at : ℕ) × Holds t at x.1 x.0
 
--- Each member is one live block, which the dictionary and the list share; no two have the same bytes, and the list is sorted.
+-- Each member is one live block, which the dictionary and the list share; no two have the same bytes, and the list is
+-- sorted.
 pub record IsScoreTable (blocks : Blocks) (s : ScoreTable) : Type 0 where
   pub keyed : Keyed blocks s.table
   pub sorted : IsSorted blocks s.list
@@ -49,7 +50,8 @@ tables blocks s = key_tables blocks s.table
 abbrev pub no_tables : Tables (List ℕ)
 no_tables = record { older = []; newer = []; position = 0 }
 
--- It has these members with these scores now, over the blocks that it owns, and its tables come from the old ones by edits.
+-- It has these members with these scores now, over the blocks that it owns, and its tables come from the old ones by
+-- edits.
 pub record IsChanged (before after : Blocks) (old new : ScoreTable) (map : ScoreMap) : Type 0 where
   pub sound : IsScoreTable after new
   pub scores_are : scores after new ≡ map
@@ -92,7 +94,10 @@ pair_at blocks s at = pair_of blocks (item s.table at)
 
 -- Each member has exactly one item number, and its score there.
 pub record IsArranged (blocks : Blocks) (s : ScoreTable) : Type 0 where
-  pub found : (score : ℤ) (member : List ℕ) → get (scores blocks s) member ≡ Some score → (at : ℕ) × (pair_at blocks s at ≡ Some (score, member))
-  pub pair : (at : ℕ) (score : ℤ) (member : List ℕ) → pair_at blocks s at ≡ Some (score, member) → get (scores blocks s) member ≡ Some score
-  pub apart : (at other : ℕ) (score another : ℤ) (member : List ℕ) → pair_at blocks s at ≡ Some (score, member) → pair_at blocks s other ≡ Some (another, member) → at ≡ other
+  pub found : (score : ℤ) (member : List ℕ) → get (scores blocks s) member ≡ Some score
+      → (at : ℕ) × (pair_at blocks s at ≡ Some (score, member))
+  pub pair : (at : ℕ) (score : ℤ) (member : List ℕ) → pair_at blocks s at ≡ Some (score, member)
+      → get (scores blocks s) member ≡ Some score
+  pub apart : (at other : ℕ) (score another : ℤ) (member : List ℕ) → pair_at blocks s at ≡ Some (score, member)
+      → pair_at blocks s other ≡ Some (another, member) → at ≡ other
   pub below : (at : ℕ) → IsSome (pair_at blocks s at) → at < s.table.top

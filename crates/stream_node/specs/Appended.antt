@@ -37,10 +37,12 @@ abbrev pub added : Id → List (List ℕ) → Id → List Pair → List (List �
 added key [] id pairs = head_texts pairs ++ entry_texts key id true pairs
 added key (x ∷ list) id pairs = entry_texts key id (same_texts (fields_of pairs) (fields_in (x ∷ list))) pairs
 
--- the spellings of the listpack's elements with the entry: the count of live entries and what is put behind them are spelled anew
+-- the spellings of the listpack's elements with the entry: the count of live entries and what is put behind them are
+-- spelled anew
 abbrev pub appended : Id → List ℕ → Id → List Pair → List (List ℕ)
 appended key pack id pairs =
-    slice_set (spellings_of pack) 0 (spelling (more_live (texts pack))) ++ map spelling (added key (texts pack) id pairs)
+    slice_set (spellings_of pack) 0 (spelling (more_live (texts pack)))
+    ++ map spelling (added key (texts pack) id pairs)
 
 -- how many bytes a listpack of these spellings has
 abbrev pub pack_len : List (List ℕ) → ℕ
@@ -50,7 +52,8 @@ pack_len spellings = 7 + length (entries spellings)
 pub record IsAppended (key : Id) (old : List ℕ) (new : List ℕ) (id : Id) (pairs : List Pair) : Type 0 where
   pub pack : IsPack new
   pub node : IsNode key (texts new)
-  pub entries : entries_of key (texts new) ≡ held key (texts old) ++ record { id = id; deleted = false; pairs = pairs } ∷ []
+  pub entries : entries_of key (texts new) ≡ held key (texts old) ++ record { id = id; deleted = false; pairs = pairs }
+      ∷ []
   pub spelled : spellings_of new ≡ appended key old id pairs
 
 -- A listpack with an element put in the place of another.

@@ -63,7 +63,8 @@ entry_count list = count (element list 0) + count (element list 1)
 
 -- the entries of a node
 unfoldable pub entries_of : Id → List (List ℕ) → List Stored
-entries_of key list = entries_from key (take (field_count list) (drop 3 list)) (entry_count list) (drop (4 + field_count list) list)
+entries_of key list =
+    entries_from key (take (field_count list) (drop 3 list)) (entry_count list) (drop (4 + field_count list) list)
 
 -- The list is a stream node of that key.
 abbrev pub IsNode : Id → List (List ℕ) → Type 0

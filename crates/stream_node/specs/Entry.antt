@@ -32,7 +32,8 @@ abbrev pub flags : Bool → Bool → ℕ
 flags deleted same = (if deleted then 1 else 0) + (if same then 2 else 0)
 
 -- The list begins with the flags and the two differences of an entry, and the rest follows.
-pub record IsStart (key : Id) (list : List (List ℕ)) (deleted : Bool) (same : Bool) (id : Id) (rest : List (List ℕ)) : Type 0 where
+pub record IsStart (key : Id) (list : List (List ℕ)) (deleted : Bool) (same : Bool) (id : Id) (rest : List (List ℕ))
+    : Type 0 where
   pub ms : ℤ
   pub seq : ℤ
   pub ms_fits : FitsSigned w64 ms
@@ -58,12 +59,14 @@ abbrev pub size : List (List ℕ) → ℕ
 size middle = 3 + length middle
 
 -- The list begins with these pairs and the entry's last element, and the rest follows.
-pub record IsBody (same : Bool) (master : List (List ℕ)) (list : List (List ℕ)) (pairs : List Pair) (rest : List (List ℕ)) : Type 0 where
+pub record IsBody (same : Bool) (master : List (List ℕ)) (list : List (List ℕ)) (pairs : List Pair)
+    (rest : List (List ℕ)) : Type 0 where
   pub fields : HasFields same master pairs
   pub elements : list ≡ body same pairs ++ number (size (body same pairs)) ∷ rest
 
 -- The list begins with the elements of this entry, and the rest follows.
-pub record IsEntry (key : Id) (master : List (List ℕ)) (list : List (List ℕ)) (entry : Stored) (rest : List (List ℕ)) : Type 0 where
+pub record IsEntry (key : Id) (master : List (List ℕ)) (list : List (List ℕ)) (entry : Stored) (rest : List (List ℕ))
+    : Type 0 where
   pub same : Bool
   pub behind : List (List ℕ)
   pub start : IsStart key list entry.deleted same entry.id behind

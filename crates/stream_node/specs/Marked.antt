@@ -50,13 +50,15 @@ abbrev pub marked_spellings : List ℕ → ℕ → List (List ℕ)
 marked_spellings pack index =
     let list = texts pack in
     let at = flags_at list index in
-    exchanged (spellings_of pack) at (spelling (less_live list)) (spelling (more_deleted list)) (spelling (marked_flags list at))
+    exchanged (spellings_of pack) at (spelling (less_live list)) (spelling (more_deleted list))
+    (spelling (marked_flags list at))
 
 -- The entry is marked deleted, and the listpack stays a stream node.
 pub record IsMarked (old : List ℕ) (new : List ℕ) (index : ℕ) : Type 0 where
   pub pack : IsPack new
   pub node : (key : Id) → IsNode key (texts old) → IsNode key (texts new)
-  pub entries : (key : Id) → IsNode key (texts old) → entries_of key (texts new) ≡ mark_at (entries_of key (texts old)) index
+  pub entries : (key : Id) → IsNode key (texts old)
+      → entries_of key (texts new) ≡ mark_at (entries_of key (texts old)) index
   pub spelled : spellings_of new ≡ marked_spellings old index
 
 -- what is to be written where
@@ -75,7 +77,8 @@ pub record Inserts (old : List ℕ) (new : List ℕ) (index : ℕ) (text : List 
   pub list : texts new ≡ insert (texts old) index text
 
 -- A listpack with three elements exchanged.
-pub record Exchanges (old : List ℕ) (new : List ℕ) (at : ℕ) (first : List ℕ) (second : List ℕ) (other : List ℕ) : Type 0 where
+pub record Exchanges (old : List ℕ) (new : List ℕ) (at : ℕ) (first : List ℕ) (second : List ℕ) (other : List ℕ)
+    : Type 0 where
   pub pack : IsPack new
   pub spelled : spellings_of new ≡ exchanged (spellings_of old) at (spelling first) (spelling second) (spelling other)
   pub list : texts new ≡ exchanged (texts old) at first second other

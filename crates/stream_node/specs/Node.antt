@@ -6,7 +6,8 @@ use Rattle.stream_node.specs.declared.fault.NodeFault.TheVariants as faults
 use Rattle.stream_node.specs.Entry.{Stored, IsBelow, IsStart, IsEntry, number}
 
 -- The list begins with the counts of live and of deleted entries, the node's fields and a zero, and the rest follows.
-pub record IsHead (list : List (List ℕ)) (live : ℕ) (deleted : ℕ) (master : List (List ℕ)) (rest : List (List ℕ)) : Type 0 where
+pub record IsHead (list : List (List ℕ)) (live : ℕ) (deleted : ℕ) (master : List (List ℕ)) (rest : List (List ℕ))
+    : Type 0 where
   pub live_fits : live < 2 ^ 63
   pub deleted_fits : deleted < 2 ^ 63
   pub some : 0 < length master
@@ -22,7 +23,8 @@ IsAfter (Some before) id = IsBelow before id
 unfoldable pub Begins : Id → List (List ℕ) → Option Id → List (List ℕ) → List Stored → List (List ℕ) → Type 0
 Begins key master before list [] rest = list ≡ rest
 Begins key master before list (entry ∷ more) rest =
-    (behind : List (List ℕ)) × IsEntry key master list entry behind × IsAfter before entry.id × Begins key master (Some entry.id) behind more rest
+    (behind : List (List ℕ)) × IsEntry key master list entry behind × IsAfter before entry.id
+    × Begins key master (Some entry.id) behind more rest
 
 -- how many entries are marked deleted
 unfoldable pub marked : List Stored → ℕ
@@ -61,21 +63,25 @@ LacksHead list = (live deleted : ℕ) (master rest : List (List ℕ)) → IsHead
 
 -- An entry is due, and the list begins with flags and differences of one whose id is not above the one before it.
 abbrev pub IsBack : Id → Option Id → List (List ℕ) → Type 0
-IsBack key before list = (deleted same : Bool) × (id : Id) × (rest : List (List ℕ)) × IsStart key list deleted same id rest × (IsAfter before id → ⊥)
+IsBack key before list = (deleted same : Bool) × (id : Id) × (rest : List (List ℕ))
+    × IsStart key list deleted same id rest × (IsAfter before id → ⊥)
 
 -- An entry is due, and the list begins with none, whatever its id.
 abbrev pub LacksEntry : Id → List (List ℕ) → List (List ℕ) → Type 0
 LacksEntry key master list = (entry : Stored) (rest : List (List ℕ)) → IsEntry key master list entry rest → ⊥
 
--- The first fault of a list that is no node of that key. An id that is not above the one before it stands before whatever is
--- wrong behind it in its entry.
+-- The first fault of a list that is no node of that key. An id that is not above the one before it stands before
+-- whatever is wrong behind it in its entry.
 abbrev pub IsFault : Id → List (List ℕ) → NodeFault → Type 0
 IsFault key list faults.Shape =
     LacksHead list
-    ⊎ ((s : Stop key list) × (length s.entries < s.live + s.deleted) × LacksEntry key s.master s.rest × (IsBack key (last_id None s.entries) s.rest → ⊥))
+    ⊎ ((s : Stop key list) × (length s.entries < s.live + s.deleted) × LacksEntry key s.master s.rest
+    × (IsBack key (last_id None s.entries) s.rest → ⊥))
     ⊎ ((s : Stop key list) × (length s.entries ≡ s.live + s.deleted) × (s.rest ≢ []))
-IsFault key list faults.Count = (s : Stop key list) × (length s.entries ≡ s.live + s.deleted) × (s.rest ≡ []) × (marked s.entries ≢ s.deleted)
-IsFault key list faults.Order = (s : Stop key list) × (length s.entries < s.live + s.deleted) × IsBack key (last_id None s.entries) s.rest
+IsFault key list faults.Count =
+    (s : Stop key list) × (length s.entries ≡ s.live + s.deleted) × (s.rest ≡ []) × (marked s.entries ≢ s.deleted)
+IsFault key list faults.Order =
+    (s : Stop key list) × (length s.entries < s.live + s.deleted) × IsBack key (last_id None s.entries) s.rest
 
 -- A list is a node with one list of entries at most, or has one first fault, and never both.
 pub record AtMostOne (key : Id) (list : List (List ℕ)) : Type 0 where

@@ -19,5 +19,7 @@ abbrev pub IsRoomy : List ℕ → List Pair → Type 0
 IsRoomy pack pairs = length pack + most_bytes pairs < 2 ^ 32
 
 pub record RoomEnough : Type 0 where
-  pub append : (key id : Id) (pack : List ℕ) (pairs : List Pair) → IsPack pack → IsRoomy pack pairs → pack_len (appended key pack id pairs) < 2 ^ 32
-  pub mark : (pack : List ℕ) (index : ℕ) → IsPack pack → length pack + 192 < 2 ^ 32 → pack_len (marked_spellings pack index) < 2 ^ 32
+  pub append : (key id : Id) (pack : List ℕ) (pairs : List Pair) → IsPack pack → IsRoomy pack pairs
+      → pack_len (appended key pack id pairs) < 2 ^ 32
+  pub mark : (pack : List ℕ) (index : ℕ) → IsPack pack → length pack + 192 < 2 ^ 32
+      → pack_len (marked_spellings pack index) < 2 ^ 32

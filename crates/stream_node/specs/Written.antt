@@ -28,7 +28,8 @@ pair_texts false pair = pair.0 ∷ pair.1 ∷ []
 
 -- the flags and the differences of an entry
 abbrev pub start_texts : Id → Id → Bool → List (List ℕ)
-start_texts key id same = number (flags false same) ∷ canonical (difference id.ms key.ms) ∷ canonical (difference id.seq key.seq) ∷ []
+start_texts key id same =
+    number (flags false same) ∷ canonical (difference id.ms key.ms) ∷ canonical (difference id.seq key.seq) ∷ []
 
 -- the entry's pairs, and its last element
 abbrev pub body_texts : Bool → List Pair → List (List ℕ)

@@ -4,7 +4,8 @@ use Rattle.std.specs.Prelude.{ℕ, ◌+◌, ◌-◌, ◌==◌, List, ◌++◌, l
 -- The bytes with a piece from a place on: zero bytes fill a gap before it, and what stands behind it
 -- stays. An empty piece changes nothing. (Redis command reference, SETRANGE.)
 abbrev pub ranged : List ℕ → ℕ → List ℕ → List ℕ
-ranged bytes at piece = if length piece == 0 then bytes else take at bytes ++ replicate (at - length bytes) 0 ++ piece ++ drop (at + length piece) bytes
+ranged bytes at piece = if length piece == 0 then bytes
+    else take at bytes ++ replicate (at - length bytes) 0 ++ piece ++ drop (at + length piece) bytes
 
 -- the bytes with zero bytes behind them up to a length
 abbrev pub widened : List ℕ → ℕ → List ℕ
