@@ -7,7 +7,7 @@ use Rattle.rev_cursor.specs.Span.{times}
 use Rattle.rehash_dict.specs.declared.chains.Entry.{Entry}
 use Rattle.rehash_dict.specs.Tables.{bucket}
 use Rattle.rehash_dict.specs.Sides.{last_of}
-use Rattle.rehash_dict.specs.Chains.{entry_at, IsChain, Links, Unlinks, bridged, head_after, relinked}
+use Rattle.rehash_dict.specs.Chains.{key_of_entry, entry_at, IsChain, Links, Unlinks, bridged, head_after, relinked}
 use Rattle.rehash_dict.proofs.Counts.{times-here, times-append}
 use Rattle.rehash_dict.proofs.Rows.{Leads, SameLink, chain_kept, leads_kept, leads_set, unchanged_link, within}
 
@@ -30,6 +30,7 @@ module _ {V : Type 0} where
     found = found;
     slots = ap (λ n. set old.slots at (Some (record e { next = n }))) (is_next ∙ ap (λ n. get_or heads n 0) is_k);
     heads_after = ap (λ n. set heads n (at + 1)) is_k ∙ ap (λ n. set heads (e.hash % length heads) n) (omega arith);
+    vacant = refl;
     capacity = refl;
   }
 
@@ -89,7 +90,7 @@ module _ {V : Type 0} where
       (λ j i ne t. unchanged_link old new i (same i (apart p i (bucket table j) (out_p j ne) t) (apart at i (bucket table j) (out_at j ne) t))))
 
   -- the call that takes an entry out
-  pub unlinked_none : (old mid new : Slab (Entry V)) (heads after : List ℕ) (k at : ℕ) (before : Option ℕ) (e : Entry V) → before ≡ None → get old at ≡ Some e → mid.slots ≡ set old.slots at None → count_by is_some mid.slots + 1 ≡ count_by is_some old.slots → mid.capacity ≡ old.capacity → new ≡ mid → after ≡ set heads k e.next → Unlinks old heads k before at e.key e.value new after
+  pub unlinked_none : (old mid new : Slab (Entry V)) (heads after : List ℕ) (k at : ℕ) (before : Option ℕ) (e : Entry V) → before ≡ None → get old at ≡ Some e → mid.slots ≡ set old.slots at None → count_by is_some mid.slots + 1 ≡ count_by is_some old.slots → mid.capacity ≡ old.capacity → new ≡ mid → after ≡ set heads k e.next → Unlinks old heads k before at (key_of_entry e) e.value new after
   unlinked_none old mid new heads after k at before e none found slots len capacity is is_after = record {
     hash = e.hash;
     next = e.next;
@@ -100,7 +101,7 @@ module _ {V : Type 0} where
     capacity = ap (λ s. s.capacity) is ∙ capacity;
   }
 
-  pub unlinked_some : (old mid new : Slab (Entry V)) (heads after : List ℕ) (k at p : ℕ) (before : Option ℕ) (e f : Entry V) → before ≡ Some p → get old at ≡ Some e → mid.slots ≡ set old.slots at None → count_by is_some mid.slots + 1 ≡ count_by is_some old.slots → mid.capacity ≡ old.capacity → get mid p ≡ Some f → new ≡ with_value mid p (record f { next = e.next }) → after ≡ heads → Unlinks old heads k before at e.key e.value new after
+  pub unlinked_some : (old mid new : Slab (Entry V)) (heads after : List ℕ) (k at p : ℕ) (before : Option ℕ) (e f : Entry V) → before ≡ Some p → get old at ≡ Some e → mid.slots ≡ set old.slots at None → count_by is_some mid.slots + 1 ≡ count_by is_some old.slots → mid.capacity ≡ old.capacity → get mid p ≡ Some f → new ≡ with_value mid p (record f { next = e.next }) → after ≡ heads → Unlinks old heads k before at (key_of_entry e) e.value new after
   unlinked_some old mid new heads after k at p before e f some found slots len capacity there is is_after =
       let was : one_if (is_some (get_or mid.slots p None)) ≡ 1 = ap (λ (o : Option (Entry V)). one_if (is_some o)) there in
       let lt : p < length mid.slots = within mid.slots p f there in

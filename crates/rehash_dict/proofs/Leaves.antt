@@ -11,7 +11,7 @@ use Rattle.rehash_dict.specs.Table.{Element, at_item, Updates}
 use Rattle.rehash_dict.specs.Placed.{Stand}
 use Rattle.rehash_dict.specs.Sides.{last_of, LeavesFrom, IsBehind}
 use Rattle.rehash_dict.specs.declared.chains.Side.TheVariants.{Older, Newer}
-use Rattle.rehash_dict.specs.Chains.{element_of, entry_at, rows, IsLinked, Unlinks, bridged, relinked, head_after}
+use Rattle.rehash_dict.specs.Chains.{room, element_of, entry_at, rows, IsLinked, Unlinks, bridged, relinked, head_after}
 use Rattle.rehash_dict.proofs.Counts.{times-here, times-append, count-set, without-split}
 use Rattle.rehash_dict.proofs.Stands.{flip, at_most_once, one_bucket, one_table, leaves}
 use Rattle.rehash_dict.proofs.Rows.{Leads, Made, made, SameLink, leads_kept, leads_older, leads_newer, item_at, count-map_element, unchanged_link, within}
@@ -51,7 +51,7 @@ module _ {V : Type 0} where
   module _ (s0 s2 : Slab (Entry V)) (mine other after : List ℕ) (a b : List (List ℕ)) (k at : ℕ) (before : Option ℕ) (front rest : List ℕ) (key : BlockRef) (value : V)
       (la : Leads s0.slots mine a) (lb : Leads s0.slots other b) (s : Stand (map element_of s0.slots) a b) (row : bucket a k ≡ front ++ at ∷ rest) (last : before ≡ last_of front) (u : Unlinks s0 mine k before at key value s2 after) (lt : k < length mine) where
     abbrev entry : Entry V
-    entry = record { key = key; hash = u.hash; next = u.next; value = value }
+    entry = record { slab = key.slab; slot = key.slot; next = u.next; hash = u.hash; value = value }
 
     inside : k < length a
     inside = omega (arith, la.many)
@@ -172,7 +172,7 @@ module _ {V : Type 0} where
         (flip _ _ _ (stand_left s0 s2 newer older after (rows s0.slots newer) (rows s0.slots older) k at before w.front w.rest key value (leads_newer s0.slots older newer waiting l) (leads_older s0.slots older newer waiting l) (flip _ _ _ l.stand) w.is w.last u lt))
         l.waits
 
-    pub leaves_older : (w : IsBehind (bucket (rows s0.slots older) k) before at) → Unlinks s0 older k before at key value s2 after → k < length older → LeavesFrom Older (view_of s0.slots older newer s0.capacity) (view_of s2.slots after newer s2.capacity) k at key value
+    pub leaves_older : (w : IsBehind (bucket (rows s0.slots older) k) before at) → Unlinks s0 older k before at key value s2 after → k < length older → LeavesFrom Older (view_of s0.slots older newer (room s0)) (view_of s2.slots after newer (room s2)) k at key value
     leaves_older w u lt =
         let m = removed_older w u lt in
         record {
@@ -183,7 +183,7 @@ module _ {V : Type 0} where
           stand = m.linked.stand;
         }
 
-    pub leaves_newer : (w : IsBehind (bucket (rows s0.slots newer) k) before at) → Unlinks s0 newer k before at key value s2 after → k < length newer → LeavesFrom Newer (view_of s0.slots older newer s0.capacity) (view_of s2.slots older after s2.capacity) k at key value
+    pub leaves_newer : (w : IsBehind (bucket (rows s0.slots newer) k) before at) → Unlinks s0 newer k before at key value s2 after → k < length newer → LeavesFrom Newer (view_of s0.slots older newer (room s0)) (view_of s2.slots older after (room s2)) k at key value
     leaves_newer w u lt =
         let m = removed_newer w u lt in
         record {

@@ -1,5 +1,5 @@
 -- An element at the head of a bucket of the older table moves to the newer one.
-use Rattle.std.proofs.Common.{◌≡◌, ℕ, zero, suc, ◌+◌, ◌-◌, ◌%◌, ◌<◌, Bool, cond, eqb, List, [], ◌∷◌, get_or, set, length, map, Option, Some, None, is_some, count_by, refl, sym, ap, ◌∙◌, subst, arith}
+use Rattle.std.proofs.Common.{if◌then◌else◌, nat_lt, ◌≡◌, ℕ, zero, suc, ◌+◌, ◌-◌, ◌%◌, ◌<◌, Bool, cond, eqb, List, [], ◌∷◌, get_or, set, length, map, Option, Some, None, is_some, count_by, refl, sym, ap, ◌∙◌, subst, arith}
 use Rattle.std.proofs.lemmas.List.{get_or-set_same, get_or-set_other, length-set}
 use Rattle.std.proofs.lemmas.List.Sums.{sum_by-set}
 use Rattle.std.proofs.Math.Seq.{map-set_same}
@@ -10,7 +10,7 @@ use Rattle.rehash_dict.specs.Tables.{bucket, without}
 use Rattle.rehash_dict.specs.Table.{Element, at_item, Updates}
 use Rattle.rehash_dict.specs.Placed.{Stand}
 use Rattle.rehash_dict.specs.Sides.{MovesOne}
-use Rattle.rehash_dict.specs.Chains.{element_of, entry_at, rows, IsChain, IsLinked, Links}
+use Rattle.rehash_dict.specs.Chains.{room, element_of, entry_at, rows, IsChain, IsLinked, Links}
 use Rattle.rehash_dict.proofs.Counts.{times-here, count-set, without-here, without-none}
 use Rattle.rehash_dict.proofs.Stands.{flip, at_most_once, one_bucket, one_table, joins, leaves}
 use Rattle.rehash_dict.proofs.Rows.{Leads, Made, made, leads_older, leads_newer, length-rows, item_at, unchanged_link}
@@ -102,7 +102,7 @@ module _ {V : Type 0} where
         (flip _ _ _ joined)
         (omega (arith, l.waits, count-set older_rows number top.rest inside, ap length top.is))
 
-    pub moves_one : MovesOne (view_of s0.slots older newer s0.capacity) (view_of s2.slots (set older number e.next) after s2.capacity) number
+    pub moves_one : MovesOne (view_of s0.slots older newer (room s0)) (view_of s2.slots (set older number e.next) after (room s2)) number
     moves_one = record {
       at = at;
       rest = top.rest;
@@ -113,6 +113,6 @@ module _ {V : Type 0} where
           rows_moved.newer_rows ∙ ap (λ n. set newer_rows n (at ∷ bucket newer_rows n)) (ap (λ n. e.hash % n) (sym (length-rows s0.slots newer)) ∙ ap (λ n. n % length newer_rows) (sym mine));
       many = ap length rows_moved.newer_rows ∙ length-set newer_rows (e.hash % length newer) (at ∷ bucket newer_rows (e.hash % length newer));
       items = same_items;
-      capacity = k.capacity;
+      capacity = ap (λ n. if nat_lt n 4294967295 then s2.capacity else 0) k.vacant ∙ ap (λ n. if nat_lt s0.vacant_key 4294967295 then n else 0) k.capacity;
       stand = rows_moved.linked.stand;
     }

@@ -1,5 +1,6 @@
 -- What the calls on the chains leave.
-use Rattle.std.proofs.Common.{◌≡◌, ◌≢◌, ℕ, suc, ◌+◌, ◌%◌, ◌<◌, Bool, cond, List, ◌∷◌, get_or, set, length, map, Option, Some, None, is_some, count_by, sym, ap, ◌∙◌, subst, arith}
+use Rattle.std.proofs.Common.{inl, inr, ◌≤◌, nat_lt, ◌≡◌, ◌≢◌, ℕ, suc, ◌+◌, ◌%◌, ◌<◌, Bool, cond, List, ◌∷◌, get_or, set, length, map, Option, Some, None, is_some, count_by, sym, ap, ◌∙◌, subst, arith}
+use Rattle.std.proofs.lemmas.Bool.{cases_Bool, cond-true, cond-false, ltb-true}
 use Rattle.std.proofs.lemmas.List.{get_or-set_same, get_or-set_other}
 use Rattle.std.proofs.lemmas.List.Sums.{sum_by-set}
 use Rattle.slab.specs.Slab.{Slab, get}
@@ -10,7 +11,7 @@ use Rattle.rehash_dict.specs.declared.chains.Side.TheVariants.{Older, Newer}
 use Rattle.rehash_dict.specs.Tables.{bucket}
 use Rattle.rehash_dict.specs.Table.{Element, Held, at_item, Updates}
 use Rattle.rehash_dict.specs.Sides.{AddsTo, side_rows}
-use Rattle.rehash_dict.specs.Chains.{element_of, entry_at, rows, IsLinked, Links}
+use Rattle.rehash_dict.specs.Chains.{room, element_of, key_of_entry, entry_at, rows, IsLinked, Links}
 use Rattle.rehash_dict.proofs.Counts.{count-set}
 use Rattle.rehash_dict.proofs.Stands.{flip, vacant_out, joins}
 use Rattle.rehash_dict.proofs.Rows.{Made, made, SameLink, leads_older, leads_newer, length-rows, item_at, count-map_element, unchanged_link, within}
@@ -25,7 +26,7 @@ module _ {V : Type 0} where
   view_of slots older newer capacity = record { items = map element_of slots; older = rows slots older; newer = rows slots newer; capacity = capacity }
 
   abbrev pub element : Entry V → Element V
-  element e = record { key = e.key; hash = e.hash; value = e.value }
+  element e = record { key = key_of_entry e; hash = e.hash; value = e.value }
 
   pub updates_one : (old new : List (Option (Entry V))) (at : ℕ) (e : Entry V) → OneEntry old new at e → Updates (map element_of old) (map element_of new) at (Some (element e))
   updates_one old new at e one = record {
@@ -86,6 +87,14 @@ module _ {V : Type 0} where
           rows = (m.newer_rows ∙ ap (λ k. set (rows old newer) k (at ∷ bucket (rows old newer) k)) (ap (λ n. e.hash % n) (sym (length-rows old newer))), m.older_rows);
           stand = m.linked.stand;
         }
+
+  -- where an entry has room, the next item number is small enough for a link
+  pub has_room : (s : Slab (Entry V)) (n : ℕ) → n + 1 ≤ room s → (s.vacant_key < 4294967295) × (n + 1 ≤ s.capacity)
+  has_room s n h = elim (cases_Bool (nat_lt s.vacant_key 4294967295)) [
+    | inl few ↦
+        (ltb-true s.vacant_key 4294967295 few, subst (λ k. n + 1 ≤ k) (cond-true _ s.capacity 0 few) h)
+    | inr many ↦ absurd (omega (arith, subst (λ k. n + 1 ≤ k) (cond-false _ s.capacity 0 many) h))
+  ]
 
   -- ---- an entry is linked
 

@@ -1,5 +1,5 @@
 -- How the buckets are kept: each is a chain through the entries. A link is 0, or an item number plus one.
-use Rattle.std.specs.Prelude.{◌≡◌, ℕ, zero, suc, ◌+◌, ◌%◌, ◌<◌, List, [], ◌∷◌, Option, Some, None, is_some, count_by, map, length, slice_index, slice_index_or, slice_set}
+use Rattle.std.specs.Prelude.{◌≡◌, if◌then◌else◌, nat_lt, ℕ, zero, suc, ◌+◌, ◌%◌, ◌<◌, List, [], ◌∷◌, Option, Some, None, is_some, count_by, map, length, slice_index, slice_index_or, slice_set}
 use Rattle.blocks.specs.declared.BlockRef.{BlockRef}
 use Rattle.slab.specs.Slab.{Slab, get}
 use Rattle.rehash_dict.specs.declared.chains.Entry.{Entry}
@@ -14,9 +14,16 @@ head_after heads k None next = slice_set heads k next
 head_after heads k (Some p) next = heads
 
 module _ {V : Type 0} where
+  abbrev pub key_of_entry : Entry V → BlockRef
+  key_of_entry e = record { slab = e.slab; slot = e.slot }
+
+  -- so many entries fit without memory: none where the next item number is too great for a link
+  abbrev pub room : Slab (Entry V) → ℕ
+  room s = if nat_lt s.vacant_key 4294967295 then s.capacity else 0
+
   abbrev pub element_of : Option (Entry V) → Option (Element V)
   element_of None = None
-  element_of (Some e) = Some (record { key = e.key; hash = e.hash; value = e.value })
+  element_of (Some e) = Some (record { key = key_of_entry e; hash = e.hash; value = e.value })
 
   abbrev pub entry_at : List (Option (Entry V)) → ℕ → Option (Entry V)
   entry_at slots i = slice_index_or slots i None
@@ -63,6 +70,7 @@ module _ {V : Type 0} where
     pub slots : new.slots
         ≡ slice_set old.slots at (Some (record entry { next = slice_index heads (entry.hash % length heads) }))
     pub heads_after : after ≡ slice_set heads (entry.hash % length heads) (suc at)
+    pub vacant : new.vacant_key ≡ old.vacant_key
     pub capacity : new.capacity ≡ old.capacity
 
   -- the entry at the head of a chain leaves it
@@ -86,7 +94,7 @@ module _ {V : Type 0} where
       (value : V) (new : Slab (Entry V)) (after : List ℕ) : Type 0 where
     pub hash : ℕ
     pub next : ℕ
-    pub found : get old at ≡ Some (record { key = key; hash = hash; next = next; value = value })
+    pub found : get old at ≡ Some (record { slab = key.slab; slot = key.slot; next = next; hash = hash; value = value })
     pub slots : new.slots ≡ bridged (slice_set old.slots at None) before next
     pub heads_after : after ≡ head_after heads k before next
     pub len : count_by is_some new.slots + 1 ≡ count_by is_some old.slots

@@ -7,7 +7,7 @@ ghost use Rattle.rehash_dict.specs.declared.chains.Entry.{Entry};
 ghost use Rattle.rehash_dict.specs.Table.{Element, Held, at_item, Agrees, Updates};
 ghost use Rattle.rehash_dict.specs.Tables.{bucket, count, put, put_all, without, no_elements};
 ghost use Rattle.rehash_dict.specs.Placed.{IsSize, Stand};
-ghost use Rattle.rehash_dict.specs.Chains.{element_of, Links, Pops, Unlinks, chain_left};
+ghost use Rattle.rehash_dict.specs.Chains.{element_of, key_of_entry, Links, Pops, Unlinks, chain_left};
 ghost use Rattle.rehash_dict.specs.Sides.{side_rows, Changed, HasRoom, IsBehind, AddsTo, MovesOne, MovesRow, LeavesFrom, SwapsIn};
 
 use blocks::BlockRef;
@@ -16,13 +16,30 @@ use std::alloc::{AllocError, Global};
 use std::marker::Model;
 use std::mem;
 
-/// An element, in the chain of its bucket. A link is 0, or an item number plus one.
+// Item numbers stay below it, so that a link has 32 bits.
+const MOST_ENTRIES: usize = u32::MAX as usize;
+
+/// An element, in the chain of its bucket. A link is 0, or an item number plus one. The key's block is named by its two
+/// parts, between which no byte is left: a million keys each carry one.
 #[derive(Drop)]
 pub(crate) struct Entry<V> {
-    pub(crate) key: BlockRef,
+    slab: usize,
+    slot: u32,
+    pub(crate) next: u32,
     pub(crate) hash: u64,
-    pub(crate) next: usize,
     pub(crate) value: V,
+}
+
+impl<V> Entry<V> {
+    /// The key's block.
+    pub(crate) fn key(&self) -> BlockRef
+        ensures { result ≡ key_of_entry self.now }
+    {
+        BlockRef {
+            slab: self.slab,
+            slot: self.slot,
+        }
+    }
 }
 
 /// The older table, and during a rehash a newer one.
@@ -37,8 +54,8 @@ pub(crate) enum Side {
 pub(crate) struct Chains<V> {
     alloc: Global,
     entries: Slab<Entry<V>>,
-    older: Vec<usize>,
-    newer: Vec<usize>,
+    older: Vec<u32>,
+    newer: Vec<u32>,
     // how many elements the older table has
     waiting: usize,
 }
@@ -52,9 +69,9 @@ impl<V> Model for Chains<V> {
 
     ghost coded = { held_code V.code };
 
-    ghost use Rattle.rehash_dict.specs.Chains.{element_of, rows, IsLinked};
+    ghost use Rattle.rehash_dict.specs.Chains.{element_of, room, rows, IsLinked};
 
-    ghost view = { λ c. record { items = map element_of c.entries.slots; older = rows c.entries.slots c.older.items; newer = rows c.entries.slots c.newer.items; capacity = c.entries.capacity } };
+    ghost view = { λ c. record { items = map element_of c.entries.slots; older = rows c.entries.slots c.older.items; newer = rows c.entries.slots c.newer.items; capacity = room c.entries } };
 
     ghost invariant = { λ c. IsLinked c.entries.slots c.older.items c.newer.items c.waiting };
 }
@@ -64,7 +81,7 @@ impl<V> Model for Chains<V> {
 pub(crate) struct Chain<'a, V> {
     entries: &'a Slab<Entry<V>>,
     left: usize,
-    link: usize,
+    link: u32,
 }
 
 impl<'a, V> Iterator for Chain<'a, V> {
@@ -81,7 +98,7 @@ impl<'a, V> Iterator for Chain<'a, V> {
         if self.left == 0 || self.link == 0 {
             return None;
         }
-        let at = self.link - 1;
+        let at = (self.link - 1) as usize;
         match self.entries.get(at) {
             None => None,
             Some(entry) => {
@@ -103,37 +120,38 @@ pub(crate) fn bucket_of(hash: u64, buckets: usize) -> usize
 }
 
 /// Puts an entry at the head of the chain of its bucket.
-fn link<V>(entries: &mut Slab<Entry<V>>, heads: &mut Vec<usize>, at: usize)
+fn link<V>(entries: &mut Slab<Entry<V>>, heads: &mut Vec<u32>, at: usize)
+    requires few { at + 1 < 2 ^ 32 }
     requires there { IsSome (get entries.old at) }
     requires size { IsSize (vec_len heads.old) }
     requires table { 0 < vec_len heads.old }
     ensures { Links entries.old heads.old.items at entries.new heads.new.items }
 {
-    let room = entries.capacity();
     let Some(entry) = entries.get_mut(at) else {
         unreachable!()
     };
     let bucket = bucket_of(entry.hash, heads.len());
     entry.next = heads[bucket];
-    prove!(at < room);
-    heads[bucket] = at + 1;
+    heads[bucket] = at as u32 + 1;
 }
 
 /// Takes the entry at the head of a chain out of it, where there is one.
-fn pop<V>(entries: &Slab<Entry<V>>, heads: &mut Vec<usize>, number: usize) -> Option<usize>
+fn pop<V>(entries: &Slab<Entry<V>>, heads: &mut Vec<u32>, number: usize) -> Option<usize>
     requires { number < vec_len heads.old }
-    ensures { Pops entries.now heads.old.items number result heads.new.items }
+    ensures pops { Pops entries.now heads.old.items number result heads.new.items }
+    ensures few { IfSome result (λ at. at + 1 < 2 ^ 32) }
 {
     let link = heads[number];
     if link == 0 {
         return None;
     }
-    match entries.get(link - 1) {
+    let at = (link - 1) as usize;
+    match entries.get(at) {
         None => None,
         Some(entry) => {
             let next = entry.next;
             heads[number] = next;
-            Some(link - 1)
+            Some(at)
         }
     }
 }
@@ -141,7 +159,7 @@ fn pop<V>(entries: &Slab<Entry<V>>, heads: &mut Vec<usize>, number: usize) -> Op
 /// Takes an entry out of the chain of a bucket, where it stands behind another one or first.
 fn unlink<V>(
     entries: &mut Slab<Entry<V>>,
-    heads: &mut Vec<usize>,
+    heads: &mut Vec<u32>,
     number: usize,
     before: Option<usize>,
     at: usize,
@@ -152,9 +170,10 @@ fn unlink<V>(
     ensures { Unlinks entries.old heads.old.items number before at result.0 result.1 entries.new heads.new.items }
 {
     let Entry {
-        key,
-        hash: _,
+        slab,
+        slot,
         next,
+        hash: _,
         value,
     } = entries.remove(at);
     match before {
@@ -166,7 +185,7 @@ fn unlink<V>(
             last.next = next;
         }
     }
-    (key, value)
+    (BlockRef { slab, slot }, value)
 }
 
 impl<V> Chains<V> {
@@ -246,7 +265,11 @@ impl<V> Chains<V> {
         ensures room { OnOk result (HasRoom self.new) }
         ensures kept { self.new ≡ record self.old { capacity = self.new.capacity } }
     {
-        self.entries.reserve(1)
+        self.entries.reserve(1)?;
+        if self.entries.vacant_key() >= MOST_ENTRIES {
+            return Err(AllocError);
+        }
+        Ok(())
     }
 
     /// Puts an element at the head of its bucket, where there is room for it.
@@ -257,10 +280,12 @@ impl<V> Chains<V> {
         ensures adds { AddsTo side self.old self.new result (record { key = key; hash = hash; value = value }) }
     {
         let room = self.entries.capacity();
+        let BlockRef { slab, slot } = key;
         let at = self.entries.insert_reserved(Entry {
-            key,
-            hash,
+            slab,
+            slot,
             next: 0,
+            hash,
             value,
         });
         prove!(at < room);
@@ -339,11 +364,12 @@ impl<V> Chains<V> {
         let Some(entry) = self.entries.get_mut(at) else {
             unreachable!()
         };
-        entry.key = new;
+        entry.slab = new.slab;
+        entry.slot = new.slot;
     }
 
     /// Gives the side that has no bucket these empty ones.
-    pub(crate) fn open(&mut self, side: Side, heads: Vec<usize>)
+    pub(crate) fn open(&mut self, side: Side, heads: Vec<u32>)
         requires none { side_rows side self.old ≡ [] }
         requires size { IsSize (vec_len heads) }
         requires empty { heads.items ≡ replicate (vec_len heads) 0 }

@@ -147,7 +147,7 @@ impl<V> Dict<V> {
         let Some(entry) = self.chains.entry(at) else {
             unreachable!()
         };
-        (entry.key, &entry.value)
+        (entry.key(), &entry.value)
     }
 
     /// Whether an element has the item number.
@@ -351,7 +351,7 @@ impl<V> Dict<V> {
     {
         match self.chains.entry(at) {
             None => false,
-            Some(entry) => entry.hash == hash && same_bytes(store.bytes(entry.key), key),
+            Some(entry) => entry.hash == hash && same_bytes(store.bytes(entry.key()), key),
         }
     }
 

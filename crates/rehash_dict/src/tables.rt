@@ -17,11 +17,11 @@ pub(crate) const FIRST_SIZE: usize = 4;
 const EMPTY_VISITS: usize = 10;
 
 /// So many heads of empty chains.
-pub(crate) fn empty_heads(alloc: Global, size: usize) -> Result<Vec<usize>, AllocError>
+pub(crate) fn empty_heads(alloc: Global, size: usize) -> Result<Vec<u32>, AllocError>
     ensures len { IfOk result (λ heads. vec_len heads ≡ size) }
     ensures empty { IfOk result (λ heads. heads.items ≡ replicate (vec_len heads) 0) }
 {
-    vec![in alloc; 0usize; size]
+    vec![in alloc; 0u32; size]
 }
 
 /// The table that a new element goes into.
@@ -53,7 +53,7 @@ pub(crate) fn end_if_moved<V>(chains: &mut Chains<V>, position: usize) -> usize
 }
 
 /// Begins a rehash into a table of these heads.
-pub(crate) fn begin<V>(chains: &mut Chains<V>, heads: Vec<usize>)
+pub(crate) fn begin<V>(chains: &mut Chains<V>, heads: Vec<u32>)
     requires kept { IsKept chains.old.items chains.old.older chains.old.newer 0 }
     requires one { chains.old.newer ≡ [] }
     requires size { IsSize (vec_len heads) }

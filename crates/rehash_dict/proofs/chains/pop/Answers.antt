@@ -2,8 +2,8 @@ use Rattle.std.proofs.Common.{◌≡◌, ◌<◌, ◌-◌, ◌∙◌, suc, sym, 
 use Rattle.std.proofs.lemmas.List.{get_or_default}
 use Rattle.rehash_dict.proofs.chains.pop.Goals as goal
 
-pub returns-in-Some : goal.returns-in-Some
-returns-in-Some g c =
+pub returns-in-Some-clause-pops : goal.returns-in-Some-clause-pops
+returns-in-Some-clause-pops g c =
     let len : vec_len c.args.heads.now ≡ length c.args.heads.now.items = search rules in
     let lt : c.args.number < length c.args.heads.now.items = omega (arith, c.requires) in
     let one : c.index-link.result.now ≡ suc (c.index-link.result.now - 1) = omega arith in
