@@ -60,8 +60,8 @@ few_of (suc n) used next refs is = omega (arith, none_after n next refs)
 -- a string has one block at most
 refs_few : (text : string.Text) → length (text_refs text) ≤ 1
 refs_few (Number n) = omega arith
-refs_few (Whole at) = omega arith
-refs_few (Raw at) = omega arith
+refs_few (Whole slot slab) = omega arith
+refs_few (Raw slot slab) = omega arith
 
 within_room : (from used room count : ℕ) → used ≡ cond (eqb from 0) count 0 → count ≤ 1 → 32 ≤ room → used ≤ room
 within_room from used room count is few wide = by_test (eqb from 0) is

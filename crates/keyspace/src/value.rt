@@ -15,7 +15,7 @@ pub enum Value {
 }
 
 // A million keys each carry one.
-const _: () = prove!(size_of::<Value>() <= 32);
+const _: () = prove!(size_of::<Value>() <= 24);
 
 impl Value {
     /// The string that it is.

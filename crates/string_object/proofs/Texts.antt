@@ -11,7 +11,7 @@ use Rattle.string_object.proofs.Lists.{overwritten_step}
 use Rattle.string_object.specs.declared.text.Text.{Text}
 use Rattle.string_object.specs.declared.text.Text.TheVariants.{Number, Whole, Raw}
 use Rattle.string_object.specs.Laws.{TextLaws}
-use Rattle.string_object.specs.Text.{text_bytes, text_refs}
+use Rattle.string_object.specs.Text.{block, text_bytes, text_refs}
 
 one_self : (at : BlockRef) → one at at ≡ 1
 one_self at = cond-true _ _ _ (ref_eq-refl at)
@@ -36,8 +36,8 @@ live_bytes m at h = some_bytes (m at) h
 -- a string depends on its own blocks
 pub text-own : (a b : Blocks) (text : Text) → ((r : BlockRef) → IsIn r (text_refs text) → b r ≡ a r) → text_bytes b text ≡ text_bytes a text
 text-own a b (Number n) same = refl
-text-own a b (Whole at) same = ap (λ o. unwrap_or o []) (same at (omega (arith, one_self at)))
-text-own a b (Raw at) same = ap (λ o. unwrap_or o []) (same at (omega (arith, one_self at)))
+text-own a b (Whole slot slab) same = ap (λ o. unwrap_or o []) (same (block slot slab) (omega (arith, one_self (block slot slab))))
+text-own a b (Raw slot slab) same = ap (λ o. unwrap_or o []) (same (block slot slab) (omega (arith, one_self (block slot slab))))
 
 pub text-beside : (m n : Blocks) (at : BlockRef) (content : Option (List ℕ)) (text : Text) → Owned (text_refs text) m → m at ≡ None → n ≡ with_block m at content → text_bytes n text ≡ text_bytes m text
 text-beside m n at content text own fresh is = text-own m n text (λ r isin. ap (λ k. k r) is ∙ with_block-other m at r content (apart_live m r at (live-is m r (omega (arith, own r, isin))) fresh))
@@ -52,7 +52,7 @@ pub text_laws_hold : TextLaws
 text_laws_hold = record { own = text-own; others = text-others; stays = text-stays }
 
 -- the string that stands in a written block
-pub text_written : (m n : Blocks) (at : BlockRef) (start : ℕ) (piece whole : List ℕ) (text : Text) → text ≡ Raw at → m at ≡ Some whole → n ≡ with_block m at (Some (overwritten (bytes_at m at) start piece)) → text_bytes n text ≡ overwritten whole start piece
+pub text_written : (m n : Blocks) (at : BlockRef) (start : ℕ) (piece whole : List ℕ) (text : Text) → text ≡ Raw at.slot at.slab → m at ≡ Some whole → n ≡ with_block m at (Some (overwritten (bytes_at m at) start piece)) → text_bytes n text ≡ overwritten whole start piece
 text_written m n at start piece whole text here was is =
     ap (text_bytes n) here
     ∙ ap (λ k. bytes_at k at) is

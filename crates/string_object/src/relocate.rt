@@ -7,7 +7,8 @@ ghost use Rattle.blocks.specs.Slabs.{wants, Calmer};
 ghost use Rattle.string_object.specs.Text.{text_bytes, text_refs, is_raw};
 
 use crate::Text;
-use blocks::{BlockStore, Moved, settle};
+use crate::text::{raw, whole};
+use blocks::{BlockRef, BlockStore, Moved, settle};
 
 impl Text {
     /// Goes through the blocks from the mark `from` on, and moves each that wants it. The mark of a string's block is 0, so that
@@ -33,12 +34,12 @@ impl Text {
         }
         let used = match *self {
             Text::Number(_) => 0,
-            Text::Whole(at) => {
-                *self = Text::Whole(settle(store, at));
+            Text::Whole { slot, slab } => {
+                *self = whole(settle(store, BlockRef { slab, slot }));
                 1
             }
-            Text::Raw(at) => {
-                *self = Text::Raw(settle(store, at));
+            Text::Raw { slot, slab } => {
+                *self = raw(settle(store, BlockRef { slab, slot }));
                 1
             }
         };
@@ -51,7 +52,7 @@ impl Text {
     {
         match *self {
             Text::Number(_) => 0,
-            Text::Whole(_) | Text::Raw(_) => 1,
+            Text::Whole { .. } | Text::Raw { .. } => 1,
         }
     }
 }

@@ -18,14 +18,30 @@ use std::mem;
 pub enum Text {
     /// Canonical decimal text, without a block.
     Number(i64),
-    /// Bytes that were written whole.
-    Whole(BlockRef),
-    /// Bytes that were made raw by a change of a part.
-    Raw(BlockRef),
+    /// Bytes that were written whole, in this block.
+    Whole { slot: u32, slab: usize },
+    /// Bytes that were made raw by a change of a part, in this block.
+    Raw { slot: u32, slab: usize },
 }
 
-// A million values each carry one.
-const _: () = prove!(size_of::<Text>() <= 24);
+// A million values each carry one: the parts of a block's name stand side by side, so that no byte is left between.
+const _: () = prove!(size_of::<Text>() <= 16);
+
+// A string that was written whole, in this block.
+pub(crate) fn whole(at: BlockRef) -> Text
+    ensures { result ≡ Text.Whole at.slot at.slab }
+{
+    let BlockRef { slab, slot } = at;
+    Text::Whole { slot, slab }
+}
+
+// A string that was made raw, in this block.
+pub(crate) fn raw(at: BlockRef) -> Text
+    ensures { result ≡ Text.Raw at.slot at.slab }
+{
+    let BlockRef { slab, slot } = at;
+    Text::Raw { slot, slab }
+}
 
 impl Text {
     /// Makes a string of these bytes. `Memory` leaves all blocks and slabs.
@@ -40,7 +56,7 @@ impl Text {
     {
         match read_i64(bytes) {
             Some(n) => Ok(Text::Number(n)),
-            None => Ok(Text::Whole(put_block(store, bytes)?)),
+            None => Ok(whole(put_block(store, bytes)?)),
         }
     }
 
@@ -51,7 +67,9 @@ impl Text {
     {
         match *self {
             Text::Number(n) => print_into(n, room),
-            Text::Whole(at) | Text::Raw(at) => store.bytes(at),
+            Text::Whole { slot, slab } | Text::Raw { slot, slab } => {
+                store.bytes(BlockRef { slab, slot })
+            }
         }
     }
 
@@ -63,7 +81,9 @@ impl Text {
     {
         match *self {
             Text::Number(n) => Some(n),
-            Text::Whole(at) | Text::Raw(at) => read_i64(store.bytes(at)),
+            Text::Whole { slot, slab } | Text::Raw { slot, slab } => {
+                read_i64(store.bytes(BlockRef { slab, slot }))
+            }
         }
     }
 
@@ -74,8 +94,8 @@ impl Text {
     {
         match *self {
             Text::Number(_n) => Name::Int,
-            Text::Whole(at) => string_name(store.bytes(at), false),
-            Text::Raw(_) => Name::Raw,
+            Text::Whole { slot, slab } => string_name(store.bytes(BlockRef { slab, slot }), false),
+            Text::Raw { .. } => Name::Raw,
         }
     }
 
@@ -106,8 +126,8 @@ impl Text {
     {
         match *self {
             Text::Number(n) => Ok(Text::Number(n)),
-            Text::Whole(_) => Ok(Text::Whole(self.place_same(store)?)),
-            Text::Raw(_) => Ok(Text::Raw(self.place_same(store)?)),
+            Text::Whole { .. } => Ok(whole(self.place_same(store)?)),
+            Text::Raw { .. } => Ok(raw(self.place_same(store)?)),
         }
     }
 
@@ -119,7 +139,9 @@ impl Text {
     {
         match self {
             Text::Number(_) => {}
-            Text::Whole(at) | Text::Raw(at) => store.give_back(at),
+            Text::Whole { slot, slab } | Text::Raw { slot, slab } => {
+                store.give_back(BlockRef { slab, slot })
+            }
         }
     }
 
@@ -157,7 +179,9 @@ impl Text {
                 let mut room = [0; 20];
                 store.write(to, 0, print_into(n, &mut room));
             }
-            Text::Whole(from) | Text::Raw(from) => copy_block(store, from, to),
+            Text::Whole { slot, slab } | Text::Raw { slot, slab } => {
+                copy_block(store, BlockRef { slab, slot }, to)
+            }
         }
     }
 
@@ -181,7 +205,7 @@ impl Text {
     fn widen<B: BlockStore>(&mut self, store: &mut B, len: usize) -> Result<BlockRef, Memory>
         requires owned { Owned (text_refs self.old) (B.blocks store.old) }
         requires room { length (text_bytes (B.blocks store.old) self.old) ≤ len }
-        ensures raw { IfOk result (λ at. self.new ≡ Text.Raw at) }
+        ensures raw { IfOk result (λ at. self.new ≡ Text.Raw at.slot at.slab) }
         ensures bytes { IfOk result (λ at. B.blocks store.new at ≡ Some (widened (text_bytes (B.blocks store.old) self.old) len)) }
         ensures changes { Changes (B.blocks store.old) (B.blocks store.new) (text_refs self.old) (text_refs self.new) }
         ensures served { Served B.step store.old store.new }
@@ -192,13 +216,14 @@ impl Text {
         ensures err_slabs { OnErr result (B.heap store.new ≡ B.heap store.old) }
     {
         match *self {
-            Text::Whole(at) | Text::Raw(at) if store.bytes(at).len() == len => {
-                *self = Text::Raw(at);
-                Ok(at)
+            Text::Whole { slot, slab } | Text::Raw { slot, slab }
+                if store.bytes(BlockRef { slab, slot }).len() == len => {
+                *self = Text::Raw { slot, slab };
+                Ok(BlockRef { slab, slot })
             }
             _ => {
                 let at = self.place_copy(store, len)?;
-                mem::replace(self, Text::Raw(at)).release(store);
+                mem::replace(self, raw(at)).release(store);
                 Ok(at)
             }
         }
