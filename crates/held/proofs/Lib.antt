@@ -13,6 +13,7 @@ pub mod Relocating
 pub mod Purging
 pub mod Turns
 pub mod Rehashing
+pub mod Stirring
 pub mod Shrinking
 pub mod Picking
 pub mod Renaming

@@ -60,6 +60,10 @@ module _ {V : Type 0} where
     pub keys : (db : ℕ) → keys_move bases db ≡ false
     pub deadlines : (db : ℕ) → deadlines_move bases db ≡ false
 
+  -- no table is in a rehash where none is said to stir
+  abbrev pub IsAware : Bool → Bases V → Type 0
+  IsAware stirs bases = stirs ≡ false → AreStill bases
+
   -- Of the steps that are asked for so many find a table: all of them, or as many as there is one in a rehash.
   pub record Rehashed (blocks : Blocks) (asked found : ℕ) (old new : Bases V) : Type 0 where
     pub steps : Steps blocks old found new

@@ -1,4 +1,4 @@
-ghost use Rattle.std.specs.Prelude.{◌≡◌, ◌≢◌, ◌<◌, ◌≤◌, ◌+◌, ◌%◌, ◌⊎◌, ℕ, List, false, IfOk, IfErr, OnOk, OnErr, Some, IfSome, IfNone, IsSome, IsTrue, length, replicate};
+ghost use Rattle.std.specs.Prelude.{◌≡◌, ◌≢◌, ◌<◌, ◌≤◌, ◌+◌, ◌%◌, ◌⊎◌, ℕ, List, false, Ok, IfOk, IfErr, OnOk, OnErr, Some, IfSome, IfNone, IsSome, IsTrue, length, replicate};
 ghost use Rattle.std.specs.FinMap.{get, insert, remove};
 ghost use Rattle.blocks.specs.Blocks.{Blocks, bytes_at};
 ghost use Rattle.rehash_dict.specs.Tables.{removed, IsSettled};
@@ -14,7 +14,7 @@ ghost use Rattle.held.specs.Sound.{IsTimed};
 ghost use Rattle.held.specs.Calls.{IsDeadline, Begins, Joins, KeepsTimes};
 ghost use Rattle.held.specs.Databases.{no_base, base_at, table_at, deadlines_at, ChangesBase, ChangesTable, ChangesDeadlines};
 ghost use Rattle.held.specs.Gone.{IsPassed};
-ghost use Rattle.held.specs.Rehash.{keys_move, deadlines_move, StepsTable};
+ghost use Rattle.held.specs.Rehash.{keys_move, deadlines_move, StepsTable, AreStill};
 ghost use Rattle.held.specs.Expiry.{found_in, cursor_behind};
 
 use blocks::{BlockRef, BlockStore, Memory};
@@ -44,16 +44,28 @@ pub struct Databases<V> {
     limits: Limits,
     seed: u64,
     turn: usize,
+    // whether a table may be in a rehash: so that a rehash step of calm databases looks at no table
+    stirs: bool,
 }
 
 impl<V> Model for Databases<V> {
     ghost use Rattle.held.specs.Sound.{IsTimed};
     ghost use Rattle.held.specs.Calls.{IsDeadline, Begins, Joins, KeepsTimes};
     ghost use Rattle.held.specs.Databases.{Bases};
+    ghost use Rattle.held.specs.Rehash.{IsAware};
 
     ghost Value = { Bases V };
 
     ghost view = { λ d. record { bases = d.bases.items; limits = d.limits; seed = d.seed; turn = d.turn } };
+
+    ghost invariant = { λ d. IsAware d.stirs (record { bases = d.bases.items; limits = d.limits; seed = d.seed; turn = d.turn }) };
+}
+
+// Whether a table may be in a rehash behind a call of `shrink`, by whether one may have been before it.
+fn stirs_behind(stirs: bool, began: &Result<bool, Memory>) -> bool
+    ensures { result ≡ false → (stirs ≡ false) × (began.now ≡ Ok false) }
+{
+    stirs || !matches!(began, Ok(false))
 }
 
 impl<V: Drop> Base<V> {
@@ -86,6 +98,7 @@ impl<V: Drop> Databases<V> {
             limits,
             seed,
             turn: 0,
+            stirs: true,
         })
     }
 
@@ -261,6 +274,7 @@ impl<V: Drop> Databases<V> {
         ensures keyed { Keyed (B.blocks store.now) (deadlines_at self.new db).table }
         ensures err { OnErr result (self.new ≡ self.old) }
     {
+        self.stirs = true;
         self.bases[db]
             .deadlines
             .set_found(store, timed, hash, key, deadline)
@@ -285,6 +299,7 @@ impl<V: Drop> Databases<V> {
         ensures keyed { Keyed (B.blocks store.now) (deadlines_at self.new db).table }
     {
         if !self.has_no_deadline(db) {
+            self.stirs = true;
             let _was = self.bases[db].deadlines.clear_hashed(store, hash, key);
         }
     }
@@ -299,7 +314,9 @@ impl<V: Drop> Databases<V> {
         ensures grown { (blocks : Blocks) → TableGrows blocks (table_at self.old db) (table_at self.new db) }
         ensures settled { OnOk result (IsSettled (tables (table_at self.new db))) }
     {
-        self.bases[db].keys.shrink()
+        let began = self.bases[db].keys.shrink();
+        self.stirs = stirs_behind(self.stirs, &began);
+        began
     }
 
     // The same of the deadlines.
@@ -313,7 +330,9 @@ impl<V: Drop> Databases<V> {
         ensures cursor { KeepsCursor (deadlines_at self.old db) (deadlines_at self.new db) }
         ensures settled { OnOk result (IsSettled (tables (deadlines_at self.new db).table)) }
     {
-        self.bases[db].deadlines.shrink()
+        let began = self.bases[db].deadlines.shrink();
+        self.stirs = stirs_behind(self.stirs, &began);
+        began
     }
 
     // Makes one step of a rehash of a database's keys. `false` comes exactly where none is going on.
@@ -327,6 +346,7 @@ impl<V: Drop> Databases<V> {
         ensures keyed { (blocks : Blocks) → Keyed blocks (table_at self.old db) → Keyed blocks (table_at self.new db) }
         ensures steps { (blocks : Blocks) → Keyed blocks (table_at self.old db) → StepsTable blocks (table_at self.old db) (table_at self.new db) }
     {
+        self.stirs = true;
         self.bases[db].keys.rehash_step()
     }
 
@@ -342,7 +362,23 @@ impl<V: Drop> Databases<V> {
         ensures steps { (blocks : Blocks) → Keyed blocks (deadlines_at self.old db).table → StepsTable blocks (deadlines_at self.old db).table (deadlines_at self.new db).table }
         ensures cursor { KeepsCursor (deadlines_at self.old db) (deadlines_at self.new db) }
     {
+        self.stirs = true;
         self.bases[db].deadlines.rehash_step()
+    }
+
+    // Whether a table may be in a rehash.
+    pub(crate) fn stirs(&self) -> bool
+        ensures { result ≡ false → AreStill self.now }
+    {
+        self.stirs
+    }
+
+    // Notes that no table is in a rehash.
+    pub(crate) fn rest(&mut self)
+        requires { AreStill self.old }
+        ensures { self.new ≡ self.old }
+    {
+        self.stirs = false;
     }
 
     // The number of the database whose turn the next expiry step is.
@@ -407,6 +443,7 @@ impl<V: Drop> Databases<V> {
         ensures value_returned { IfErr result (λ e. e.0 ≡ value) }
     {
         let _ = store;
+        self.stirs = true;
         self.bases[db].keys.insert_hashed(hash, key, value)
     }
 
@@ -491,6 +528,7 @@ impl<V: Drop> Databases<V> {
         ensures same { IfNone result (self.new ≡ self.old) }
         ensures none { IfNone result (Lacks (B.blocks store.now) (table_at self.old db) key.now) }
     {
+        self.stirs = true;
         self.bases[db].keys.remove_hashed(store, hash, key)
     }
 
@@ -502,6 +540,7 @@ impl<V: Drop> Databases<V> {
         ensures none { base_at self.new db ≡ no_base self.old.seed }
     {
         let none = Base::new(self.alloc, self.seed);
+        self.stirs = true;
         let was = mem::replace(&mut self.bases[db], none);
         was.keys
     }
@@ -528,6 +567,7 @@ impl<V: Drop> Databases<V> {
         ensures changes { ChangesTable self.old self.new db }
         ensures renames { Renames (table_at self.old db) (table_at self.new db) at new }
     {
+        self.stirs = true;
         self.bases[db].keys.swap_ref(at, new);
     }
 
@@ -539,6 +579,7 @@ impl<V: Drop> Databases<V> {
         ensures renames { Renames (deadlines_at self.old db).table (deadlines_at self.new db).table at new }
         ensures cursor { KeepsCursor (deadlines_at self.old db) (deadlines_at self.new db) }
     {
+        self.stirs = true;
         self.bases[db].deadlines.swap_ref(at, new);
     }
 }

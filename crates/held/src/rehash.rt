@@ -46,8 +46,8 @@ impl<V: Held, B: BlockStore> Keyspace<V, B> {
         false
     }
 
-    // Makes one step of a rehash. `false` comes exactly where no table is in one.
-    fn step(&mut self) -> bool
+    // Looks at the tables, and makes one step of a rehash. `false` comes exactly where no table is in one.
+    fn step_any(&mut self) -> bool
         requires arranged { IsArranged self.old.bases (B.blocks self.old.store) }
         ensures steps { result ≡ true → Rehashes (B.blocks self.old.store) self.old.bases self.new.bases }
         ensures still { result ≡ false → AreStill self.old.bases }
@@ -59,6 +59,25 @@ impl<V: Held, B: BlockStore> Keyspace<V, B> {
             return true;
         }
         self.step_deadlines()
+    }
+
+    // The same, but looks at no table where none may be in a rehash.
+    fn step(&mut self) -> bool
+        requires arranged { IsArranged self.old.bases (B.blocks self.old.store) }
+        ensures steps { result ≡ true → Rehashes (B.blocks self.old.store) self.old.bases self.new.bases }
+        ensures still { result ≡ false → AreStill self.old.bases }
+        ensures same { result ≡ false → self.new.bases ≡ self.old.bases }
+        ensures kept { Preserves V.refs_of V.value_of (B.blocks self.old.store) self.old.bases self.new.bases }
+        ensures store { self.new.store ≡ self.old.store }
+    {
+        if !self.bases.stirs() {
+            return false;
+        }
+        if self.step_any() {
+            return true;
+        }
+        self.bases.rest();
+        false
     }
 
     /// Makes so many rehash steps, each in the lowest database whose keys are in a rehash, or else in the lowest whose deadlines

@@ -1,16 +1,25 @@
-use Rattle.std.proofs.Common.{ap}
+use Rattle.std.proofs.Common.{◌<◌, length, refl, sym, ap, subst}
 use Rattle.blocks.specs.Blocks.{Blocks}
 use Rattle.held.specs.Databases.{Bases}
 use Rattle.held.specs.Table.{Keyed, TableGrows}
 use Rattle.held.proofs.Tables.{in_place}
+use Rattle.held.proofs.Stirring.{going_shrunk, still_set}
 use Rattle.held.proofs.databases.Databases.shrink_keys.Goals as goal
 
 pub returns-clause-keyed : goal.returns-clause-keyed
 returns-clause-keyed g c =
     in_place c.self.inside.bases.items c.args.self.now c.args.db c.index_mut.result.now _ (λ old new. (blocks : Blocks) → Keyed blocks old.keys → Keyed blocks new.keys)
-    (ap (λ (b : Bases _). b.bases) c.self.view_is) c.requires.db c.index_mut.ensures.value c.shrink.ensures.keyed
+    (ap (λ (b : Bases _). b.bases) c.self.view_is) c.requires.db c.index_mut.ensures.value c.shrink-began.ensures.keyed
 
 pub returns-clause-grown : goal.returns-clause-grown
 returns-clause-grown g c =
     in_place c.self.inside.bases.items c.args.self.now c.args.db c.index_mut.result.now _ (λ old new. (blocks : Blocks) → TableGrows blocks old.keys new.keys)
-    (ap (λ (b : Bases _). b.bases) c.self.view_is) c.requires.db c.index_mut.ensures.value c.shrink.ensures.grown
+    (ap (λ (b : Bases _). b.bases) c.self.view_is) c.requires.db c.index_mut.ensures.value c.shrink-began.ensures.grown
+
+pub invariant_of-self : goal.invariant_of-self
+invariant_of-self g c none =
+    let calm = c.stirs_behind-self-inside.ensures none in
+    let was : Bases g.row.V.Denot = record { bases = c.self.inside.bases.items; limits = c.self.inside.limits; seed = c.self.inside.seed; turn = c.self.inside.turn } in
+    still_set was _ c.args.db c.index_mut.result.now _ refl (subst (λ (b : Bases _). c.args.db < length b.bases) (sym c.self.view_is) c.requires.db) c.index_mut.ensures.value
+    (going_shrunk c.index_mut.result.now.keys c.shrink-began.new.self c.shrink-began.result c.shrink-began.ensures.value c.shrink-began.ensures.tables calm.1)
+    refl (c.self.invariant calm.0)

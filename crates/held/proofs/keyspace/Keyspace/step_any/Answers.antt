@@ -1,7 +1,7 @@
 use Rattle.std.proofs.Common.{subst, rules}
 use Rattle.held.specs.Databases.{Bases}
 use Rattle.held.specs.Rehash.{Rehashes}
-use Rattle.held.proofs.keyspace.Keyspace.step.Goals as goal
+use Rattle.held.proofs.keyspace.Keyspace.step_any.Goals as goal
 
 pub returns-clause-steps : goal.returns-clause-steps
 returns-clause-steps g c found =
