@@ -85,16 +85,19 @@ impl Walk {
         let table = keyspace.table(self.database);
         // an element's item number is below the top, so that there is a next one
         let _top = table.top();
+        // they stand in locals, so that no look at the table comes behind a write
+        let mut item = self.item;
         let mut left = room;
-        'keys: while left >= KEY_ROOM && table.is_entry(self.item) {
-            let (_name, value) = table.entry(self.item);
+        'keys: while left >= KEY_ROOM && table.is_entry(item) {
+            let (_name, value) = table.entry(item);
             let units = value.units();
             if units >= left {
                 break;
             }
-            self.item += 1;
+            item += 1;
             left -= units + 1;
         }
+        self.item = item;
         room - left
     }
 

@@ -1,7 +1,7 @@
-use Rattle.std.proofs.Common.{◌≡◌, ◌+◌, ◌-◌, refl, sym, subst, arith}
+use Rattle.std.proofs.Common.{◌≡◌, ◌+◌, ◌-◌, refl, subst, arith}
 use Rattle.std.proofs.Common.{Some}
-use Rattle.held.specs.Databases.{table_at}
 use Rattle.held.specs.Table.{Element, item}
+use Rattle.held.specs.Databases.{table_at}
 use Rattle.defrag.specs.declared.walk.Walk.{Walk}
 use Rattle.defrag.specs.Ways.{shape, Way, here, further}
 use Rattle.defrag.proofs.Walking.{calm_swept, calm_leg}
@@ -15,8 +15,6 @@ keys-init g c = record {
   swept = λ s. s;
   way = subst (λ n. Way (shape g.V.Held.marks c.args.keyspace.now.bases) c.args.self.now n c.args.self.now) (omega arith) here;
   few = omega arith;
-  database = refl;
-  start = c.requires.start;
   none = λ same. refl;
 }
 
@@ -25,17 +23,16 @@ keys-preserved g c =
     let inv = c.keys.invariant in
     let bases = c.args.keyspace.now.bases in
     let heap = g.B.BlockStore.heap c.args.keyspace.now.store in
-    let next : Walk = record { database = c.keys.self.database; item = c.keys.self.item + 1; mark = c.keys.self.mark } in
+    let place : Walk = record c.args.self.now { item = c.keys.item } in
+    let next : Walk = record c.args.self.now { item = c.keys.item + 1 } in
     let element : Element g.row.V.Denot = record { key = c.entry.result.0; hash = c.entry.ensures.hash; value = c.entry.result.1.now } in
-    let stands : item (table_at bases c.keys.self.database) c.keys.self.item ≡ Some element = subst (λ n. item (table_at bases n) c.keys.self.item ≡ Some element) (sym inv.database) (rw c.table-table.ensures at c.entry.ensures.found) in
+    let stands : item (table_at bases c.args.self.now.database) c.keys.item ≡ Some element = rw c.table-table.ensures at c.entry.ensures.found in
     let counted = c.units-units.ensures (omega (arith, c.if-units-left.false, inv.few, c.ranges.room.fits)) in
     let sum : (c.args.room - c.keys.left) + (c.units-units.result + 1) ≡ c.args.room - (c.keys.left - (c.units-units.result + 1)) = omega (arith, inv.few, c.if-units-left.false) in
     record {
-      swept = λ s. calm_swept g.V.Held.refs_of g.V.Held.marks g.V.Held.encoding g.met.V.Held.marked bases heap c.keys.self c.keys.left c.units-units.result inv.start element stands c.if-not-is_calm.ensures counted c.if-units-left.false (inv.swept s);
+      swept = λ s. calm_swept g.V.Held.refs_of g.V.Held.marks g.V.Held.encoding g.met.V.Held.marked bases heap place c.keys.left c.units-units.result c.requires.start element stands c.if-not-is_calm.ensures counted c.if-units-left.false (inv.swept s);
       way = subst (λ n. Way (shape g.V.Held.marks bases) c.args.self.now n next) sum
-          (further (c.args.room - c.keys.left) (c.units-units.result + 1) c.keys.self next inv.way (calm_leg g.V.Held.refs_of g.V.Held.marks g.V.Held.encoding g.met.V.Held.marked bases heap c.keys.self c.keys.left c.units-units.result inv.start element stands c.if-not-is_calm.ensures counted c.if-units-left.false));
+          (further (c.args.room - c.keys.left) (c.units-units.result + 1) place next inv.way (calm_leg g.V.Held.refs_of g.V.Held.marks g.V.Held.encoding g.met.V.Held.marked bases heap place c.keys.left c.units-units.result c.requires.start element stands c.if-not-is_calm.ensures counted c.if-units-left.false));
       few = omega (arith, inv.few);
-      database = inv.database;
-      start = inv.start;
       none = λ same. absurd (omega (arith, same, inv.few, c.if-units-left.false));
     }

@@ -1,16 +1,14 @@
-use Rattle.std.proofs.Common.{◌≡◌, ◌-◌, ◌≤◌, None}
+use Rattle.std.proofs.Common.{◌≡◌, ◌-◌, ◌≤◌}
 use Rattle.defrag.specs.Swept.{IsSwept}
 use Rattle.defrag.specs.Ways.{shape, Way}
 use Rattle.defrag.proofs.walk.Walk.pass_calm.Given as goal
 
 abbrev pub invariant-keys : goal.invariant-keys
 invariant-keys g l = record {
-  swept : IsSwept g.V.Held.refs_of g.V.Held.marks l.initial.keyspace.bases (g.B.BlockStore.heap l.initial.keyspace.store) l.initial.self → IsSwept g.V.Held.refs_of g.V.Held.marks l.initial.keyspace.bases (g.B.BlockStore.heap l.initial.keyspace.store) l.self;
-  way : Way (shape g.V.Held.marks l.initial.keyspace.bases) l.initial.self (l.initial.left - l.left) l.self;
+  swept : IsSwept g.V.Held.refs_of g.V.Held.marks l.initial.keyspace.bases (g.B.BlockStore.heap l.initial.keyspace.store) l.initial.self → IsSwept g.V.Held.refs_of g.V.Held.marks l.initial.keyspace.bases (g.B.BlockStore.heap l.initial.keyspace.store) (record l.initial.self { item = l.item });
+  way : Way (shape g.V.Held.marks l.initial.keyspace.bases) l.initial.self (l.initial.left - l.left) (record l.initial.self { item = l.item });
   few : l.left ≤ l.initial.left;
-  database : l.self.database ≡ l.initial.self.database;
-  start : l.self.mark ≡ None;
-  none : l.left ≡ l.initial.left → l.self ≡ l.initial.self;
+  none : l.left ≡ l.initial.left → l.item ≡ l.initial.self.item;
 }
 
 abbrev pub decreases-keys : goal.decreases-keys
