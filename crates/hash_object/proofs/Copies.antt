@@ -21,7 +21,8 @@ use Rattle.hash_object.specs.Items.{entry_at}
 use Rattle.hash_object.proofs.Tables.{self, table_kept, lacks_field, has_key, has_value}
 use Rattle.hash_object.proofs.Bodies.{old_owned}
 use Rattle.hash_object.proofs.Listed.{table_listed, table_once, slots_len}
-use Rattle.hash_object.proofs.Ranks.{rank, rank_next, rank_past, rank_zero, rank_below, rank_all, pair_there, pair_of_element}
+use Rattle.hash_object.proofs.Ranks.{pair_there, pair_of_element}
+use Rattle.collection_walk.proofs.Ranks.{rank, rank_next, rank_past, rank_zero, rank_below, rank_all}
 use Rattle.hash_object.proofs.Placing.{pack_is_placed}
 
 -- the pairs of a dictionary before an item number

@@ -1,11 +1,12 @@
 -- Bounded calls that move the blocks of a hash: the mark of each block, and what such a call passes and leaves.
-use Rattle.std.specs.Prelude.{◌≡◌, ℕ, zero, suc, ◌+◌, ◌*◌, ◌<◌, ◌≤◌, Bool, true, false, ◌&&◌, nat_le, nat_lt, List, [], ◌∷◌, ◌++◌, count_by, is_some, Option, Some, None, IfSome, slice_get}
+use Rattle.std.specs.Prelude.{◌≡◌, ℕ, zero, suc, ◌+◌, ◌*◌, ◌<◌, ◌≤◌, false, List, [], ◌∷◌, ◌++◌, count_by, is_some, Option, Some, None}
 use Rattle.blocks.specs.declared.BlockRef.{BlockRef}
 use Rattle.blocks.specs.declared.Moved.{Moved}
 use Rattle.blocks.specs.Blocks.{Blocks, Changes}
 use Rattle.blocks.specs.Slabs.{Heap, wants}
 use Rattle.rehash_dict.specs.Table.{Element, item}
 use Rattle.rehash_dict.specs.Keyed.{Keyed, key_tables}
+use Rattle.collection_walk.specs.Marks.{is_passed, is_within, ArePassed, IsCounted}
 use Rattle.hash_object.specs.declared.fields.Body.{Body}
 use Rattle.hash_object.specs.declared.fields.Body.TheVariants.{Empty, Pack, Table}
 use Rattle.hash_object.specs.declared.fields.Fields.{Fields}
@@ -56,19 +57,6 @@ vacant_in (Table t) = vacant_below t t.top
 abbrev pub vacant_marks : Fields → List ℕ
 vacant_marks f = vacant_in f.body
 
--- the mark is below the next one to go on from, or none is left
-abbrev pub is_before : Option ℕ → ℕ → Bool
-is_before None mark = true
-is_before (Some next) mark = nat_lt mark next
-
--- the mark is passed by a call that begins at `from`
-abbrev pub is_passed : ℕ → Option ℕ → ℕ → Bool
-is_passed from next mark = nat_le from mark && is_before next mark
-
--- the mark is from `start` to below `end`
-abbrev pub is_within : ℕ → ℕ → ℕ → Bool
-is_within start end mark = nat_le start mark && nat_lt mark end
-
 -- how many blocks and vacant item numbers have marks from `start` to below `end`
 abbrev pub units_in : Body → ℕ → ℕ → ℕ
 units_in body start end =
@@ -113,23 +101,8 @@ pub record IsRelocated (before after : Blocks) (old new : Fields) : Type 0 where
   pub changes : Changes before after (refs old) (refs new)
   pub settings : KeepsSettings old new
 
--- The references whose marks are passed want no move, and the others stay.
-pub record ArePassed (heap : Heap) (passed : ℕ → Bool) (marks : List ℕ) (old new : List BlockRef) : Type 0 where
-  pub calm : (index mark : ℕ) (r : BlockRef) → slice_get marks index ≡ Some mark → slice_get new index ≡ Some r
-      → passed mark ≡ true → wants heap r ≡ false
-  pub stays : (index mark : ℕ) → slice_get marks index ≡ Some mark
-      → passed mark ≡ false → slice_get new index ≡ slice_get old index
-
--- The answer says how many blocks and vacant item numbers were passed: no more than there was room for, and where some
--- are left, as many.
-pub record IsCounted (f : Fields) (from room : ℕ) (answer : Moved) : Type 0 where
-  pub used : answer.used
-      ≡ count_by (is_passed from answer.next) (marks f) + count_by (is_passed from answer.next) (vacant_marks f)
-  pub within : answer.used ≤ room
-  pub on : IfSome answer.next (λ next. (from < next) × (next < marks_end f) × (answer.used ≡ room))
-
 -- A part of the blocks was passed.
 pub record PassesPart (heap : Heap) (old new : Fields) (from room : ℕ) (answer : Moved) : Type 0 where
   pub same_marks : marks new ≡ marks old
   pub passed : ArePassed heap (is_passed from answer.next) (marks new) (refs old) (refs new)
-  pub counted : IsCounted old from room answer
+  pub counted : IsCounted (marks old) (vacant_marks old) (marks_end old) from room answer

@@ -1,8 +1,8 @@
 // Hashes copied.
 
-ghost use Rattle.std.specs.Prelude.{◌≡◌, [], ◌∷◌, List, ℕ, Some, IfOk, OnOk, OnErr, IsSome};
+ghost use Rattle.std.specs.Prelude.{◌≡◌, [], List, ℕ, Some, IfOk, OnOk, OnErr, IsSome};
 ghost use Rattle.std.specs.FinMap.{insert};
-ghost use Rattle.blocks.specs.Blocks.{Changes, Owned, Served, with_block, bytes_at};
+ghost use Rattle.blocks.specs.Blocks.{Changes, Owned, Served};
 ghost use Rattle.rehash_dict.specs.Keyed.{Keyed, Lacks, hash_of};
 ghost use Rattle.rehash_dict.specs.Table.{item};
 ghost use Rattle.rehash_dict.specs.Grown.{Grown};
@@ -13,21 +13,10 @@ ghost use Rattle.hash_object.specs.Fields.{IsFields, IsPlacedBody, KeepsSettings
 use crate::Fields;
 use crate::fields::{Body, Packed};
 use crate::hashed::{end_table, hash_field};
-use blocks::{BlockRef, BlockStore, Memory, put_block};
+use blocks::{BlockRef, BlockStore, Memory};
+use collection_walk::copy_block;
 use rehash_dict::Dict;
 use std::alloc::Global;
-
-// Places a block of the same bytes as another. `Memory` leaves all blocks.
-fn copy_block<B: BlockStore>(alloc: Global, store: &mut B, at: BlockRef) -> Result<BlockRef, Memory>
-    requires { IsSome (B.blocks store.old at) }
-    ensures placed { IfOk result (λ new. B.blocks store.new ≡ with_block (B.blocks store.old) new (Some (bytes_at (B.blocks store.old) at))) }
-    ensures changes { IfOk result (λ new. Changes (B.blocks store.old) (B.blocks store.new) [] (new ∷ [])) }
-    ensures served { Served B.step store.old store.new }
-    ensures err_blocks { OnErr result (B.blocks store.new ≡ B.blocks store.old) }
-{
-    let bytes = Vec::from_slice(alloc, store.bytes(at))?;
-    put_block(store, &bytes)
-}
 
 // Puts the field of an item number of one dictionary into another, which lacks it. `Memory` leaves dictionary and blocks.
 fn copy_field<B: BlockStore>(

@@ -1,6 +1,6 @@
 // Walks over all fields and values.
 
-ghost use Rattle.std.specs.Prelude.{◌≡◌, ℕ, ◌+◌, ◌<◌, [], length, slice_index_or, is_some, count_by, take, IsSome, MatchOption};
+ghost use Rattle.std.specs.Prelude.{◌≡◌, ℕ, ◌+◌, ◌<◌, [], length, slice_index_or, MatchOption};
 ghost use Rattle.listpack.specs.Element.{element_text};
 ghost use Rattle.rehash_dict.specs.Table.{item};
 ghost use Rattle.hash_object.specs.Fields.{IsFields, listed};
@@ -9,10 +9,10 @@ ghost use Rattle.hash_object.specs.Items.{IsPlace, IsCursor};
 use crate::Fields;
 use crate::fields::Body;
 use crate::packs::pair_from;
-use blocks::{BlockRef, BlockStore};
+use blocks::BlockStore;
+use collection_walk::next_item;
 use listpack::Element;
 use pack_pairs::{first_place, next_place};
-use rehash_dict::Dict;
 
 /// The place of a field in a hash's own order, found once. An edit of the hash ends it.
 #[derive(Clone, Copy, Debug)]
@@ -28,20 +28,6 @@ impl Cursor {
     {
         self.index
     }
-}
-
-// The first item number from one on that an element has, where all are below another number.
-fn next_item(table: &Dict<BlockRef>, from: usize, top: usize) -> Option<usize>
-    requires { (at : ℕ) → IsSome (item table.now at) → at < top }
-    ensures { MatchOption result (count_by is_some (take from table.now.items) ≡ count_by is_some table.now.items)
-        (λ at. IsSome (item table.now at) × (count_by is_some (take at table.now.items) ≡ count_by is_some (take from table.now.items))) }
-{
-    for at in from..top {
-        if table.is_entry(at) {
-            return Some(at);
-        }
-    }
-    None
 }
 
 impl Fields {

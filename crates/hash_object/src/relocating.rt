@@ -1,18 +1,20 @@
 // Hashes whose blocks move.
 
-ghost use Rattle.std.specs.Prelude.{◌≡◌, ◌≢◌, ℕ, ◌+◌, ◌-◌, ◌*◌, ◌^◌, ◌<◌, ◌≤◌, ◌⊎◌, [], ◌∷◌, min, length, nat_lt, IsSome, Some, None, true, false, if◌then◌else◌};
-ghost use Rattle.blocks.specs.Blocks.{Changes, Owned};
+ghost use Rattle.std.specs.Prelude.{◌≡◌, ◌≢◌, ◌+◌, ◌-◌, ◌*◌, ◌^◌, ◌<◌, ◌≤◌, ◌⊎◌, min, length, IsSome, Some, None};
+ghost use Rattle.blocks.specs.Blocks.{Owned};
 ghost use Rattle.blocks.specs.Slabs.{wants, Calmer};
 ghost use Rattle.rehash_dict.specs.Table.{item};
 ghost use Rattle.rehash_dict.specs.Keyed.{Keyed};
 ghost use Rattle.hash_object.specs.declared.fields.Body.TheVariants.{Table};
 ghost use Rattle.hash_object.specs.Hashed.{blocks_of};
 ghost use Rattle.hash_object.specs.Fields.{IsFields, refs};
-ghost use Rattle.hash_object.specs.Relocation.{IsRelocated, PassesPart, ArePassed, IsSettled, IsCalm, is_within, marks, marks_from, marks_end, vacant_marks, vacant_below, units, units_in, block_in};
+ghost use Rattle.hash_object.specs.Relocation.{IsRelocated, PassesPart, IsSettled, IsCalm, marks, marks_from, marks_end, vacant_marks, vacant_below, units, units_in, block_in};
+ghost use Rattle.collection_walk.specs.Marks.{ArePassed, is_within};
 
 use crate::Fields;
-use crate::fields::{Body, Packed};
+use crate::fields::Body;
 use blocks::{BlockRef, BlockStore, Moved, settle};
+use collection_walk::{answer_at, settle_first};
 use rehash_dict::Dict;
 
 // The marks from `start` to below `end`, and how many blocks and vacant item numbers have them.
@@ -21,22 +23,6 @@ struct Part {
     start: u128,
     end: u128,
     used: u32,
-}
-
-// What a call answers that went through a part, of marks below a number.
-fn answer_for(part: Part, count: u128) -> Moved
-    ensures next { result.next ≡ (if nat_lt part.end count then Some part.end else None) }
-    ensures used { result.used ≡ part.used }
-{
-    let used = part.used;
-    if part.end < count {
-        Moved {
-            next: Some(part.end),
-            used,
-        }
-    } else {
-        Moved { next: None, used }
-    }
 }
 
 // The block of a mark.
@@ -105,21 +91,6 @@ fn table_units(table: &Dict<BlockRef>) -> u32
 {
     let units = table.top() as u128 + table.len() as u128;
     units.min(u32::MAX as u128) as u32
-}
-
-// Moves the block of a listpack where it wants that and its mark is in the part.
-fn settle_packed<B: BlockStore>(store: &mut B, packed: &mut Packed, part: Part)
-    requires { IsSome (B.blocks store.old packed.old.at) }
-    ensures bytes { B.blocks store.new packed.new.at ≡ B.blocks store.old packed.old.at }
-    ensures len { packed.new.len ≡ packed.old.len }
-    ensures changes { Changes (B.blocks store.old) (B.blocks store.new) (packed.old.at ∷ []) (packed.new.at ∷ []) }
-    ensures calm { is_within part.start part.end 0 ≡ true → wants (B.heap store.new) packed.new.at ≡ false }
-    ensures stays { is_within part.start part.end 0 ≡ false → packed.new.at ≡ packed.old.at }
-    ensures calmer { Calmer (B.heap store.old) (B.heap store.new) }
-{
-    if part.start == 0 && part.end > 0 {
-        packed.at = settle(store, packed.at);
-    }
 }
 
 // Moves the block of the field of an item number where it wants that.
@@ -231,7 +202,9 @@ impl Fields {
     {
         match &mut self.body {
             Body::Empty => {}
-            Body::Pack(packed) => settle_packed(store, packed, part),
+            Body::Pack(packed) => {
+                packed.at = settle_first(store, packed.at, part.start, part.end);
+            }
             Body::Table(table) => settle_marks(store, table, part),
         }
     }
@@ -249,7 +222,7 @@ impl Fields {
         let count = self.count_marks();
         let part = self.part_from(from, room);
         self.settle_part(store, part);
-        answer_for(part, count)
+        answer_at(part.end, count, part.used)
     }
 
     /// How many blocks and vacant item numbers there are: what calls of `relocate_part` pass in all that begin at the mark 0 and go on

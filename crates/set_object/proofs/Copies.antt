@@ -22,7 +22,8 @@ use Rattle.set_object.specs.Members.{IsMembers, IsBody, IsPlacedBody, members, m
 use Rattle.set_object.proofs.Sets.{among, has_among, once_before, set_more}
 use Rattle.set_object.proofs.Hashing.{Dict}
 use Rattle.set_object.proofs.Listed.{table_listed, table_once, keys_len}
-use Rattle.set_object.proofs.Ranks.{rank, rank_next, rank_past, rank_below, rank_all, key_there}
+use Rattle.set_object.proofs.Ranks.{key_there}
+use Rattle.collection_walk.proofs.Ranks.{rank, rank_next, rank_past, rank_below, rank_all}
 use Rattle.set_object.proofs.Bodies.{self, names_key}
 use Rattle.set_object.proofs.Settling.{numbers_moved, numbers_mean, pack_moved, pack_mean}
 

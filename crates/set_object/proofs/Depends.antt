@@ -1,5 +1,5 @@
 -- Sets over blocks that others change.
-use Rattle.std.proofs.Common.{◌≡◌, ℕ, suc, List, [], ◌∷◌, ◌++◌, length, Some, None, unwrap_or, flat_map, cond, is_some, refl, sym, ap, ◌∙◌, arith, inl, inr}
+use Rattle.std.proofs.Common.{◌≡◌, List, [], ◌∷◌, ◌++◌, length, Some, None, unwrap_or, flat_map, cond, is_some, refl, sym, ap, ◌∙◌, arith, inl, inr}
 use Rattle.blocks.specs.declared.BlockRef.{BlockRef}
 use Rattle.blocks.specs.Blocks.{Blocks, live, IsIn, bytes_at, Changes, Owned}
 use Rattle.blocks.proofs.Change.{cases_in, live-once, Owned-others}
@@ -9,7 +9,8 @@ use Rattle.set_object.specs.declared.members.Body.TheVariants.{Empty, Numbers, P
 use Rattle.set_object.specs.declared.members.Members.{Members}
 use Rattle.set_object.specs.Strings.{set_of}
 use Rattle.set_object.specs.Members.{IsMembers, members_of, refs, refs_of, tables, key_in}
-use Rattle.set_object.specs.Relocation.{items_from, marks_in}
+use Rattle.set_object.specs.Relocation.{marks_in}
+use Rattle.collection_walk.proofs.Numbered.{items_marked}
 use Rattle.set_object.specs.Laws.{MembersLaws}
 use Rattle.set_object.proofs.Listed.{Slots, table_listed, arranged}
 use Rattle.set_object.proofs.Ending.{names}
@@ -42,11 +43,6 @@ module _ (a b : Blocks) where
   beside : (m : Members) (old new : List BlockRef) → Owned (refs m ++ old) a → Changes a b old new → (r : BlockRef) → IsIn r (refs m) → b r ≡ a r
   beside m old new o p r isin =
       Owned-others a b old new (refs m ++ old) o p r (omega (arith, isin, times-append r (refs m) old)) (omega (arith, isin, o r, times-append r (refs m) old, live-once a r))
-
-items_marked : (n : ℕ) (items : Slots) → length (items_from n items) ≡ length (flat_map names items)
-items_marked n [] = refl
-items_marked n (None ∷ items) = items_marked (suc n) items
-items_marked n (Some e ∷ items) = ap suc (items_marked (suc n) items)
 
 marked : (body : Body) → length (marks_in body) ≡ length (refs_of body)
 marked Empty = refl

@@ -1,5 +1,5 @@
 -- Blocks of members that move: their marks, and what a call passes.
-use Rattle.std.proofs.Common.{◌≡◌, ◌⊎◌, ℕ, zero, suc, ◌+◌, ◌-◌, ◌<◌, ◌≤◌, Bool, true, false, cond, [], ◌∷◌, Option, Some, None, IsSome, is_some, unwrap_or, flat_map, slice_get, count_by, refl, sym, ap, ◌∙◌, subst, arith, inl, inr}
+use Rattle.std.proofs.Common.{◌≡◌, ◌⊎◌, ℕ, zero, suc, ◌+◌, ◌-◌, ◌<◌, ◌≤◌, Bool, true, false, cond, [], ◌∷◌, Option, Some, None, IsSome, is_some, unwrap_or, slice_get, count_by, refl, sym, ap, ◌∙◌, subst, arith, inl, inr}
 use Rattle.std.specs.Prelude.{nat_lt, ◌&&◌, min, if◌then◌else◌, IfSome, MatchBool}
 use Rattle.std.proofs.lemmas.Bool.{cases_Bool, cond-true, cond-false, and_parts}
 use Rattle.std.proofs.lemmas.Bool.Decides.{nat_tests}
@@ -15,69 +15,12 @@ use Rattle.set_object.specs.declared.members.Body.{Body}
 use Rattle.set_object.specs.declared.members.Body.TheVariants.{Empty, Numbers, Pack, Table}
 use Rattle.set_object.specs.declared.members.Members.{Members}
 use Rattle.set_object.specs.Members.{IsMembers, IsBody, refs, refs_of}
-use Rattle.set_object.specs.Relocation.{items_from, is_passed, is_within, marks, marks_in, marks_end, end_in, IsCalm, ItemWaits, ArePassed, WantsMove, PassesPart}
+use Rattle.set_object.specs.Relocation.{marks, marks_in, marks_end, end_in, ItemWaits, WantsMove, PassesPart}
+use Rattle.collection_walk.specs.Marks.{items_from, is_passed, is_within, IsCalm, ArePassed}
+use Rattle.collection_walk.proofs.Numbered.{within_parts, mark_item, item_mark, items_passed}
+use Rattle.collection_walk.proofs.Passing.{passed_within, goes_on, part_passed}
 use Rattle.set_object.proofs.Hashing.{Dict}
 use Rattle.set_object.proofs.Listed.{Slots}
-use Rattle.set_object.proofs.Ending.{names}
-
--- ---- marks and item numbers
-
--- a mark is the item number of the element whose key has the same index
-mark_item : (n : ℕ) (items : Slots) (index mark : ℕ) → slice_get (items_from n items) index ≡ Some mark
-    → (k : ℕ) × (e : Element (Unit {0})) × (mark ≡ n + k) × (at_item items k ≡ Some e) × (slice_get (flat_map names items) index ≡ Some e.key)
-mark_item n [] index mark h = cc
-mark_item n (None ∷ items) index mark h = (let p = mark_item (suc n) items index mark h in (suc p.0, p.1, omega (arith, p.2), p.3, p.4))
-mark_item n (Some e ∷ items) zero mark h = (let same : n ≡ mark = cc in (0, e, omega (arith, same), refl, refl))
-mark_item n (Some e ∷ items) (suc index) mark h = (let p = mark_item (suc n) items index mark h in (suc p.0, p.1, omega (arith, p.2), p.3, p.4))
-
--- an element's item number is a mark
-item_mark : (n : ℕ) (items : Slots) (k : ℕ) (e : Element (Unit {0})) → at_item items k ≡ Some e
-    → (index : ℕ) × (slice_get (items_from n items) index ≡ Some (n + k)) × (slice_get (flat_map names items) index ≡ Some e.key)
-item_mark n [] k e h = cc
-item_mark n (None ∷ items) zero e h = cc
-item_mark n (None ∷ items) (suc k) e h = (let p = item_mark (suc n) items k e h in (p.0, p.1 ∙ ap Some (omega arith), p.2))
-item_mark n (Some d ∷ items) zero e h = (let same : d ≡ e = cc in (0, ap Some (omega arith), ap (λ (q : Element (Unit {0})). Some q.key) same))
-item_mark n (Some d ∷ items) (suc k) e h = (let p = item_mark (suc n) items k e h in (suc p.0, p.1 ∙ ap Some (omega arith), p.2))
-
--- elements at the same item numbers have the same marks
-items_alike : (n : ℕ) (xs ys : Slots) → ((k : ℕ) → is_some (at_item ys k) ≡ is_some (at_item xs k)) → items_from n ys ≡ items_from n xs
-items_alike n [] [] h = refl
-items_alike n [] (None ∷ ys) h = items_alike (suc n) [] ys (λ k. h (suc k))
-items_alike n [] (Some e ∷ ys) h = (let bad : true ≡ false = h 0 in cc)
-items_alike n (None ∷ xs) [] h = items_alike (suc n) xs [] (λ k. h (suc k))
-items_alike n (Some d ∷ xs) [] h = (let bad : false ≡ true = h 0 in cc)
-items_alike n (None ∷ xs) (None ∷ ys) h = items_alike (suc n) xs ys (λ k. h (suc k))
-items_alike n (None ∷ xs) (Some e ∷ ys) h = (let bad : true ≡ false = h 0 in cc)
-items_alike n (Some d ∷ xs) (None ∷ ys) h = (let bad : false ≡ true = h 0 in cc)
-items_alike n (Some d ∷ xs) (Some e ∷ ys) h = ap (λ zs. n ∷ zs) (items_alike (suc n) xs ys (λ k. h (suc k)))
-
-within_parts : (start end mark : ℕ) → is_within start end mark ≡ true → (start ≤ mark) × (mark < end)
-within_parts start end mark h = grind (arith, nat_tests)
-
-outside_parts : (start end mark : ℕ) → is_within start end mark ≡ false → (mark < start) ⊎ (end ≤ mark)
-outside_parts start end mark h = grind (arith, nat_tests)
-
-same_some : {X : Type 0} (o : Option X) (a b : X) → o ≡ Some a → o ≡ Some b → a ≡ b
-same_some o a b h k = cc
-
-module _ (heap : Heap) (t u : Dict) (start end : ℕ) (same : (at : ℕ) → is_some (item u at) ≡ is_some (item t at)) where
-  pub same_marks : items_from 0 u.items ≡ items_from 0 t.items
-  same_marks = items_alike 0 t.items u.items same
-
-  pub items_passed : ((at : ℕ) → (at < start) ⊎ (end ≤ at) → item u at ≡ item t at) → IsCalm heap u start end → ArePassed heap (is_within start end) (items_from 0 u.items) (key_refs t) (key_refs u)
-  items_passed others calm = record {
-    calm = λ index mark r marked named within. (let p = mark_item 0 u.items index mark marked in
-        let at : mark ≡ p.0 = omega (arith, p.2) in
-        let parts = within_parts start end mark within in
-        let key : p.1.key ≡ r = same_some (slice_get (key_refs u) index) p.1.key r p.4 named in
-        subst (λ q. wants heap q ≡ false) key (calm p.0 p.1 (omega (arith, at, parts.0)) (omega (arith, at, parts.1)) p.3));
-    stays = λ index mark marked out. (let p = mark_item 0 u.items index mark marked in
-        let q = mark_item 0 t.items index mark (ap (λ ms. slice_get ms index) (sym same_marks) ∙ marked) in
-        let at : p.0 ≡ q.0 = omega (arith, p.2, q.2) in
-        let stands : item u p.0 ≡ item t p.0 = others p.0 (elim (outside_parts start end mark out) [ inl low ↦ inl (omega (arith, low, p.2)) | inr high ↦ inr (omega (arith, high, p.2)) ]) in
-        let one : p.1 ≡ q.1 = same_some (item u p.0) p.1 q.1 p.3 (stands ∙ ap (item t) at ∙ q.3) in
-        p.4 ∙ ap (λ (e : Element (Unit {0})). Some e.key) one ∙ sym q.4);
-  }
 
 pub item_waits_mark : (heap : Heap) (t : Dict) (start end : ℕ) → (w : ItemWaits heap t start end)
     → (index : ℕ) × (slice_get (items_from 0 t.items) index ≡ Some w.at) × (slice_get (key_refs t) index ≡ Some w.element.key)
@@ -152,44 +95,29 @@ module _ (from room count start end : ℕ) (start_is : start ≡ min from count)
       passed_from None h = grind (arith, nat_tests)
       passed_from (Some next) h = grind (arith, nat_tests)
 
-  passed_within : (next : Option ℕ) → next ≡ (if nat_lt end count then Some end else None) → (mark : ℕ) → mark < count → is_passed from next mark ≡ is_within start end mark
-  passed_within next next_is mark below = elim (cases_Bool (nat_lt end count)) [
-    | inl more ↦ (let is : next ≡ Some end = next_is ∙ cond-true _ _ _ more in ap (λ o. is_passed from o mark) is ∙ inside more)
-    | inr all ↦ (let is : next ≡ None = next_is ∙ cond-false _ _ _ all in ap (λ o. is_passed from o mark) is ∙ outside all)
-  ]
-    where
-      inside : nat_lt end count ≡ true → is_passed from (Some end) mark ≡ is_within start end mark
-      inside more = grind (arith, nat_tests)
-
-      outside : nat_lt end count ≡ false → is_passed from None mark ≡ is_within start end mark
-      outside all = grind (arith, nat_tests)
-
   used_is : (next : Option ℕ) → next ≡ (if nat_lt end count then Some end else None) → end - start ≡ unwrap_or next count - from
   used_is next next_is = elim (cases_Bool (nat_lt end count)) [
     | inl more ↦ (let is : unwrap_or next count ≡ end = ap (λ o. unwrap_or o count) (next_is ∙ cond-true _ _ _ more) in let less : end < count = grind (arith, nat_tests) in omega (arith, is, less, start_is, end_is))
     | inr all ↦ (let is : unwrap_or next count ≡ count = ap (λ o. unwrap_or o count) (next_is ∙ cond-false _ _ _ all) in let most : count ≤ end = grind (arith, nat_tests) in omega (arith, is, most, start_is, end_is))
   ]
 
-  goes_on : (next : Option ℕ) (used : ℕ) → next ≡ (if nat_lt end count then Some end else None) → used ≡ end - start → IfSome next (λ to. (from < to) × (to < count) × (room ≤ used + 17))
-  goes_on next used next_is used_is = elim (cases_Bool (nat_lt end count)) [
-    | inl more ↦ (let less : end < count = grind (arith, nat_tests) in subst (λ o. IfSome o (λ to. (from < to) × (to < count) × (room ≤ used + 17))) (sym (next_is ∙ cond-true _ _ _ more)) (omega (arith, less, start_is, end_is, wide), less, omega (arith, less, start_is, end_is, used_is)))
-    | inr all ↦ subst (λ o. IfSome o (λ to. (from < to) × (to < count) × (room ≤ used + 17))) (sym (next_is ∙ cond-false _ _ _ all)) tt
-  ]
+some_more : {P Q : ℕ → Type 0} (o : Option ℕ) → ((to : ℕ) → P to → Q to) → IfSome o P → IfSome o Q
+some_more None more h = h
+some_more (Some to) more h = more to h
 
 -- a part of the marks was passed
 pub passes_part : (after : Blocks) (heap : Heap) (old new : Members) (from room count start end : ℕ) (answer : Moved) → IsMembers after new → count ≡ marks_end new → start ≡ min from count → end ≡ min count (start + room) → 32 ≤ room
     → answer.next ≡ (if nat_lt end count then Some end else None) → answer.used ≡ end - start → marks new ≡ marks old → ArePassed heap (is_within start end) (marks new) (refs old) (refs new) → PassesPart heap old new from room answer
 passes_part after heap old new from room count start end answer sound count_is start_is end_is wide next_is used_is' same p = record {
   same_marks = same;
-  passed = record {
-    calm = λ index mark r marked named is. p.calm index mark r marked named (sym (within mark (below index mark marked)) ∙ is);
-    stays = λ index mark marked out. p.stays index mark marked (sym (within mark (below index mark marked)) ∙ out);
-  };
+  passed = part_passed from count start end answer.next start_is next_is heap (marks new) (refs old) (refs new) below p;
   counted = record {
     blocks = omega (arith, used_is', marks_few after new.limits new.seed new.body (is_passed from answer.next) start end sound.body (passed_low from room count start end start_is end_is wide answer.next) (λ mark low is. within_high start end mark (sym (within mark (omega (arith, low, count_is))) ∙ is)));
     used = used_is' ∙ used_is from room count start end start_is end_is wide answer.next next_is ∙ ap (λ n. unwrap_or answer.next n - from) count_is;
     within = omega (arith, used_is', start_is, end_is);
-    on = subst (λ n. IfSome answer.next (λ to. (from < to) × (to < n) × (room ≤ answer.used + 17))) count_is (goes_on from room count start end start_is end_is wide answer.next answer.used next_is used_is');
+    on = subst (λ n. IfSome answer.next (λ to. (from < to) × (to < n) × (room ≤ answer.used + 17))) count_is
+        (some_more answer.next (λ to h. (h.0, h.1, omega (arith, h.2)))
+        (goes_on from count start end answer.next start_is next_is room answer.used (omega (arith, start_is, end_is)) wide (λ less. omega (arith, less, end_is, used_is')) (λ here. omega (arith, here, used_is'))));
   };
 }
   where
@@ -197,7 +125,7 @@ passes_part after heap old new from room count start end answer sound count_is s
     below index mark h = omega (arith, count_is, mark_below after new.limits new.seed new.body index mark sound.body h)
 
     within : (mark : ℕ) → mark < count → is_passed from answer.next mark ≡ is_within start end mark
-    within mark low = passed_within from room count start end start_is end_is wide answer.next next_is mark low
+    within mark low = passed_within from count start end answer.next start_is next_is mark low
 
     within_high : (start end mark : ℕ) → is_within start end mark ≡ true → mark < end
     within_high start end mark h = (within_parts start end mark h).1

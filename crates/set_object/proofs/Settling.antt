@@ -3,7 +3,6 @@ use Rattle.std.proofs.Common.{◌≡◌, ◌≢◌, ◌⊎◌, ℕ, ◌+◌, ◌
 use Rattle.std.proofs.lemmas.Bool.{cases_eq}
 use Rattle.blocks.specs.declared.BlockRef.{BlockRef}
 use Rattle.blocks.specs.Blocks.{Blocks, times, IsOut, bytes_at, Changes, Owned}
-use Rattle.blocks.specs.Slabs.{Heap, Calmer}
 use Rattle.blocks.proofs.Refs.{cases_ref}
 use Rattle.blocks.proofs.Change.{one_if, Counts, Changes-same, Changes-then, Changes-counted, Counts-changed, Owned-others}
 use Rattle.object_codec.specs.declared.limits.Limits.{Limits}
@@ -15,7 +14,7 @@ use Rattle.rehash_dict.proofs.MapOf.{map_of-renames, refs_changed, key_refs-owne
 use Rattle.set_object.specs.declared.members.Packed.{Packed}
 use Rattle.set_object.specs.declared.members.Body.TheVariants.{Numbers, Pack}
 use Rattle.set_object.specs.Members.{IsBody, IsNumbers, IsMemberPack, members_of}
-use Rattle.set_object.specs.Relocation.{IsSettled, IsCalm}
+use Rattle.set_object.specs.Relocation.{IsSettled}
 use Rattle.set_object.proofs.Hashing.{Dict}
 use Rattle.set_object.proofs.Bodies.{names_key, key_within}
 
@@ -107,12 +106,6 @@ settled_more a b c t u v start k low p q = record {
     | inr behind ↦ q.others i (λ same. omega (arith, behind, same)) ∙ p.others i (inr (omega (arith, behind)))
   ];
 }
-
-pub calm_more : (before after : Heap) (u v : Dict) (start k : ℕ) → Calmer before after → ((i : ℕ) → i ≢ k → item v i ≡ item u i) → IsCalm before u start k → IsCalm after v k (k + 1) → IsCalm after v start (k + 1)
-calm_more before after u v start k calmer others calm here i e low high there = elim (cases_eq i k) [
-  | inl same ↦ here i e (omega (arith, same)) high there
-  | inr other ↦ calmer.calm e.key (calm i e low (omega (arith, high, other)) (sym (others i other) ∙ there))
-]
 
 -- ---- packed forms
 

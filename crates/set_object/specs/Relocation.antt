@@ -1,5 +1,5 @@
 -- Bounded calls that move the blocks of a set: the mark of each block, and what such a call passes and leaves.
-use Rattle.std.specs.Prelude.{◌≡◌, ℕ, suc, ◌+◌, ◌-◌, ◌<◌, ◌≤◌, Bool, true, false, ◌&&◌, nat_le, nat_lt, List, [], ◌∷◌, count_by, is_some, Option, Some, None, IfSome, unwrap_or, slice_get}
+use Rattle.std.specs.Prelude.{◌≡◌, ℕ, ◌+◌, ◌-◌, ◌<◌, ◌≤◌, true, List, [], ◌∷◌, count_by, is_some, Some, IfSome, unwrap_or, slice_get}
 use Rattle.blocks.specs.declared.BlockRef.{BlockRef}
 use Rattle.blocks.specs.declared.Moved.{Moved}
 use Rattle.blocks.specs.Blocks.{Blocks, Changes}
@@ -7,16 +7,11 @@ use Rattle.blocks.specs.Slabs.{Heap, wants}
 use Rattle.rehash_dict.specs.Table.{Table as DictTable, Element, item}
 use Rattle.rehash_dict.specs.Keyed.{Keyed, key_tables}
 use Rattle.rehash_dict.specs.MapOf.{content, key_refs}
+use Rattle.collection_walk.specs.Marks.{items_from, is_passed, ArePassed}
 use Rattle.set_object.specs.declared.members.Body.{Body}
 use Rattle.set_object.specs.declared.members.Body.TheVariants.{Empty, Numbers, Pack, Table}
 use Rattle.set_object.specs.declared.members.Members.{Members}
 use Rattle.set_object.specs.Members.{IsMembers, KeepsSettings, members, form_of, refs, tables}
-
--- the item numbers of the elements, where the first place has this number
-abbrev pub items_from : ℕ → List (Option (Element (Unit {0}))) → List ℕ
-items_from n [] = []
-items_from n (None ∷ items) = items_from (suc n) items
-items_from n (Some e ∷ items) = n ∷ items_from (suc n) items
 
 abbrev pub marks_in : Body → List ℕ
 marks_in Empty = []
@@ -38,19 +33,6 @@ end_in (Table t) = t.top
 abbrev pub marks_end : Members → ℕ
 marks_end m = end_in m.body
 
--- the mark is below the next one to go on from, or none is left
-abbrev pub is_before : Option ℕ → ℕ → Bool
-is_before None mark = true
-is_before (Some next) mark = nat_lt mark next
-
--- the mark is passed by a call that begins at `from`
-abbrev pub is_passed : ℕ → Option ℕ → ℕ → Bool
-is_passed from next mark = nat_le from mark && is_before next mark
-
--- the mark is from `start` to below `end`
-abbrev pub is_within : ℕ → ℕ → ℕ → Bool
-is_within start end mark = nat_le start mark && nat_lt mark end
-
 -- Blocks of members moved: the dictionary means what it meant, an element stands at each item number at which one stood, and these
 -- item numbers stay as they are.
 pub record IsSettled (before after : Blocks) (old new : DictTable (Unit {0})) (stays : ℕ → Type 0) : Type 0 where
@@ -62,10 +44,6 @@ pub record IsSettled (before after : Blocks) (old new : DictTable (Unit {0})) (s
   pub top : new.top ≡ old.top
   pub same_items : (at : ℕ) → is_some (item new at) ≡ is_some (item old at)
   pub others : (at : ℕ) → stays at → item new at ≡ item old at
-
--- the blocks of the members of these item numbers want no move
-abbrev pub IsCalm : Heap → DictTable (Unit {0}) → ℕ → ℕ → Type 0
-IsCalm heap t start end = (at : ℕ) (e : Element (Unit {0})) → start ≤ at → at < end → item t at ≡ Some e → wants heap e.key ≡ false
 
 -- the block of a member of these item numbers wants to move
 pub record ItemWaits (heap : Heap) (t : DictTable (Unit {0})) (start end : ℕ) : Type 0 where
@@ -95,11 +73,6 @@ pub record IsRelocated (before after : Blocks) (old new : Members) : Type 0 wher
   pub tables_are : tables after new ≡ tables before old
   pub changes : Changes before after (refs old) (refs new)
   pub settings : KeepsSettings old new
-
--- The references whose marks are passed want no move, and the others stay.
-pub record ArePassed (heap : Heap) (passed : ℕ → Bool) (marks : List ℕ) (old new : List BlockRef) : Type 0 where
-  pub calm : (index mark : ℕ) (r : BlockRef) → slice_get marks index ≡ Some mark → slice_get new index ≡ Some r → passed mark ≡ true → wants heap r ≡ false
-  pub stays : (index mark : ℕ) → slice_get marks index ≡ Some mark → passed mark ≡ false → slice_get new index ≡ slice_get old index
 
 -- The answer says what was passed: no more than there was room for, and where some is left, all of that but 17 at most.
 pub record IsCounted (marks : List ℕ) (end from room : ℕ) (answer : Moved) : Type 0 where

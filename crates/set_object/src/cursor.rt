@@ -1,6 +1,6 @@
 // Walks over all members.
 
-ghost use Rattle.std.specs.Prelude.{◌≡◌, ℕ, ◌+◌, ◌<◌, ◌≤◌, [], length, slice_index_or, is_some, count_by, take, IsSome, MatchOption};
+ghost use Rattle.std.specs.Prelude.{◌≡◌, ℕ, ◌+◌, ◌<◌, ◌≤◌, [], length, slice_index_or, MatchOption};
 ghost use Rattle.listpack.specs.Element.{element_text};
 ghost use Rattle.rehash_dict.specs.Table.{item};
 ghost use Rattle.set_object.specs.Members.{IsMembers, listed};
@@ -9,8 +9,8 @@ ghost use Rattle.set_object.specs.Items.{IsPlace, IsCursor};
 use crate::Members;
 use crate::members::Body;
 use blocks::BlockStore;
+use collection_walk::next_item;
 use listpack::Element;
-use rehash_dict::Dict;
 
 /// The place of a member in a set's own order, found once. An edit of the set ends it.
 #[derive(Clone, Copy, Debug)]
@@ -26,20 +26,6 @@ impl Cursor {
     {
         self.index
     }
-}
-
-// The first item number from one on that an element has, where all are below another number.
-fn next_item(table: &Dict<()>, from: usize, top: usize) -> Option<usize>
-    requires { (at : ℕ) → IsSome (item table.now at) → at < top }
-    ensures { MatchOption result (count_by is_some (take from table.now.items) ≡ count_by is_some table.now.items)
-        (λ at. IsSome (item table.now at) × (count_by is_some (take at table.now.items) ≡ count_by is_some (take from table.now.items))) }
-{
-    for at in from..top {
-        if table.is_entry(at) {
-            return Some(at);
-        }
-    }
-    None
 }
 
 // The index behind another one of a list of so many.

@@ -1,72 +1,17 @@
 // Sets whose blocks move.
 
-ghost use Rattle.std.specs.Prelude.{◌≡◌, ◌≢◌, ℕ, ◌+◌, ◌-◌, ◌^◌, ◌<◌, ◌≤◌, ◌⊎◌, [], ◌∷◌, min, nat_lt, ◌&&◌, IfSome, IfNone, IsSome, Some, None, true, false, MatchBool, if◌then◌else◌};
-ghost use Rattle.blocks.specs.Blocks.{Changes};
+ghost use Rattle.std.specs.Prelude.{◌≡◌, ◌≢◌, ◌+◌, ◌-◌, ◌<◌, ◌≤◌, ◌⊎◌, ◌&&◌, IfSome, IfNone, IsSome, Some, None, true, false, MatchBool};
 ghost use Rattle.blocks.specs.Slabs.{wants, Calmer};
 ghost use Rattle.rehash_dict.specs.Keyed.{Keyed};
 ghost use Rattle.set_object.specs.Members.{IsMembers, refs};
-ghost use Rattle.set_object.specs.Relocation.{IsRelocated, PassesPart, ArePassed, IsSettled, IsCalm, WantsMove, ItemWaits, is_within, marks, marks_end};
+ghost use Rattle.set_object.specs.Relocation.{IsRelocated, PassesPart, IsSettled, WantsMove, ItemWaits, marks, marks_end};
+ghost use Rattle.collection_walk.specs.Marks.{ArePassed, IsCalm, is_within};
 
 use crate::Members;
 use crate::members::{Body, Packed};
 use blocks::{BlockStore, Moved, settle};
+use collection_walk::{Part, answer_for, part_from, settle_first};
 use rehash_dict::Dict;
-
-// The marks from `start` to below `end`.
-#[derive(Clone, Copy)]
-struct Part {
-    start: usize,
-    end: usize,
-}
-
-// The part that a call goes through from a mark on, of marks below a number.
-fn part_from(count: usize, from: u128, room: u32) -> Part
-    ensures start { result.start ≡ min from count }
-    ensures end { result.end ≡ min count (result.start + room) }
-{
-    if from >= count as u128 {
-        return Part {
-            start: count,
-            end: count,
-        };
-    }
-    let start = from as usize;
-    let end = count.min(start.saturating_add(room as usize));
-    Part { start, end }
-}
-
-// What a call answers that went through a part, of marks below a number.
-fn answer_for(part: Part, count: usize) -> Moved
-    requires order { part.start ≤ part.end }
-    requires room { part.end < part.start + 2 ^ 32 }
-    ensures next { result.next ≡ (if nat_lt part.end count then Some part.end else None) }
-    ensures used { result.used ≡ part.end - part.start }
-{
-    let used = (part.end - part.start) as u32;
-    if part.end < count {
-        Moved {
-            next: Some(part.end as u128),
-            used,
-        }
-    } else {
-        Moved { next: None, used }
-    }
-}
-
-// Moves the block of a packed form where it wants that and its mark is in the part.
-fn settle_packed<B: BlockStore>(store: &mut B, packed: &mut Packed, part: Part)
-    requires { IsSome (B.blocks store.old packed.old.at) }
-    ensures bytes { B.blocks store.new packed.new.at ≡ B.blocks store.old packed.old.at }
-    ensures len { packed.new.len ≡ packed.old.len }
-    ensures changes { Changes (B.blocks store.old) (B.blocks store.new) (packed.old.at ∷ []) (packed.new.at ∷ []) }
-    ensures calm { is_within part.start part.end 0 ≡ true → wants (B.heap store.new) packed.new.at ≡ false }
-    ensures stays { is_within part.start part.end 0 ≡ false → packed.new.at ≡ packed.old.at }
-    ensures calmer { Calmer (B.heap store.old) (B.heap store.new) }
-{
-    if part.start == 0 && part.end > 0 {
-        packed.at = settle(store, packed.at);
-    }
-}
 
 // Moves the block of the member of an item number where it wants that.
 fn settle_item<B: BlockStore>(store: &mut B, table: &mut Dict<()>, at: usize)
@@ -140,8 +85,12 @@ impl Members {
     {
         match &mut self.body {
             Body::Empty => {}
-            Body::Numbers(packed) => settle_packed(store, packed, part),
-            Body::Pack(packed) => settle_packed(store, packed, part),
+            Body::Numbers(packed) => {
+                packed.at = settle_first(store, packed.at, part.start as u128, part.end as u128);
+            }
+            Body::Pack(packed) => {
+                packed.at = settle_first(store, packed.at, part.start as u128, part.end as u128);
+            }
             Body::Table(table) => settle_items(store, table, part),
         }
     }

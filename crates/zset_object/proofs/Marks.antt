@@ -1,57 +1,20 @@
 -- The marks of a sorted set's blocks, and how many of them and of the vacant item numbers a call passes.
-use Rattle.std.proofs.Common.{◌≡◌, ◌⊎◌, ℕ, ℤ, zero, suc, ◌+◌, ◌-◌, ◌<◌, ◌≤◌, Bool, true, false, cond, List, [], ◌∷◌, ◌++◌, take, length, Option, Some, None, IsSome, is_some, flat_map, slice_get, count_by, refl, ap, ◌∙◌, arith, inl, inr}
+use Rattle.std.proofs.Common.{◌≡◌, ℕ, ℤ, zero, suc, ◌+◌, ◌-◌, ◌<◌, ◌≤◌, Bool, true, cond, List, [], ◌∷◌, ◌++◌, take, length, Option, Some, None, IsSome, is_some, slice_get, count_by, refl, ap, ◌∙◌, arith, inl, inr}
 use Rattle.std.specs.Prelude.{min}
 use Rattle.std.proofs.lemmas.Bool.{cases_Bool, cond-true, cond-false}
-use Rattle.std.proofs.lemmas.Bool.Decides.{nat_tests}
-use Rattle.blocks.specs.declared.BlockRef.{BlockRef}
 use Rattle.blocks.specs.Blocks.{Blocks}
 use Rattle.blocks.proofs.Sums.{count_cons}
 use Rattle.object_codec.specs.declared.limits.Limits.{Limits}
 use Rattle.rehash_dict.specs.Table.{Table as ItemTable, Element, at_item, item}
-use Rattle.rehash_dict.specs.MapOf.{own_of}
+use Rattle.collection_walk.proofs.Numbered.{items_marked, within_parts, outside_parts, mark_item}
 use Rattle.zset_object.specs.declared.scored.Body.{Body}
 use Rattle.zset_object.specs.declared.scored.Body.TheVariants.{Empty, Pack, Table}
 use Rattle.zset_object.specs.Scored.{IsBody, refs_of_body}
-use Rattle.zset_object.specs.Relocation.{items_from, marks_in, end_in, vacant_mark, vacant_below, vacant_in, is_within}
+use Rattle.zset_object.specs.Relocation.{marks_in, end_in, vacant_mark, vacant_below, vacant_in}
+use Rattle.collection_walk.specs.Marks.{items_from, is_within}
 
 abbrev pub Slots : Type 0
 Slots = List (Option (Element ℤ))
-
-abbrev pub names : Option (Element ℤ) → List BlockRef
-names = own_of (λ (_ : ℤ). [])
-
-pub within_parts : (start end mark : ℕ) → is_within start end mark ≡ true → (start ≤ mark) × (mark < end)
-within_parts start end mark h = grind (arith, nat_tests)
-
-pub outside_parts : (start end mark : ℕ) → is_within start end mark ≡ false → (mark < start) ⊎ (end ≤ mark)
-outside_parts start end mark h = grind (arith, nat_tests)
-
--- ---- marks and item numbers
-
--- a mark is the item number of the element whose block has the same index
-pub mark_item : (n : ℕ) (items : Slots) (index mark : ℕ) → slice_get (items_from n items) index ≡ Some mark
-    → (k : ℕ) × (e : Element ℤ) × (mark ≡ n + k) × (at_item items k ≡ Some e) × (slice_get (flat_map names items) index ≡ Some e.key)
-mark_item n [] index mark h = cc
-mark_item n (None ∷ items) index mark h = (let p = mark_item (suc n) items index mark h in (suc p.0, p.1, omega (arith, p.2), p.3, p.4))
-mark_item n (Some e ∷ items) zero mark h = (let same : n ≡ mark = cc in (0, e, omega (arith, same), refl, refl))
-mark_item n (Some e ∷ items) (suc index) mark h = (let p = mark_item (suc n) items index mark h in (suc p.0, p.1, omega (arith, p.2), p.3, p.4))
-
--- elements at the same item numbers have the same marks
-pub items_alike : (n : ℕ) (xs ys : Slots) → ((k : ℕ) → is_some (at_item ys k) ≡ is_some (at_item xs k)) → items_from n ys ≡ items_from n xs
-items_alike n [] [] h = refl
-items_alike n [] (None ∷ ys) h = items_alike (suc n) [] ys (λ k. h (suc k))
-items_alike n [] (Some e ∷ ys) h = (let bad : true ≡ false = h 0 in cc)
-items_alike n (None ∷ xs) [] h = items_alike (suc n) xs [] (λ k. h (suc k))
-items_alike n (Some d ∷ xs) [] h = (let bad : false ≡ true = h 0 in cc)
-items_alike n (None ∷ xs) (None ∷ ys) h = items_alike (suc n) xs ys (λ k. h (suc k))
-items_alike n (None ∷ xs) (Some e ∷ ys) h = (let bad : true ≡ false = h 0 in cc)
-items_alike n (Some d ∷ xs) (None ∷ ys) h = (let bad : false ≡ true = h 0 in cc)
-items_alike n (Some d ∷ xs) (Some e ∷ ys) h = ap (λ zs. n ∷ zs) (items_alike (suc n) xs ys (λ k. h (suc k)))
-
-items_marked : (n : ℕ) (items : Slots) → length (items_from n items) ≡ length (flat_map names items)
-items_marked n [] = refl
-items_marked n (None ∷ items) = items_marked (suc n) items
-items_marked n (Some e ∷ items) = ap suc (items_marked (suc n) items)
 
 -- each reference has a mark
 pub all_marked : (body : Body) → length (marks_in body) ≡ length (refs_of_body body)

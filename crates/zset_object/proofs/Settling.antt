@@ -1,18 +1,14 @@
 -- A sorted set whose blocks move means what it meant.
 use Rattle.std.proofs.Common.{◌≡◌, ◌≢◌, ◌⊎◌, ℕ, ◌+◌, ◌<◌, ◌≤◌, [], unwrap_or, sym, ap, ◌∙◌, subst, arith, inl, inr}
-use Rattle.std.proofs.lemmas.Bool.{cases_eq}
 use Rattle.blocks.specs.Blocks.{Blocks, bytes_at}
-use Rattle.blocks.specs.Slabs.{Heap, Calmer}
 use Rattle.blocks.proofs.Change.{Changes-then}
 use Rattle.object_codec.specs.declared.limits.Limits.{Limits}
-use Rattle.rehash_dict.specs.Table.{item}
 use Rattle.score_table.specs.declared.table.ScoreTable.{ScoreTable}
 use Rattle.score_table.specs.Scored.{refs}
-use Rattle.score_table.specs.Relocation.{IsSettled, IsCalm}
+use Rattle.score_table.specs.Relocation.{IsSettled}
 use Rattle.zset_object.specs.declared.scored.Packed.{Packed}
 use Rattle.zset_object.specs.declared.scored.Body.TheVariants.{Pack}
 use Rattle.zset_object.specs.Scored.{IsBody, IsMemberPack, scores_of, ranked_of}
-use Rattle.zset_object.specs.Relocation.{AreCalm}
 
 -- ---- one member's block after the other
 
@@ -31,12 +27,6 @@ settled_more a b c t u v start k low p q = record {
     | inr behind ↦ q.others i (λ same. omega (arith, behind, same)) ∙ p.others i (inr (omega (arith, behind)))
   ];
 }
-
-pub calm_more : (before after : Heap) (u v : ScoreTable) (start k : ℕ) → Calmer before after → ((i : ℕ) → i ≢ k → item v.table i ≡ item u.table i) → AreCalm before u start k → IsCalm after v k → AreCalm after v start (k + 1)
-calm_more before after u v start k calmer others calm here i low high e there = elim (cases_eq i k) [
-  | inl same ↦ here e (ap (item v.table) (sym same) ∙ there)
-  | inr other ↦ calmer.calm e.key (calm i low (omega (arith, high, other)) e (sym (others i other) ∙ there))
-]
 
 pub settled_weaker : (a b : Blocks) (t u : ScoreTable) (stays fewer : ℕ → Type 0) → ((i : ℕ) → fewer i → stays i) → IsSettled a b t u stays → IsSettled a b t u fewer
 settled_weaker a b t u stays fewer weaker p = record {

@@ -1,14 +1,10 @@
 -- One move of a scan over a sorted set.
-use Rattle.std.specs.Prelude.{◌≡◌, ℕ, zero, suc, ◌<◌, ◌≤◌, ◌^◌, List, [], ◌∷◌, ◌++◌, Option, Some, None}
+use Rattle.std.specs.Prelude.{ℕ, List, [], Option}
 use Rattle.rehash_dict.specs.Scan.{scanned}
 use Rattle.rehash_dict.specs.ScanPlaces.{CanStand as CanStandInTable}
+use Rattle.collection_walk.specs.Places.{upto, HavePlaces}
 use Rattle.zset_object.specs.declared.scored.Body.{Body}
 use Rattle.zset_object.specs.declared.scored.Body.TheVariants.{Empty, Pack, Table}
-
--- the numbers below a number
-abbrev pub upto : ℕ → List ℕ
-upto zero = []
-upto (suc n) = upto n ++ n ∷ []
 
 -- The items of a move at a cursor, and the next cursor: those of a move over the tables, and in a packed form all
 -- and 0.
@@ -16,11 +12,6 @@ abbrev pub moved : Body → ℕ → List ℕ × ℕ
 moved Empty cursor = ([], 0)
 moved (Pack packed) cursor = (upto packed.len, 0)
 moved (Table t) cursor = scanned t.table.older t.table.newer cursor
-
--- so many items, and no others, have places, whichever these are
-pub record HavePlaces (count : ℕ) (place_of : ℕ → Option ℕ) : Type 0 where
-  pub real : (i at : ℕ) → place_of i ≡ Some at → (i < count) × (at < 2 ^ 64)
-  pub all : (i : ℕ) → place_of i ≡ None → count ≤ i
 
 -- these can be the places of the members: those of the elements of a dictionary, and any of those of a packed form
 abbrev pub CanStand : Body → (ℕ → Option ℕ) → Type 0

@@ -1,80 +1,25 @@
 // Sorted sets whose blocks move.
 
-ghost use Rattle.std.specs.Prelude.{◌≡◌, ◌≢◌, ℕ, ◌+◌, ◌-◌, ◌^◌, ◌<◌, ◌≤◌, ◌⊎◌, [], ◌∷◌, min, length, nat_lt, IsSome, Some, None, true, false, if◌then◌else◌};
-ghost use Rattle.blocks.specs.Blocks.{Changes};
+ghost use Rattle.std.specs.Prelude.{◌≡◌, ◌+◌, ◌-◌, ◌^◌, ◌<◌, ◌≤◌, ◌⊎◌, min, length};
 ghost use Rattle.blocks.specs.Slabs.{wants, Calmer};
 ghost use Rattle.score_table.specs.Scored.{IsScoreTable};
 ghost use Rattle.score_table.specs.Relocation.{IsSettled};
 ghost use Rattle.zset_object.specs.Scored.{IsScored, refs};
-ghost use Rattle.zset_object.specs.Relocation.{IsRelocated, PassesPart, ArePassed, AreCalm, is_within, marks, marks_end, items_from, vacant_marks, vacant_below};
+ghost use Rattle.zset_object.specs.Relocation.{IsRelocated, PassesPart, marks, marks_end, vacant_marks, vacant_below};
+ghost use Rattle.collection_walk.specs.Marks.{ArePassed, IsCalm, is_within, items_from};
 
 use crate::Scored;
-use crate::scored::{Body, Packed};
-use blocks::{BlockStore, Moved, settle};
+use crate::scored::Body;
+use blocks::{BlockStore, Moved};
+use collection_walk::{Part, answer_for, part_from, settle_first};
 use score_table::ScoreTable;
-
-// The marks from `start` to below `end`.
-#[derive(Clone, Copy)]
-struct Part {
-    start: usize,
-    end: usize,
-}
-
-// The part that a call goes through from a mark on, of marks below a number.
-fn part_from(count: usize, from: u128, room: u32) -> Part
-    ensures start { result.start ≡ min from count }
-    ensures end { result.end ≡ min count (result.start + room) }
-{
-    if from >= count as u128 {
-        return Part {
-            start: count,
-            end: count,
-        };
-    }
-    let start = from as usize;
-    let end = count.min(start.saturating_add(room as usize));
-    Part { start, end }
-}
-
-// What a call answers that went through a part, of marks below a number.
-fn answer_for(part: Part, count: usize) -> Moved
-    requires order { part.start ≤ part.end }
-    requires room { part.end < part.start + 2 ^ 32 }
-    ensures next { result.next ≡ (if nat_lt part.end count then Some part.end else None) }
-    ensures used { result.used ≡ part.end - part.start }
-{
-    let used = (part.end - part.start) as u32;
-    if part.end < count {
-        Moved {
-            next: Some(part.end as u128),
-            used,
-        }
-    } else {
-        Moved { next: None, used }
-    }
-}
-
-// Moves the block of a listpack where it wants that and its mark is in the part.
-fn settle_packed<B: BlockStore>(store: &mut B, packed: &mut Packed, part: Part)
-    requires { IsSome (B.blocks store.old packed.old.at) }
-    ensures bytes { B.blocks store.new packed.new.at ≡ B.blocks store.old packed.old.at }
-    ensures len { packed.new.len ≡ packed.old.len }
-    ensures changes { Changes (B.blocks store.old) (B.blocks store.new) (packed.old.at ∷ []) (packed.new.at ∷ []) }
-    ensures calm { is_within part.start part.end 0 ≡ true → wants (B.heap store.new) packed.new.at ≡ false }
-    ensures stays { is_within part.start part.end 0 ≡ false → packed.new.at ≡ packed.old.at }
-    ensures calmer { Calmer (B.heap store.old) (B.heap store.new) }
-{
-    if part.start == 0 && part.end > 0 {
-        packed.at = settle(store, packed.at);
-    }
-}
 
 // Moves the blocks of the members whose item numbers are in a part that want it.
 fn settle_items<B: BlockStore>(store: &mut B, table: &mut ScoreTable, part: Part)
     requires sound { IsScoreTable (B.blocks store.old) table.old }
     requires order { part.start ≤ part.end }
     ensures settled { IsSettled (B.blocks store.old) (B.blocks store.new) table.old table.new (λ i. (i < part.start) ⊎ (part.end ≤ i)) }
-    ensures calm { AreCalm (B.heap store.new) table.new part.start part.end }
+    ensures calm { IsCalm (B.heap store.new) table.new.table part.start part.end }
     ensures calmer { Calmer (B.heap store.old) (B.heap store.new) }
 {
     for item in part.start..part.end {
@@ -112,7 +57,9 @@ impl Scored {
     {
         match &mut self.body {
             Body::Empty => {}
-            Body::Pack(packed) => settle_packed(store, packed, part),
+            Body::Pack(packed) => {
+                packed.at = settle_first(store, packed.at, part.start as u128, part.end as u128);
+            }
             Body::Table(table) => settle_items(store, table, part),
         }
     }

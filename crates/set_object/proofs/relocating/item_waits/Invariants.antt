@@ -1,4 +1,4 @@
-use Rattle.set_object.specs.Relocation.{IsCalm}
+use Rattle.collection_walk.specs.Marks.{IsCalm}
 use Rattle.set_object.proofs.relocating.item_waits.Given as goal
 
 abbrev pub invariant-loop-at : goal.invariant-loop-at

@@ -1,6 +1,7 @@
 use Rattle.std.proofs.Common.{◌≤◌, ◌<◌, ◌⊎◌, inl, inr, arith}
 use Rattle.blocks.proofs.Sweeps.{Calmer-same, Calmer-next}
-use Rattle.set_object.proofs.Settling.{settled_same, settled_more, settled_weaker, calm_more}
+use Rattle.set_object.proofs.Settling.{settled_same, settled_more, settled_weaker}
+use Rattle.collection_walk.proofs.Numbered.{calm_more}
 use Rattle.set_object.proofs.relocating.settle_items.Goals as goal
 
 pub loop-at-init : goal.loop-at-init

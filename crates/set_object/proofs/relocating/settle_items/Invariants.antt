@@ -1,6 +1,7 @@
 use Rattle.std.proofs.Common.{◌≤◌, ◌<◌, ◌⊎◌}
 use Rattle.blocks.specs.Slabs.{Calmer}
-use Rattle.set_object.specs.Relocation.{IsSettled, IsCalm}
+use Rattle.set_object.specs.Relocation.{IsSettled}
+use Rattle.collection_walk.specs.Marks.{IsCalm}
 use Rattle.set_object.proofs.relocating.settle_items.Given as goal
 
 abbrev pub invariant-loop-at : goal.invariant-loop-at

@@ -1,13 +1,15 @@
-use Rattle.std.proofs.Common.{◌≤◌, ◌<◌, ◌⊎◌, inl, inr, arith}
+use Rattle.std.proofs.Common.{◌≡◌, ◌≤◌, ◌<◌, ◌⊎◌, inl, inr, sym, ap, ◌∙◌, arith}
 use Rattle.blocks.proofs.Sweeps.{Calmer-same, Calmer-next}
+use Rattle.rehash_dict.specs.Table.{item}
 use Rattle.score_table.proofs.Settling.{settled_same}
-use Rattle.zset_object.proofs.Settling.{settled_more, settled_weaker, calm_more}
+use Rattle.zset_object.proofs.Settling.{settled_more, settled_weaker}
+use Rattle.collection_walk.proofs.Numbered.{calm_more}
 use Rattle.zset_object.proofs.relocating.settle_items.Goals as goal
 
 pub loop-item-init : goal.loop-item-init
 loop-item-init g c = record {
   settled = settled_same (g.B.BlockStore.blocks c.args.store.now) c.args.table.now _ c.requires.sound;
-  calm = λ i low high e there. absurd (omega (arith, low, high));
+  calm = λ i e low high there. absurd (omega (arith, low, high));
   calmer = Calmer-same (g.B.BlockStore.heap c.args.store.now);
 }
 
@@ -21,7 +23,8 @@ loop-item-preserved g c =
     let one = c.settle_item.ensures in
     record {
       settled = settled_more m (g.B.BlockStore.blocks c.loop-item.store) (g.B.BlockStore.blocks c.settle_item.new.store) c.args.table.now c.loop-item.table c.settle_item.new.self c.args.part.start c.loop-item.item (omega arith) inv.settled one.settled;
-      calm = calm_more (g.B.BlockStore.heap c.loop-item.store) (g.B.BlockStore.heap c.settle_item.new.store) c.loop-item.table c.settle_item.new.self c.args.part.start c.loop-item.item one.calmer one.settled.others inv.calm one.calm;
+      calm = calm_more (g.B.BlockStore.heap c.loop-item.store) (g.B.BlockStore.heap c.settle_item.new.store) c.loop-item.table.table c.settle_item.new.self.table c.args.part.start c.loop-item.item one.calmer one.settled.others inv.calm
+          (λ i e low high there. let same : i ≡ c.loop-item.item = omega (arith, low, high) in one.calm e (ap (item c.settle_item.new.self.table) (sym same) ∙ there));
       calmer = Calmer-next (g.B.BlockStore.heap c.args.store.now) (g.B.BlockStore.heap c.loop-item.store) (g.B.BlockStore.heap c.settle_item.new.store) inv.calmer one.calmer;
     }
 
@@ -34,7 +37,7 @@ returns-clause-settled g c =
     ]) c.loop-item.invariant.settled
 
 pub returns-clause-calm : goal.returns-clause-calm
-returns-clause-calm g c = λ i low high e there. c.loop-item.invariant.calm i low (omega (arith, high, c.loop-item-test.false)) e there
+returns-clause-calm g c = λ i e low high there. c.loop-item.invariant.calm i e low (omega (arith, high, c.loop-item-test.false)) there
 
 pub returns-clause-calmer : goal.returns-clause-calmer
 returns-clause-calmer g c = c.loop-item.invariant.calmer

@@ -1,7 +1,8 @@
 use Rattle.std.proofs.Common.{◌∙◌, sym, subst, ap}
 use Rattle.hash_object.specs.Hashed.{blocks_of}
 use Rattle.hash_object.specs.Fields.{refs_of_body}
-use Rattle.hash_object.specs.Relocation.{ArePassed, is_within, marks_from, marks_in}
+use Rattle.hash_object.specs.Relocation.{marks_from, marks_in}
+use Rattle.collection_walk.specs.Marks.{ArePassed, is_within}
 use Rattle.hash_object.proofs.Moving.{same_marks, marks_passed}
 use Rattle.hash_object.proofs.fields.Fields.settle_part.Goals as goal
 

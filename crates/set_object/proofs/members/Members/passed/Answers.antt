@@ -1,7 +1,8 @@
 use Rattle.std.proofs.Common.{refl, subst}
 use Rattle.std.specs.Prelude.{MatchBool}
 use Rattle.set_object.specs.Members.{refs}
-use Rattle.set_object.specs.Relocation.{WantsMove, ArePassed, is_within, marks}
+use Rattle.set_object.specs.Relocation.{WantsMove, marks}
+use Rattle.collection_walk.specs.Marks.{ArePassed, is_within}
 use Rattle.set_object.proofs.Moving.{passes_part}
 use Rattle.set_object.proofs.members.Members.passed.Goals as goal
 

@@ -1,8 +1,9 @@
 use Rattle.std.proofs.Common.{◌∙◌, sym, subst, ap}
 use Rattle.rehash_dict.specs.MapOf.{key_refs}
 use Rattle.set_object.specs.Members.{refs_of}
-use Rattle.set_object.specs.Relocation.{ArePassed, is_within, items_from, marks_in}
-use Rattle.set_object.proofs.Moving.{same_marks, items_passed}
+use Rattle.set_object.specs.Relocation.{marks_in}
+use Rattle.collection_walk.specs.Marks.{ArePassed, is_within, items_from}
+use Rattle.collection_walk.proofs.Numbered.{same_marks, items_passed}
 use Rattle.set_object.proofs.members.Members.settle_part.Goals as goal
 
 pub returns-in-Table-clause-marks : goal.returns-in-Table-clause-marks

@@ -1,7 +1,7 @@
 use Rattle.std.proofs.Common.{◌≡◌, ◌++◌}
 use Rattle.rehash_dict.specs.Scan.{Extends}
-use Rattle.zset_object.specs.Scan.{upto}
-use Rattle.zset_object.proofs.scanning.push_below.Given as goal
+use Rattle.collection_walk.specs.Places.{upto}
+use Rattle.collection_walk.proofs.scanning.push_below.Given as goal
 
 abbrev pub invariant-loop-index : goal.invariant-loop-index
 invariant-loop-index l = record {

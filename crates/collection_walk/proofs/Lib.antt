@@ -1,0 +1,4 @@
+pub mod Spans
+pub mod Ranks
+pub mod Numbered
+pub mod Passing
