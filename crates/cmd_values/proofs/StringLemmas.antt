@@ -51,7 +51,7 @@ use Rattle.plain_model.specs.declared.times.TimeOrigin.TheVariants.{Now}
 use Rattle.cmd_values.proofs.Ranges.{written_length}
 use Rattle.plain_world.proofs.Lives.{live_put_in_time, live_remove}
 use Rattle.keyspace.proofs.Uses.{Put-means, Look-put, Put-twice}
-use Rattle.cmd_values.specs.Found.{GivesIn, Gives, FoundText, IsThere, Becomes, IsBefore, OldValue, NumberAt, IsSetReply, values_at}
+use Rattle.cmd_values.specs.Found.{GivesIn, Gives, FoundText, IsThere, Becomes, IsStringBefore, OldValue, NumberAt, IsSetReply, values_at}
 
 -- what a command gives is a step of the model
 pub step_of : {E : Type 0} (seed moment : ℕ) (old new : World) (command : Command) (own same : StringCommand) (result : Result (List Part) E)
@@ -61,7 +61,7 @@ step_of seed moment old new command own same (Ok reply) e f given =
 step_of seed moment old new command own same (Err x) e f given = tt
 
 -- a string that stands at a key
-pub some_before : (world : World) (key bytes : List ℕ) (deadline : Option ℕ) → look world key ≡ Some (record { value = Str bytes; deadline = deadline }) → IsBefore world key (Some bytes)
+pub some_before : (world : World) (key bytes : List ℕ) (deadline : Option ℕ) → look world key ≡ Some (record { value = Str bytes; deadline = deadline }) → IsStringBefore world key (Some bytes)
 some_before world key bytes deadline e = λ answer. ap (λ o. on_string world o answer) e
 
 -- the old value as a reply
@@ -145,7 +145,7 @@ removed at bases new m later key reply old h =
 
 -- ---- APPEND and SETRANGE
 
-there_before : (world : World) (key bytes : List ℕ) → IsThere world key bytes → IsBefore world key (Some bytes)
+there_before : (world : World) (key bytes : List ℕ) → IsThere world key bytes → IsStringBefore world key (Some bytes)
 there_before world key bytes t = some_before world key bytes t.deadline t.stands
 
 -- a string that is there is appended to
@@ -163,7 +163,7 @@ append_some moment old new key tail bytes n (Err x) there long few becomes is = 
 
 -- a piece is written into the string that counts as being there
 written_reply : {E : Type 0} (moment : ℕ) (old new : World) (key piece bytes : List ℕ) (at n : ℕ) (result : Result (List Part) E) (before : Option (List ℕ))
-    → IsBefore old key before → or_empty before ≡ bytes → 0 < length piece → n ≡ max (length bytes) (at + length piece) → new ≡ change old key (written_over bytes at piece)
+    → IsStringBefore old key before → or_empty before ≡ bytes → 0 < length piece → n ≡ max (length bytes) (at + length piece) → new ≡ change old key (written_over bytes at piece)
     → IfOk result (λ reply. reply ≡ Number (pos n) ∷ []) → GivesIn moment old (strings.SetRange key at piece) new result
 written_reply moment old new key piece bytes at n (Ok reply) before was same some long becomes is =
     let none : (length piece == 0) ≡ false = ne_eqb (length piece) 0 (λ e. omega arith) in

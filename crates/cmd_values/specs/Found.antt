@@ -1,5 +1,6 @@
 -- The string at a key, and what a command on strings gives.
-use Rattle.std.specs.Prelude.{◌≡◌, ◌<◌, ◌^◌, ℕ, ℤ, List, [], ◌∷◌, length, map, Result, Option, Some, None, IfOk, Bool, true, false, if◌then◌else◌}
+use Rattle.std.specs.Prelude.{◌≡◌, ◌<◌, ◌^◌, ℕ, ℤ, List, [], ◌∷◌, length, map, Result, Option, Some, None, IfOk, Bool}
+use Rattle.std.specs.Prelude.{true, false, if◌then◌else◌}
 use Rattle.blocks.specs.Blocks.{Blocks, Owned}
 use Rattle.string_object.specs.declared.text.Text.{Text}
 use Rattle.string_object.specs.Text.{text_bytes, text_refs}
@@ -8,7 +9,8 @@ use Rattle.plain_model.specs.Outcomes.{Outcome, leaves, refused}
 use Rattle.plain_model.specs.declared.ctx.Ctx.{Ctx}
 use Rattle.keyspace.specs.Databases.{Keyspace}
 use Rattle.keyspace.specs.Commands.{sight}
-use Rattle.plain_model.specs.StringSteps.{string_outcome, on_string, or_null, string_or_null, number_at, change, ok, with_lifetime}
+use Rattle.plain_model.specs.StringSteps.{string_outcome, on_string, or_null, string_or_null, number_at, change, ok}
+use Rattle.plain_model.specs.StringSteps.{with_lifetime}
 use Rattle.plain_model.specs.declared.times.Lifetime.{Lifetime}
 use Rattle.plain_world.specs.declared.refusal.Refusal.TheVariants.{InvalidExpireTime}
 use Rattle.plain_model.specs.declared.command.StringCommand.{StringCommand}
@@ -36,13 +38,14 @@ abbrev pub Becomes : World → List ℕ → (List ℕ → List ℕ) → World �
 Becomes old key next new = (bytes : List ℕ) → IsThere old key bytes → new ≡ change old key (next bytes)
 
 -- whatever is made of the string at the key is made of this one, or of none
-abbrev pub IsBefore : World → List ℕ → Option (List ℕ) → Type 0
-IsBefore world key before = (answer : Option (List ℕ) → Outcome) → on_string world (look world key) answer ≡ answer before
+abbrev pub IsStringBefore : World → List ℕ → Option (List ℕ) → Type 0
+IsStringBefore world key before =
+    (answer : Option (List ℕ) → Outcome) → on_string world (look world key) answer ≡ answer before
 
 -- the reply is the string at the key, or null
 pub record OldValue (world : World) (key : List ℕ) (reply : List Part) : Type 0 where
   pub before : Option (List ℕ)
-  pub is : IsBefore world key before
+  pub is : IsStringBefore world key before
   pub reply_is : reply ≡ or_null before ∷ []
 
 -- what is made of a deadline that was decided on; of one that 64 bits with a sign don't hold, the refusal
@@ -52,12 +55,13 @@ decided old (Some deadline) answer = answer deadline
 
 -- whatever is made of the deadline that SET gives is made of this one
 abbrev pub IsLifetime : World → ℕ → List ℕ → Lifetime → Option (Option ℕ) → Type 0
-IsLifetime old moment key lifetime deadline = (answer : Option ℕ → Outcome) → with_lifetime old moment key lifetime answer ≡ decided old deadline answer
+IsLifetime old moment key lifetime deadline =
+    (answer : Option ℕ → Outcome) → with_lifetime old moment key lifetime answer ≡ decided old deadline answer
 
 -- the number that the string at the key is, where it is one
 pub record NumberAt (world : World) (key : List ℕ) (number : Option ℤ) : Type 0 where
   pub before : Option (List ℕ)
-  pub is : IsBefore world key before
+  pub is : IsStringBefore world key before
   pub number_is : number_at before ≡ number
 
 -- the string at a key, or null where none stands
@@ -73,7 +77,8 @@ abbrev pub GivesIn : {E : Type 0} → ℕ → World → StringCommand → World 
 GivesIn moment old command new result = IfOk result (λ reply. string_outcome moment old command ≡ leaves reply new)
 
 -- from what the old keyspace means the command gives this reply, and leaves what the new one means
-abbrev pub Gives : {S E : Type 0} → (S → Blocks) → Keyspace S → Keyspace S → Ctx → StringCommand → Result (List Part) E → Type 0
+abbrev pub Gives : {S E : Type 0} → (S → Blocks) → Keyspace S → Keyspace S → Ctx → StringCommand
+    → Result (List Part) E → Type 0
 Gives blocks old new at command result = GivesIn at.moment (sight blocks old at) command (sight blocks new at) result
 
 -- the reply of SET: the old value where it is asked for, else OK, or null where nothing is written
