@@ -16,7 +16,7 @@ use Rattle.command_table.specs.declared.table.Name.TheVariants as family
 use Rattle.command_table.specs.declared.table.StringName.TheVariants as string
 use Rattle.command_table.specs.declared.table.KeyName.TheVariants as key
 use Rattle.command_table.specs.declared.table.ConnectionName.TheVariants as connection
-use Rattle.command_table.specs.Readings.{at, Tells, Reads}
+use Rattle.command_table.specs.Readings.{at, Tells, ReadsCommand}
 use Rattle.command_table.specs.Rows.{fits, row_of}
 use Rattle.command_table.proofs.Shapes.{from_place}
 
@@ -30,7 +30,7 @@ by_name words name some e =
     let twice : in_lower_case (at words 0) ≡ in_lower_case name = sym (lower_twice (at words 0)) ∙ ap in_lower_case e in
     ap meant (from_place words 0 some) ∙ ap (λ l. read_by rows l (drop 1 words)) twice
 
-pub reads_by_name : (words : Words) (name : List ℕ) (answer : Result Command ReadingFault) → 0 < length words → in_lower_case (at words 0) ≡ name → Reads (name ∷ drop 1 words) answer → Reads words answer
+pub reads_by_name : (words : Words) (name : List ℕ) (answer : Result Command ReadingFault) → 0 < length words → in_lower_case (at words 0) ≡ name → ReadsCommand (name ∷ drop 1 words) answer → ReadsCommand words answer
 reads_by_name words name answer some e h =
     let P : Result Command Refusal → Type 0 = λ means. Tells means answer in
     subst P (sym (by_name words name some e)) h
@@ -100,6 +100,6 @@ refused_by_name words name shape len answer some e is len_is answers unfit =
     by_name words (row_of name).0 some e ∙ unfitting name (drop 1 words) fitting
 
 -- a command that is read is asked
-pub asked : (words : Words) (answer : Result Command ReadingFault) → IsRequest words → Reads words answer → IfOk answer (λ command. IsAsked command)
+pub asked : (words : Words) (answer : Result Command ReadingFault) → IsRequest words → ReadsCommand words answer → IfOk answer (λ command. IsAsked command)
 asked words (Ok command) request h = record { words = words; request = request; means = h }
 asked words (Err fault) request h = tt

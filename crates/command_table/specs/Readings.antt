@@ -1,5 +1,6 @@
 -- What is read of words.
-use Rattle.std.specs.Prelude.{◌≡◌, ℕ, ◌+◌, ℤ, List, [], ◌∷◌, length, drop, slice_index_or, codes, nat_le, Option, Some, None, Result, Ok, Err, if◌then◌else◌}
+use Rattle.std.specs.Prelude.{◌≡◌, ℕ, ◌+◌, ℤ, List, [], ◌∷◌, length, drop, slice_index_or, codes, nat_le, Option}
+use Rattle.std.specs.Prelude.{Some, None, Result, Ok, Err, if◌then◌else◌}
 use Rattle.plain_world.specs.Words.{Words, in_lower_case}
 use Rattle.plain_model.specs.Shapes.{Kind, Whole, Span, Told, AllTold, told, all_told, and_then, choice_of, chosen}
 use Rattle.plain_model.specs.Meant.{meant}
@@ -37,11 +38,13 @@ Tells {A} means answer = TellsAs (λ (a : A). a) means answer
 -- what words of these kinds tell that stand from this place on
 abbrev pub told_at : (kinds : List Kind) → Words → ℕ → Result (AllTold kinds) Refusal
 told_at [] words i = Ok tt
-told_at (kind ∷ kinds) words i = and_then (told kind (at words i)) (λ a. and_then (told_at kinds words (i + 1)) (λ rest. Ok (a, rest)))
+told_at (kind ∷ kinds) words i =
+    and_then (told kind (at words i)) (λ a. and_then (told_at kinds words (i + 1)) (λ rest. Ok (a, rest)))
 
 -- the one word of an option, which stands first
 abbrev pub own_word : (kind : Kind) → Words → Result (Told kind) Refusal
-own_word kind words = if nat_le 1 (length words) then and_then (all_told (kind ∷ []) words) (λ own. Ok own.0) else Err Syntax
+own_word kind words =
+    if nat_le 1 (length words) then and_then (all_told (kind ∷ []) words) (λ own. Ok own.0) else Err Syntax
 
 -- the time of an option
 abbrev pub own_time : TimeUnit → TimeOrigin → Words → Result Time Refusal
@@ -77,8 +80,10 @@ IsGetExOption word None = choice_of getex_choices (in_lower_case word) ≡ None
 -- the key, the number and the options of EXPIRE and its like
 abbrev pub expire_parts : Words → Result (List ℕ × ℤ × ExpireOptions) Refusal
 expire_parts words =
-    and_then (told Whole (at words 2)) (λ n. and_then (chosen expire_choices no_expire_options 0 (drop 3 words)) (λ options. if clash options then Err Syntax else Ok (at words 1, n, options)))
+    and_then (told Whole (at words 2))
+    (λ n. and_then (chosen expire_choices no_expire_options 0 (drop 3 words))
+    (λ options. if clash options then Err Syntax else Ok (at words 1, n, options)))
 
 -- The answer is what a request with these words means: its command, or its refusal. Want of memory is free.
-abbrev pub Reads : Words → Result Command ReadingFault → Type 0
-Reads words answer = Tells (meant words) answer
+abbrev pub ReadsCommand : Words → Result Command ReadingFault → Type 0
+ReadsCommand words answer = Tells (meant words) answer

@@ -1,5 +1,6 @@
 -- Which words each row of the code's table takes.
-use Rattle.std.specs.Prelude.{◌≡◌, ℕ, ◌-◌, ◌%◌, ◌==◌, List, [], ◌∷◌, length, map, Bool, true, false, ◌||◌, ◌&&◌, if◌then◌else◌, bytes_eq, nat_lt, nat_le, Option, Some, None, codes, Err}
+use Rattle.std.specs.Prelude.{◌≡◌, ℕ, ◌-◌, ◌%◌, ◌==◌, List, [], ◌∷◌, length, map, Bool, true, false, ◌||◌, ◌&&◌}
+use Rattle.std.specs.Prelude.{if◌then◌else◌, bytes_eq, nat_lt, nat_le, Option, Some, None, codes, Err}
 use Rattle.plain_world.specs.Words.{Words, in_lower_case}
 use Rattle.plain_model.specs.Meant.{rows, meant}
 use Rattle.plain_world.specs.declared.refusal.Refusal.TheVariants.{UnknownCommand}
@@ -112,7 +113,8 @@ pub record IsTable (table : List Row) (len : ℕ) : Type 0 where
 -- the first of these rows with this name, whatever the case of either
 abbrev pub found_in : List Row → List ℕ → Option (Name × Shape)
 found_in [] word = None
-found_in (row ∷ behind) word = if bytes_eq (in_lower_case word) (in_lower_case row.0.now) then Some (row.1, row.2) else found_in behind word
+found_in (row ∷ behind) word =
+    if bytes_eq (in_lower_case word) (in_lower_case row.0.now) then Some (row.1, row.2) else found_in behind word
 
 -- what the look-up of a word answers: the row of that name; or it names no command
 abbrev pub Finds : List ℕ → Option (Name × Shape) → Type 0

@@ -2,7 +2,7 @@
 
 ghost use Rattle.std.specs.Prelude.{◌≡◌, ◌<◌, ◌∷◌, length, drop, IfOk, true};
 ghost use Rattle.plain_model.specs.Meant.{meant, IsAsked};
-ghost use Rattle.command_table.specs.Readings.{Reads};
+ghost use Rattle.command_table.specs.Readings.{ReadsCommand};
 ghost use Rattle.command_table.specs.Rows.{fits, row_of};
 
 use crate::ReadingFault;
@@ -18,7 +18,7 @@ use std::alloc::Global;
 fn read_named(alloc: Global, name: Name, request: &Request<'_>) -> Result<Command, ReadingFault>
     requires some { 0 < length request.now }
     requires shape { fits (row_of name).1 (length (drop 1 request.now)) ≡ true }
-    ensures { Reads ((row_of name).0 ∷ drop 1 request.now) result }
+    ensures { ReadsCommand ((row_of name).0 ∷ drop 1 request.now) result }
 {
     match name {
         Name::Strings(name) => read_string(alloc, name, request).map(Command::Strings),
@@ -32,7 +32,7 @@ fn read_named(alloc: Global, name: Name, request: &Request<'_>) -> Result<Comman
 ///
 /// `Memory` where there is none for the words that the command keeps.
 pub fn read(alloc: Global, request: &Request<'_>) -> Result<Command, ReadingFault>
-    ensures reads { Reads request.now result }
+    ensures reads { ReadsCommand request.now result }
     ensures asked { IfOk result (λ command. IsAsked command) }
 {
     let behind = request.len() - 1;
