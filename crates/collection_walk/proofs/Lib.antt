@@ -2,3 +2,5 @@ pub mod Spans
 pub mod Ranks
 pub mod Numbered
 pub mod Passing
+pub mod Ending
+pub mod Replaced

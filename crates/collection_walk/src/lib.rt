@@ -9,6 +9,6 @@ mod scanning;
 
 pub use blocks::{Memory, Moved};
 pub use copying::copy_block;
-pub use items::next_item;
+pub use items::{end_table, next_item};
 pub use marks::{Part, answer_at, answer_for, part_from, settle_first};
 pub use scanning::push_all;

@@ -1,13 +1,12 @@
 -- What a hash's body depends on, and a body that takes another's place.
-use Rattle.std.proofs.Common.{◌≡◌, ◌≢◌, ℕ, ◌≤◌, List, [], ◌++◌, length, Some, unwrap_or, refl, sym, ap, ◌∙◌, subst, arith}
-use Rattle.std.proofs.lemmas.List.{append-nil}
+use Rattle.std.proofs.Common.{◌≡◌, ◌≢◌, ℕ, ◌≤◌, List, [], length, Some, unwrap_or, refl, sym, ap, ◌∙◌, subst, arith}
 use Rattle.std.specs.FinMap.{len, len-empty}
 use Rattle.std.specs.Ordering.{nat_cmp}
 use Rattle.std.specs.Cmp.Lexicographic.{slice_cmp}
 use Rattle.blocks.specs.declared.BlockRef.{BlockRef}
-use Rattle.blocks.specs.Blocks.{Blocks, times, IsIn, bytes_at, Changes, Owned}
-use Rattle.blocks.proofs.Times.{times-append}
-use Rattle.blocks.proofs.Change.{live-once, Changes-beside, Changes-owned, Changes-both, Owned-others}
+use Rattle.blocks.specs.Blocks.{Blocks, IsIn, bytes_at, Changes}
+use Rattle.blocks.proofs.Change.{Changes-owned}
+use Rattle.collection_walk.proofs.Replaced.{new_kept, replaced}
 use Rattle.object_codec.specs.declared.limits.Limits.{Limits}
 use Rattle.object_codec.specs.declared.form.Form.TheVariants.{Listpack, Hashtable}
 use Rattle.pack_pairs.specs.Pairs.{IsOnce, pairs, map_of_pairs, longest}
@@ -48,19 +47,6 @@ len_of m limits seed (Pack packed) is = is.counted ∙ sym (map_len (pairs (byte
 len_of m limits seed (Table t) is = sym (len-map_of m (λ v. bytes_at m v) t is.keyed)
 
 -- ---- another body was placed, and the blocks of the old one were given back
-
-module _ (a b c : Blocks) (old new : List BlockRef) (own : Owned old a) (p : Changes a b [] new) where
-  both_owned : Owned (new ++ old) b
-  both_owned = Changes-owned a b old (new ++ old) (Changes-beside a b [] new old (new ++ old) p own (λ r. times r old) (λ r. omega arith) (λ r. times-append r new old))
-
-  pub old_owned : Owned old b
-  old_owned r = omega (arith, both_owned r, times-append r new old)
-
-  pub new_kept : Changes b c old [] → (r : BlockRef) → IsIn r new → c r ≡ b r
-  new_kept q r isin = Owned-others b c old [] (new ++ old) both_owned q r (omega (arith, isin, times-append r new old)) (omega (arith, isin, both_owned r, times-append r new old, live-once b r))
-
-  pub replaced : Changes b c old [] → Changes a c old new
-  replaced q = subst (Changes a c old) (append-nil new) (Changes-both a b c [] new old [] own p q)
 
 pub body_changed : (a b c : Blocks) (f : Fields) (body : Body) (map : FieldMap) → IsFields a f → IsBody b f.limits f.seed body → Changes a b [] (refs_of_body body) → Changes b c (refs f) []
     → fields_of b body ≡ map → Grown (hash_of f.seed) (tables a f) (tables_of b body) → IsChanged a c f (record f { body = body }) map

@@ -19,7 +19,7 @@ use Rattle.hash_object.specs.Hashed.{FieldTable, IsHashed, fields_in, entries_in
 use Rattle.hash_object.specs.Fields.{IsFields, IsBody, IsPlacedBody, fields, fields_of, refs_of_body, no_tables}
 use Rattle.hash_object.specs.Items.{entry_at}
 use Rattle.hash_object.proofs.Tables.{self, table_kept, lacks_field, has_key, has_value}
-use Rattle.hash_object.proofs.Bodies.{old_owned}
+use Rattle.collection_walk.proofs.Replaced.{old_owned}
 use Rattle.hash_object.proofs.Listed.{table_listed, table_once, slots_len}
 use Rattle.hash_object.proofs.Ranks.{pair_there, pair_of_element}
 use Rattle.collection_walk.proofs.Ranks.{rank, rank_next, rank_past, rank_zero, rank_below, rank_all}

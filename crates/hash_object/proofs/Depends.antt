@@ -11,8 +11,7 @@ use Rattle.hash_object.specs.declared.fields.Fields.{Fields}
 use Rattle.hash_object.specs.Fields.{IsFields, fields_of, refs, refs_of_body, tables}
 use Rattle.hash_object.specs.Relocation.{marks_from, marks_in}
 use Rattle.hash_object.specs.Laws.{FieldsLaws}
-use Rattle.hash_object.proofs.Tables.{self}
-use Rattle.hash_object.proofs.Ending.{names}
+use Rattle.hash_object.proofs.Tables.{self, names}
 use Rattle.hash_object.proofs.Listed.{Slots, slot_pairs, table_listed, arranged}
 use Rattle.hash_object.proofs.Bodies.{body_kept}
 

@@ -1,5 +1,4 @@
 pub mod Tables
-pub mod Ending
 pub mod Bodies
 pub mod Forms
 pub mod Placing

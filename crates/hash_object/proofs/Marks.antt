@@ -12,7 +12,7 @@ use Rattle.hash_object.specs.Hashed.{FieldTable}
 use Rattle.hash_object.specs.Relocation.{marks_from, vacant_mark, vacant_below, units_in, block_in}
 use Rattle.collection_walk.specs.Marks.{is_within}
 use Rattle.hash_object.proofs.Listed.{Slots}
-use Rattle.hash_object.proofs.Ending.{names}
+use Rattle.hash_object.proofs.Tables.{names}
 use Rattle.collection_walk.proofs.Ranks.{rank, rank_zero, rank_past, rank_next, rank_all}
 
 -- ---- the two marks of an item number

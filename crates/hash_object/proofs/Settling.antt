@@ -18,9 +18,8 @@ use Rattle.hash_object.specs.declared.fields.Body.TheVariants.{Pack}
 use Rattle.hash_object.specs.Hashed.{FieldTable, fields_in, blocks_of}
 use Rattle.hash_object.specs.Fields.{IsBody, IsFieldPack, fields_of}
 use Rattle.hash_object.specs.Relocation.{IsSettled, IsCalm, block_in}
-use Rattle.hash_object.proofs.Tables.{self, value_block, entry_within, has_key, has_value}
+use Rattle.hash_object.proofs.Tables.{self, value_block, entry_within, has_key, has_value, names}
 use Rattle.hash_object.proofs.Listed.{Slots}
-use Rattle.hash_object.proofs.Ending.{names}
 use Rattle.hash_object.proofs.Marks.{key_slot, value_slot, even_is, odd_is, halves}
 
 pub settled_same : (m : Blocks) (t : FieldTable) (stays : ℕ → Type 0) → Keyed m t → Owned (blocks_of t) m → IsSettled m m t t stays

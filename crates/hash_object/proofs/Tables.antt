@@ -24,6 +24,10 @@ use Rattle.hash_object.specs.Hashed.{FieldTable, fields_in, blocks_of, no_fields
 abbrev pub value_block : BlockRef → List BlockRef
 value_block at = at ∷ []
 
+-- the blocks of an element
+abbrev pub names : Option (Element BlockRef) → List BlockRef
+names = own_of value_block
+
 pub self : (r : BlockRef) → one r r ≡ 1
 self r = cond-true _ _ _ (ref_eq-refl r)
 

@@ -3,7 +3,6 @@ pub mod Among
 pub mod Agreeing
 pub mod Edits
 pub mod Ranked
-pub mod Ending
 pub mod Settling
 pub mod Depends
 pub mod Copies

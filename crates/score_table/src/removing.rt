@@ -8,6 +8,7 @@ ghost use Rattle.score_table.specs.Scored.{IsScoreTable, IsChanged, scores, refs
 
 use crate::ScoreTable;
 use blocks::{BlockStore, Memory};
+use collection_walk::end_table;
 
 impl ScoreTable {
     /// Takes a member out, gives its block back, and answers its score. `None` comes exactly where it isn't there. It takes no memory.
@@ -48,10 +49,6 @@ impl ScoreTable {
         ensures changes { Changes (B.blocks store.old) (B.blocks store.new) (refs self) [] }
         ensures served { Served B.step store.old store.new }
     {
-        for at in 0..self.table.top() {
-            if self.table.is_entry(at) {
-                store.give_back(self.table.entry(at).0);
-            }
-        }
+        end_table(store, self.table);
     }
 }

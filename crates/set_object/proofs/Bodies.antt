@@ -1,17 +1,18 @@
 -- What a set's body depends on, and a body that takes another's place.
-use Rattle.std.proofs.Common.{◌≡◌, ℕ, zero, suc, ◌≤◌, List, [], ◌∷◌, ◌++◌, Option, Some, unwrap_or, refl, sym, ap, ◌∙◌, subst, arith, flat_map}
-use Rattle.std.proofs.lemmas.List.{append-nil, length-map}
+use Rattle.std.proofs.Common.{◌≡◌, ℕ, zero, suc, ◌≤◌, List, [], ◌∷◌, Option, Some, unwrap_or, refl, sym, ap, ◌∙◌, subst, arith, flat_map}
+use Rattle.std.proofs.lemmas.List.{length-map}
 use Rattle.std.specs.FinMap.{len, len-empty}
 use Rattle.std.specs.Ordering.{nat_cmp}
 use Rattle.std.specs.Cmp.Lexicographic.{slice_cmp}
 use Rattle.std.proofs.lemmas.Bool.{cond-true}
 use Rattle.blocks.specs.declared.BlockRef.{BlockRef}
-use Rattle.blocks.specs.Blocks.{Blocks, times, IsIn, bytes_at, Changes, Owned}
+use Rattle.blocks.specs.Blocks.{Blocks, times, IsIn, bytes_at, Changes}
 use Rattle.blocks.proofs.Refs.{ref_eq-refl}
 use Rattle.blocks.proofs.Times.{times-append}
-use Rattle.blocks.proofs.Change.{one, live-once, Changes-beside, Changes-owned, Changes-both, Owned-others}
+use Rattle.blocks.proofs.Change.{one, Changes-owned}
 use Rattle.int_text.specs.Decimal.{canonical}
 use Rattle.intset.specs.Intset.{numbers_of}
+use Rattle.collection_walk.proofs.Replaced.{new_kept, replaced}
 use Rattle.object_codec.specs.declared.limits.Limits.{Limits}
 use Rattle.rehash_dict.specs.Table.{Element, item, at_item, table_len}
 use Rattle.rehash_dict.specs.Keyed.{hash_of}
@@ -74,16 +75,6 @@ len_of m limits seed (Pack packed) is = is.counted ∙ sym is.once
 len_of m limits seed (Table t) is = sym (len-map_of m (λ v. v) t is.keyed)
 
 -- ---- another body was placed, and the blocks of the old one were given back
-
-module _ (a b c : Blocks) (old new : List BlockRef) (own : Owned old a) (p : Changes a b [] new) where
-  both_owned : Owned (new ++ old) b
-  both_owned = Changes-owned a b old (new ++ old) (Changes-beside a b [] new old (new ++ old) p own (λ r. times r old) (λ r. omega arith) (λ r. times-append r new old))
-
-  pub new_kept : Changes b c old [] → (r : BlockRef) → IsIn r new → c r ≡ b r
-  new_kept q r isin = Owned-others b c old [] (new ++ old) both_owned q r (omega (arith, isin, times-append r new old)) (omega (arith, isin, both_owned r, times-append r new old, live-once b r))
-
-  pub replaced : Changes b c old [] → Changes a c old new
-  replaced q = subst (Changes a c old) (append-nil new) (Changes-both a b c [] new old [] own p q)
 
 pub body_changed : (a b c : Blocks) (m : Members) (body : Body) (set : Strings) → IsMembers a m → IsBody b m.limits m.seed body → Changes a b [] (refs_of body) → Changes b c (refs m) []
     → members_of b body ≡ set → Grown (hash_of m.seed) (tables a m) (tables_of b body) → IsChanged a c m (record m { body = body }) set

@@ -10,10 +10,9 @@ use Rattle.set_object.specs.declared.members.Members.{Members}
 use Rattle.set_object.specs.Strings.{set_of}
 use Rattle.set_object.specs.Members.{IsMembers, members_of, refs, refs_of, tables, key_in}
 use Rattle.set_object.specs.Relocation.{marks_in}
-use Rattle.collection_walk.proofs.Numbered.{items_marked}
+use Rattle.collection_walk.proofs.Numbered.{items_marked, names}
 use Rattle.set_object.specs.Laws.{MembersLaws}
 use Rattle.set_object.proofs.Listed.{Slots, table_listed, arranged}
-use Rattle.set_object.proofs.Ending.{names}
 use Rattle.set_object.proofs.Bodies.{self, body_kept}
 
 module _ (a b : Blocks) where

@@ -2,7 +2,6 @@ pub mod Sets
 pub mod Taking
 pub mod Texts
 pub mod Hashing
-pub mod Ending
 pub mod Bodies
 pub mod Forms
 pub mod Packing

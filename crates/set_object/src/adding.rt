@@ -10,10 +10,11 @@ ghost use Rattle.set_object.specs.Strings.{has, set_of, IsRisen};
 ghost use Rattle.set_object.specs.Members.{IsMembers, IsChanged, IsNumbers, IsPackOf, IsNumberList, IsPlacedBody, members, number_texts, form_of, form_of_body, listed, refs, refs_of};
 
 use crate::Members;
-use crate::hashed::{end_table, hash_member, hash_pack};
+use crate::hashed::{hash_member, hash_pack};
 use crate::members::{Body, Packed};
 use crate::packs::{is_number, longest_number, pack_numbers};
 use blocks::{BlockStore, Memory, put_block};
+use collection_walk::end_table;
 use int_text::read_i64;
 use object_codec::{Form, Limits, set_form};
 use std::mem;

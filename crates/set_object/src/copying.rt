@@ -12,10 +12,10 @@ ghost use Rattle.set_object.specs.Hashed.{IsHashed, no_members};
 ghost use Rattle.set_object.specs.Members.{IsMembers, IsPlacedBody, KeepsSettings, members, form_of, form_of_body, refs, tables, no_tables};
 
 use crate::Members;
-use crate::hashed::{end_table, hash_member};
+use crate::hashed::hash_member;
 use crate::members::{Body, Packed};
 use blocks::{BlockStore, Memory};
-use collection_walk::copy_block;
+use collection_walk::{copy_block, end_table};
 use rehash_dict::Dict;
 use std::alloc::Global;
 

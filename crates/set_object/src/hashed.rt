@@ -1,34 +1,22 @@
 // Members that are blocks of their own, in a dictionary.
 
-ghost use Rattle.std.specs.Prelude.{◌≡◌, ◌≢◌, [], IfOk, OnOk, OnErr, Ok, true, false};
+ghost use Rattle.std.specs.Prelude.{◌≡◌, ◌≢◌, IfOk, OnOk, OnErr, Ok, true, false};
 ghost use Rattle.std.specs.FinMap.{insert, remove};
-ghost use Rattle.blocks.specs.Blocks.{Changes, Owned, Served};
+ghost use Rattle.blocks.specs.Blocks.{Served};
 ghost use Rattle.listpack.specs.Element.{element_text};
 ghost use Rattle.listpack.specs.Pack.{IsPack, texts};
 ghost use Rattle.rehash_dict.specs.Keyed.{Keyed, key_tables};
-ghost use Rattle.rehash_dict.specs.MapOf.{content, key_refs};
+ghost use Rattle.rehash_dict.specs.MapOf.{content};
 ghost use Rattle.rehash_dict.specs.Tables.{IsSettled};
 ghost use Rattle.set_object.specs.Strings.{set_of, has, IsOnce};
 ghost use Rattle.set_object.specs.Hashed.{IsHashed, no_members};
 
 use blocks::{BlockStore, Memory, put_block};
+use collection_walk::end_table;
 use itoa::Buffer;
 use listpack::Element;
 use rehash_dict::Dict;
 use std::alloc::Global;
-
-/// Gives back the blocks of all members.
-pub(crate) fn end_table<B: BlockStore>(store: &mut B, table: Dict<()>)
-    requires { Owned (key_refs table) (B.blocks store.old) }
-    ensures changes { Changes (B.blocks store.old) (B.blocks store.new) (key_refs table) [] }
-    ensures served { Served B.step store.old store.new }
-{
-    for at in 0..table.top() {
-        if table.is_entry(at) {
-            store.give_back(table.entry(at).0);
-        }
-    }
-}
 
 /// Places the block of a member that isn't there, and puts it into the dictionary. `Memory` leaves dictionary and blocks.
 pub(crate) fn hash_member<B: BlockStore>(

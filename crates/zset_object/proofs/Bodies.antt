@@ -1,15 +1,14 @@
 -- What a sorted set's body depends on, and a body that takes another's place.
-use Rattle.std.proofs.Common.{◌≡◌, ◌≢◌, ℕ, ◌≤◌, ℤ, List, [], ◌++◌, length, unwrap_or, refl, sym, ap, ◌∙◌, subst, arith}
-use Rattle.std.proofs.lemmas.List.{append-nil}
+use Rattle.std.proofs.Common.{◌≡◌, ◌≢◌, ℕ, ◌≤◌, ℤ, [], length, unwrap_or, refl, sym, ap, ◌∙◌, subst, arith}
 use Rattle.std.specs.FinMap.{len, len-empty}
 use Rattle.std.specs.Ordering.{nat_cmp}
 use Rattle.std.specs.Cmp.Lexicographic.{slice_cmp}
 use Rattle.blocks.specs.declared.BlockRef.{BlockRef}
-use Rattle.blocks.specs.Blocks.{Blocks, times, IsIn, bytes_at, Changes, Owned}
+use Rattle.blocks.specs.Blocks.{Blocks, IsIn, bytes_at, Changes}
 use Rattle.std.proofs.lemmas.Bool.{cond-true}
 use Rattle.blocks.proofs.Refs.{ref_eq-refl}
-use Rattle.blocks.proofs.Times.{times-append}
-use Rattle.blocks.proofs.Change.{one, live-once, Changes-beside, Changes-owned, Changes-both, Owned-others}
+use Rattle.blocks.proofs.Change.{one, Changes-owned}
+use Rattle.collection_walk.proofs.Replaced.{new_kept, replaced}
 use Rattle.object_codec.specs.declared.limits.Limits.{Limits}
 use Rattle.object_codec.specs.declared.form.Form.TheVariants.{Listpack, Skiplist}
 use Rattle.pack_pairs.specs.Pairs.{IsOnce, pairs}
@@ -54,19 +53,6 @@ pack_len m limits seed body p is sound =
     old.counted ∙ sym (once_len (pairs (bytes_at m p.at)) old.pack.once) ∙ sym (ap (λ b. len (scores_of m b)) is)
 
 -- ---- another body was placed, and the blocks of the old one were given back
-
-module _ (a b c : Blocks) (old new : List BlockRef) (own : Owned old a) (p : Changes a b [] new) where
-  pub both_owned : Owned (new ++ old) b
-  both_owned = Changes-owned a b old (new ++ old) (Changes-beside a b [] new old (new ++ old) p own (λ r. times r old) (λ r. omega arith) (λ r. times-append r new old))
-
-  pub old_owned : Owned old b
-  old_owned r = omega (arith, both_owned r, times-append r new old)
-
-  pub new_kept : Changes b c old [] → (r : BlockRef) → IsIn r new → c r ≡ b r
-  new_kept q r isin = Owned-others b c old [] (new ++ old) both_owned q r (omega (arith, isin, times-append r new old)) (omega (arith, isin, both_owned r, times-append r new old, live-once b r))
-
-  pub replaced : Changes b c old [] → Changes a c old new
-  replaced q = subst (Changes a c old) (append-nil new) (Changes-both a b c [] new old [] own p q)
 
 pub body_changed : (a b c : Blocks) (s : Scored) (body : Body) (map : ScoreMap) → IsScored a s → IsPlacedBody a b s.limits s.seed body map → Changes b c (refs s) [] → tables a s ≡ table.no_tables → IsChanged a c s (record s { body = body }) map
 body_changed a b c s body map sound p q none =

@@ -1,5 +1,5 @@
 use Rattle.std.proofs.Common.{◌∙◌, sym, ap}
-use Rattle.hash_object.proofs.Ending.{no_item}
+use Rattle.collection_walk.proofs.Ending.{no_item}
 use Rattle.hash_object.proofs.Marks.{key_slot, value_slot, even_at, odd_at, none_at}
 use Rattle.hash_object.proofs.relocating.block_at.Goals as goal
 

@@ -1,7 +1,7 @@
 use Rattle.std.proofs.Common.{◌≡◌, ◌≢◌, ◌*◌, ◌+◌, subst, arith}
 use Rattle.std.specs.Prelude.{◌/◌}
 use Rattle.hash_object.specs.Relocation.{IsSettled, IsCalm}
-use Rattle.hash_object.proofs.Ending.{no_item}
+use Rattle.collection_walk.proofs.Ending.{no_item}
 use Rattle.hash_object.proofs.Marks.{none_at}
 use Rattle.hash_object.proofs.Settling.{settled_same, calm_none}
 use Rattle.hash_object.proofs.relocating.settle_mark.Goals as goal

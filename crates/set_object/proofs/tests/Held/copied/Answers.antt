@@ -2,7 +2,7 @@ use Rattle.std.proofs.Common.{[], sym, subst}
 use Rattle.blocks.specs.Blocks.{Changes}
 use Rattle.blocks.specs.Plain.{plain_blocks}
 use Rattle.set_object.specs.Members.{IsMembers, refs}
-use Rattle.set_object.proofs.Bodies.{new_kept}
+use Rattle.collection_walk.proofs.Replaced.{new_kept}
 use Rattle.set_object.proofs.Depends.{members_laws_hold}
 use Rattle.set_object.proofs.tests.Held.copied.Goals as goal
 

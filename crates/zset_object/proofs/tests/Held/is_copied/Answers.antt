@@ -2,7 +2,7 @@ use Rattle.std.proofs.Common.{[], arith}
 use Rattle.blocks.specs.Plain.{plain_blocks}
 use Rattle.blocks.proofs.Times.{times-append}
 use Rattle.zset_object.specs.Scored.{refs}
-use Rattle.zset_object.proofs.Bodies.{both_owned}
+use Rattle.collection_walk.proofs.Replaced.{both_owned}
 use Rattle.zset_object.proofs.Depends.{scored_laws_hold}
 use Rattle.zset_object.proofs.tests.Held.is_copied.Goals as goal
 

@@ -1,0 +1,19 @@
+-- Other blocks were placed, and the old ones were given back.
+use Rattle.std.proofs.Common.{◌≡◌, List, [], ◌++◌, append-nil, subst, arith}
+use Rattle.blocks.specs.declared.BlockRef.{BlockRef}
+use Rattle.blocks.specs.Blocks.{Blocks, times, IsIn, Changes, Owned}
+use Rattle.blocks.proofs.Times.{times-append}
+use Rattle.blocks.proofs.Change.{Changes-beside, Changes-both, Changes-owned, Owned-others, live-once}
+
+module _ (a b c : Blocks) (old new : List BlockRef) (own : Owned old a) (p : Changes a b [] new) where
+  pub both_owned : Owned (new ++ old) b
+  both_owned = Changes-owned a b old (new ++ old) (Changes-beside a b [] new old (new ++ old) p own (λ r. times r old) (λ r. omega arith) (λ r. times-append r new old))
+
+  pub old_owned : Owned old b
+  old_owned r = omega (arith, both_owned r, times-append r new old)
+
+  pub new_kept : Changes b c old [] → (r : BlockRef) → IsIn r new → c r ≡ b r
+  new_kept q r isin = Owned-others b c old [] (new ++ old) both_owned q r (omega (arith, isin, times-append r new old)) (omega (arith, isin, both_owned r, times-append r new old, live-once b r))
+
+  pub replaced : Changes b c old [] → Changes a c old new
+  replaced q = subst (Changes a c old) (append-nil new) (Changes-both a b c [] new old [] own p q)
