@@ -21,7 +21,8 @@ use Rattle.hash_object.specs.declared.fields.Fields.{Fields}
 use Rattle.hash_object.specs.Maps.{FieldMap}
 use Rattle.hash_object.specs.Hashed.{FieldTable}
 use Rattle.hash_object.specs.Fields.{IsFields, IsBody, IsFieldPack, IsChanged, fields_of, listed_of, refs, refs_of_body, form_of_body, tables, tables_of, no_tables}
-use Rattle.hash_object.proofs.Tables.{self, table_kept, fields_kept}
+use Rattle.hash_object.proofs.Tables.{table_kept, fields_kept}
+use Rattle.collection_walk.proofs.Named.{self}
 
 module _ (a b : Blocks) (limits : Limits) (seed : ℕ) where
   -- A body is the same where its blocks keep their bytes.

@@ -18,7 +18,8 @@ use Rattle.hash_object.specs.declared.fields.Fields.{Fields}
 use Rattle.hash_object.specs.Hashed.{FieldTable, IsHashed, fields_in, entries_in, blocks_of, no_fields}
 use Rattle.hash_object.specs.Fields.{IsFields, IsBody, IsPlacedBody, fields, fields_of, refs_of_body, no_tables}
 use Rattle.hash_object.specs.Items.{entry_at}
-use Rattle.hash_object.proofs.Tables.{self, table_kept, lacks_field, has_key, has_value}
+use Rattle.hash_object.proofs.Tables.{table_kept, lacks_field, has_key, has_value}
+use Rattle.collection_walk.proofs.Named.{self}
 use Rattle.collection_walk.proofs.Replaced.{old_owned}
 use Rattle.hash_object.proofs.Listed.{table_listed, table_once, slots_len}
 use Rattle.hash_object.proofs.Ranks.{pair_there, pair_of_element}

@@ -1,9 +1,8 @@
 -- Hashes over blocks that others change.
-use Rattle.std.proofs.Common.{◌≡◌, ℕ, suc, List, [], ◌∷◌, ◌++◌, length, Some, None, unwrap_or, flat_map, cond, is_some, refl, sym, ap, ◌∙◌, arith, inl, inr}
+use Rattle.collection_walk.proofs.Replaced.{still_owned, beside}
+use Rattle.std.proofs.Common.{◌≡◌, ℕ, suc, [], ◌∷◌, length, Some, None, unwrap_or, flat_map, refl, sym, ap, ◌∙◌, arith}
 use Rattle.blocks.specs.declared.BlockRef.{BlockRef}
-use Rattle.blocks.specs.Blocks.{Blocks, live, IsIn, bytes_at, Changes, Owned}
-use Rattle.blocks.proofs.Change.{cases_in, live-once, Owned-others}
-use Rattle.blocks.proofs.Times.{times-append}
+use Rattle.blocks.specs.Blocks.{Blocks, IsIn, bytes_at}
 use Rattle.pack_pairs.specs.Pairs.{map_of_pairs}
 use Rattle.hash_object.specs.declared.fields.Body.{Body}
 use Rattle.hash_object.specs.declared.fields.Body.TheVariants.{Empty, Pack, Table}
@@ -11,7 +10,8 @@ use Rattle.hash_object.specs.declared.fields.Fields.{Fields}
 use Rattle.hash_object.specs.Fields.{IsFields, fields_of, refs, refs_of_body, tables}
 use Rattle.hash_object.specs.Relocation.{marks_from, marks_in}
 use Rattle.hash_object.specs.Laws.{FieldsLaws}
-use Rattle.hash_object.proofs.Tables.{self, names}
+use Rattle.hash_object.proofs.Tables.{names}
+use Rattle.collection_walk.proofs.Named.{self}
 use Rattle.hash_object.proofs.Listed.{Slots, slot_pairs, table_listed, arranged}
 use Rattle.hash_object.proofs.Bodies.{body_kept}
 
@@ -29,19 +29,9 @@ module _ (a b : Blocks) where
   own_body (Pack p) same = ap (λ o. fields_of (λ _. o) (Pack p)) (same p.at (omega (arith, self p.at)))
   own_body (Table t) same = table_listed b t ∙ ap map_of_pairs (pairs_same t.items same) ∙ sym (table_listed a t)
 
-  still_owned : (list : List BlockRef) → ((r : BlockRef) → IsIn r list → b r ≡ a r) → Owned list a → Owned list b
-  still_owned list same o r = elim (cases_in r list) [
-    | inl out ↦ omega (arith, out)
-    | inr isin ↦ let e : live b r ≡ live a r = ap (λ x. cond (is_some x) 1 0) (same r isin) in omega (arith, o r, e)
-  ]
-
   sound : (f : Fields) → ((r : BlockRef) → IsIn r (refs f) → b r ≡ a r) → IsFields a f → IsFields b f × (tables b f ≡ tables a f)
   sound f same s = (let kept = body_kept a b f.limits f.seed f.body s.body same in
-      (record { limits = s.limits; owned = still_owned (refs f) same s.owned; body = kept.0 }, kept.2))
-
-  beside : (f : Fields) (old new : List BlockRef) → Owned (refs f ++ old) a → Changes a b old new → (r : BlockRef) → IsIn r (refs f) → b r ≡ a r
-  beside f old new o p r isin =
-      Owned-others a b old new (refs f ++ old) o p r (omega (arith, isin, times-append r (refs f) old)) (omega (arith, isin, o r, times-append r (refs f) old, live-once a r))
+      (record { limits = s.limits; owned = still_owned a b (refs f) same s.owned; body = kept.0 }, kept.2))
 
 items_marked : (n : ℕ) (items : Slots) → length (marks_from n items) ≡ length (flat_map names items)
 items_marked n [] = refl
@@ -57,8 +47,8 @@ pub fields_laws_hold : FieldsLaws
 fields_laws_hold = record {
   own = λ a b f same. own_body a b f.body same;
   sound = sound;
-  others = λ a b f old new o p. own_body a b f.body (beside a b f old new o p);
-  stays = λ a b f old new o p s. (sound a b f (beside a b f old new o p) s).0;
+  others = λ a b f old new o p. own_body a b f.body (beside a b (refs f) old new o p);
+  stays = λ a b f old new o p s. (sound a b f (beside a b (refs f) old new o p) s).0;
   marked = λ f. marked f.body;
   arranged = arranged;
 }

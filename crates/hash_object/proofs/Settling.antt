@@ -18,7 +18,8 @@ use Rattle.hash_object.specs.declared.fields.Body.TheVariants.{Pack}
 use Rattle.hash_object.specs.Hashed.{FieldTable, fields_in, blocks_of}
 use Rattle.hash_object.specs.Fields.{IsBody, IsFieldPack, fields_of}
 use Rattle.hash_object.specs.Relocation.{IsSettled, IsCalm, block_in}
-use Rattle.hash_object.proofs.Tables.{self, value_block, entry_within, has_key, has_value, names}
+use Rattle.hash_object.proofs.Tables.{value_block, has_key, has_value, names}
+use Rattle.collection_walk.proofs.Named.{self, entry_within}
 use Rattle.hash_object.proofs.Listed.{Slots}
 use Rattle.hash_object.proofs.Marks.{key_slot, value_slot, even_is, odd_is, halves}
 
@@ -72,7 +73,7 @@ module _ (m n : Blocks) (old new : FieldTable) (at : ℕ) (e g : Element BlockRe
 
   was_within : (q : BlockRef) → times q (was ∷ []) ≤ times q (blocks_of old)
   was_within q = elim (cases_ref was q) [
-    | inl same ↦ omega (arith, ap (λ r. times r (was ∷ [])) same, ap (λ r. times r (e.key ∷ e.value ∷ [])) same, ap (λ r. times r (blocks_of old)) same, self was, mine, entry_within old at e found was)
+    | inl same ↦ omega (arith, ap (λ r. times r (was ∷ [])) same, ap (λ r. times r (e.key ∷ e.value ∷ [])) same, ap (λ r. times r (blocks_of old)) same, self was, mine, entry_within value_block old at e found was)
     | inr other ↦ omega (arith, ap one_if other)
   ]
 
@@ -163,8 +164,8 @@ module _ (old new : FieldTable) (at : ℕ) (e g : Element BlockRef) (found : ite
 -- the two blocks of an element are apart
 twins_apart : (m : Blocks) (t : FieldTable) (at : ℕ) (e : Element BlockRef) → Owned (blocks_of t) m → item t at ≡ Some e → (times e.key (e.value ∷ []) ≡ 0) × (times e.value (e.key ∷ []) ≡ 0)
 twins_apart m t at e owned found = (
-  omega (arith, entry_within t at e found e.key, owned e.key, live-once m e.key, self e.key),
-  omega (arith, entry_within t at e found e.value, owned e.value, live-once m e.value, self e.value),
+  omega (arith, entry_within value_block t at e found e.key, owned e.key, live-once m e.key, self e.key),
+  omega (arith, entry_within value_block t at e found e.value, owned e.value, live-once m e.value, self e.value),
 )
 
 -- the block of a field moved

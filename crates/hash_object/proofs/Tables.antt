@@ -1,14 +1,13 @@
 -- A dictionary of field and value blocks: what it depends on, and what becomes of it where a field is put in, given another value, or
 -- taken out.
-use Rattle.std.proofs.Common.{◌≡◌, ℕ, zero, suc, ◌+◌, ◌≤◌, List, [], ◌∷◌, Option, Some, None, IsSome, unwrap_or, flat_map, refl, sym, ap, ◌∙◌, subst, arith, inl, inr}
+use Rattle.std.proofs.Common.{◌≡◌, ℕ, ◌+◌, List, [], ◌∷◌, Option, Some, None, IsSome, unwrap_or, flat_map, refl, sym, ap, ◌∙◌, subst, arith, inl, inr}
 use Rattle.std.specs.FinMap.{insert, remove, empty, get}
-use Rattle.std.proofs.lemmas.Bool.{cond-true}
 use Rattle.blocks.specs.declared.BlockRef.{BlockRef}
 use Rattle.blocks.specs.Blocks.{Blocks, times, with_block, bytes_at, IsIn, Changes, Owned}
-use Rattle.blocks.proofs.Refs.{ref_eq-refl, with_block-same, with_block-other}
-use Rattle.blocks.proofs.Times.{times-append}
+use Rattle.blocks.proofs.Refs.{with_block-same, with_block-other}
 use Rattle.blocks.proofs.Change.{one, other_than, live-is, live-once, Changes-beside, Changes-counted, Changes-owned, Changes-then, Changes-same, Counts-ended, Owned-others}
-use Rattle.rehash_dict.specs.Table.{Element, at_item, item}
+use Rattle.collection_walk.proofs.Named.{self, entry_within}
+use Rattle.rehash_dict.specs.Table.{Element, item}
 use Rattle.rehash_dict.specs.Keyed.{Keyed, Lacks, Stands, hash_of, key_of, key_tables}
 use Rattle.rehash_dict.specs.Steps.{Adds, Swaps, Removes}
 use Rattle.rehash_dict.specs.Grown.{Grown}
@@ -28,23 +27,11 @@ value_block at = at ∷ []
 abbrev pub names : Option (Element BlockRef) → List BlockRef
 names = own_of value_block
 
-pub self : (r : BlockRef) → one r r ≡ 1
-self r = cond-true _ _ _ (ref_eq-refl r)
-
--- both blocks of an element are among those of its table
-pub entry_within : (t : FieldTable) (at : ℕ) (e : Element BlockRef) → item t at ≡ Some e → (r : BlockRef) → times r (e.key ∷ e.value ∷ []) ≤ times r (blocks_of t)
-entry_within t at e found r = in_list t.items at found
-  where
-    in_list : (items : List (Option (Element BlockRef))) (at : ℕ) → at_item items at ≡ Some e → times r (e.key ∷ e.value ∷ []) ≤ times r (flat_map (own_of value_block) items)
-    in_list [] at found = cc
-    in_list (x ∷ items) zero found = (let here : times r (own_of value_block x) ≡ times r (e.key ∷ e.value ∷ []) = ap (λ o. times r (own_of value_block o)) found in omega (arith, here, times-append r (own_of value_block x) (flat_map (own_of value_block) items)))
-    in_list (x ∷ items) (suc at) found = omega (arith, in_list items at found, times-append r (own_of value_block x) (flat_map (own_of value_block) items))
-
 pub has_key : (t : FieldTable) (at : ℕ) (e : Element BlockRef) → item t at ≡ Some e → IsIn e.key (blocks_of t)
-has_key t at e found = omega (arith, entry_within t at e found e.key, self e.key)
+has_key t at e found = omega (arith, entry_within value_block t at e found e.key, self e.key)
 
 pub has_value : (t : FieldTable) (at : ℕ) (e : Element BlockRef) → item t at ≡ Some e → IsIn e.value (blocks_of t)
-has_value t at e found = omega (arith, entry_within t at e found e.value, self e.value)
+has_value t at e found = omega (arith, entry_within value_block t at e found e.value, self e.value)
 
 -- ---- blocks that keep their bytes
 

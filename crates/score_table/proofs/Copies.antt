@@ -17,7 +17,8 @@ use Rattle.score_table.specs.declared.table.ScoreTable.{ScoreTable}
 use Rattle.score_table.specs.Scored.{IsScoreTable, IsChanged, IsArranged, pair_of, pair_at, scores, refs, seed_of, tables, no_tables}
 use Rattle.score_table.specs.Copied.{IsCopied, TakesOver}
 use Rattle.score_table.proofs.Bytes.{maps_alike, cases_put}
-use Rattle.score_table.proofs.Edits.{names_key, kept_sound}
+use Rattle.score_table.proofs.Edits.{kept_sound}
+use Rattle.collection_walk.proofs.Named.{names_key}
 use Rattle.score_table.proofs.Ranked.{items_arranged}
 
 -- The copy has the members of the item numbers below this one.

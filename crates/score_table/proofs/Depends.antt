@@ -4,9 +4,8 @@ use Rattle.std.specs.FinMap.{from_entries}
 use Rattle.std.specs.Ordering.{nat_cmp}
 use Rattle.std.specs.Cmp.Lexicographic.{slice_cmp}
 use Rattle.blocks.specs.declared.BlockRef.{BlockRef}
-use Rattle.blocks.specs.Blocks.{Blocks, IsIn, Changes, Owned}
-use Rattle.blocks.proofs.Change.{live-once, Owned-others}
-use Rattle.blocks.proofs.Times.{times-append}
+use Rattle.blocks.specs.Blocks.{Blocks, IsIn}
+use Rattle.collection_walk.proofs.Replaced.{beside}
 use Rattle.rehash_dict.specs.Table.{Element, item}
 use Rattle.rehash_dict.specs.MapOf.{map_of, pair_of, own_of}
 use Rattle.rehash_dict.proofs.MapOf.{key_refs-owned}
@@ -15,7 +14,8 @@ use Rattle.std.proofs.lemmas.List.{length-map}
 use Rattle.score_table.specs.declared.table.ScoreTable.{ScoreTable}
 use Rattle.score_table.specs.Scored.{IsScoreTable, scores, ranked, refs, tables}
 use Rattle.score_table.specs.Laws.{ScoreTableLaws}
-use Rattle.score_table.proofs.Edits.{no_block, self, names_key, kept_sound, kept_ranked, kept_tables}
+use Rattle.score_table.proofs.Edits.{no_block, kept_sound, kept_ranked, kept_tables}
+use Rattle.collection_walk.proofs.Named.{self, names_key}
 use Rattle.score_table.proofs.Ranked.{counted, items_arranged, ranking_holds, ranking_once}
 
 module _ (a b : Blocks) where
@@ -36,16 +36,12 @@ module _ (a b : Blocks) where
   sound : (s : ScoreTable) → ((r : BlockRef) → IsIn r (refs s) → b r ≡ a r) → IsScoreTable a s → IsScoreTable b s × (ranked b s ≡ ranked a s) × (tables b s ≡ tables a s)
   sound s same is = (kept_sound a b s is (key_same s same), kept_ranked a b s is (key_same s same), kept_tables a b s is (key_same s same))
 
-  beside : (s : ScoreTable) (old new : List BlockRef) → Owned (refs s ++ old) a → Changes a b old new → (r : BlockRef) → IsIn r (refs s) → b r ≡ a r
-  beside s old new o p r isin =
-      Owned-others a b old new (refs s ++ old) o p r (omega (arith, isin, times-append r (refs s) old)) (omega (arith, isin, o r, times-append r (refs s) old, live-once a r))
-
 pub score_table_laws_hold : ScoreTableLaws
 score_table_laws_hold = record {
   own = λ a b s same. own_scores a b s same;
   sound = sound;
-  others = λ a b s old new o p. own_scores a b s (beside a b s old new o p);
-  stays = λ a b s old new o p is. (sound a b s (beside a b s old new o p) is).0;
+  others = λ a b s old new o p. own_scores a b s (beside a b (refs s) old new o p);
+  stays = λ a b s old new o p is. (sound a b s (beside a b (refs s) old new o p) is).0;
   owned = λ m s is. key_refs-owned m s.table is.keyed;
   ranking = ranking_holds;
   counted = λ m s is. length-map s.list (key_of m) ∙ counted m s is;

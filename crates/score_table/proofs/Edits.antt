@@ -1,12 +1,12 @@
 -- A table of scores over blocks that change, and what becomes of it where a member is put in, gets another score, or is taken out.
-use Rattle.std.proofs.Common.{◌≡◌, ◌≢◌, inl, inr, ℕ, ◌+◌, ◌≤◌, zero, suc, ℤ, List, [], ◌∷◌, map, Option, Some, None, IsSome, Bool, false, unwrap_or, flat_map, refl, sym, ap, ◌∙◌, subst, arith}
+use Rattle.std.proofs.Common.{◌≡◌, ◌≢◌, inl, inr, ℕ, ◌+◌, ℤ, List, [], ◌∷◌, map, Option, Some, None, IsSome, Bool, false, unwrap_or, flat_map, refl, sym, ap, ◌∙◌, subst, arith}
 use Rattle.std.specs.FinMap.{get, insert, remove}
 use Rattle.std.proofs.lemmas.Bool.{cond-true}
 use Rattle.blocks.specs.declared.BlockRef.{BlockRef}
-use Rattle.blocks.specs.Blocks.{Blocks, ref_eq, times, with_block, bytes_at, IsIn, Changes}
+use Rattle.blocks.specs.Blocks.{Blocks, ref_eq, times, with_block, bytes_at, Changes}
 use Rattle.blocks.proofs.Refs.{ref_eq-refl, cases_ref, with_block-other}
-use Rattle.blocks.proofs.Times.{times-append}
 use Rattle.blocks.proofs.Change.{one, Changes-beside, Changes-counted, Changes-same, Counts-ended, Counts-same, Owned-others}
+use Rattle.collection_walk.proofs.Named.{names_key}
 use Rattle.rehash_dict.specs.Table.{Table, Element, at_item, item}
 use Rattle.rehash_dict.specs.Keyed.{Keyed, Lacks, Stands, hash_of, key_of as key_bytes, key_tables}
 use Rattle.rehash_dict.specs.Steps.{Holds, Adds, Swaps, Removes}
@@ -27,21 +27,6 @@ use Rattle.score_table.proofs.Agreeing.{entry_of, agree_follows}
 -- the blocks that a value owns: none
 abbrev pub no_block : ℤ → List BlockRef
 no_block v = []
-
--- an element's block is among those of its table
-pub key_within : (t : Table ℤ) (at : ℕ) (e : Element ℤ) → item t at ≡ Some e → (r : BlockRef) → times r (e.key ∷ []) ≤ times r (key_refs t)
-key_within t at e found r = in_list t.items at found
-  where
-    in_list : (items : List (Option (Element ℤ))) (at : ℕ) → at_item items at ≡ Some e → times r (e.key ∷ []) ≤ times r (flat_map (own_of no_block) items)
-    in_list [] at found = cc
-    in_list (x ∷ items) zero found = (let here : times r (own_of no_block x) ≡ times r (e.key ∷ []) = ap (λ o. times r (own_of no_block o)) found in omega (arith, here, times-append r (own_of no_block x) (flat_map (own_of no_block) items)))
-    in_list (x ∷ items) (suc at) found = omega (arith, in_list items at found, times-append r (own_of no_block x) (flat_map (own_of no_block) items))
-
-pub self : (r : BlockRef) → one r r ≡ 1
-self r = cond-true _ _ _ (ref_eq-refl r)
-
-pub names_key : (t : Table ℤ) (at : ℕ) (e : Element ℤ) → item t at ≡ Some e → IsIn e.key (key_refs t)
-names_key t at e found = omega (arith, key_within t at e found e.key, self e.key)
 
 -- ---- blocks that keep their bytes
 

@@ -1,15 +1,13 @@
 -- A table of scores in which one member's block moved.
-use Rattle.std.proofs.Common.{◌≡◌, ◌≢◌, inl, inr, ℕ, ◌+◌, ◌<◌, zero, suc, ℤ, List, [], ◌∷◌, length, get_or, Option, Some, is_some, unwrap_or, refl, sym, ap, ◌∙◌, subst, arith}
-use Rattle.std.proofs.lemmas.Bool.{cases_eq}
+use Rattle.std.proofs.Common.{◌≡◌, ◌≢◌, ℕ, ◌<◌, zero, suc, ℤ, List, [], ◌∷◌, length, get_or, Option, Some, unwrap_or, refl, sym, ap, ◌∙◌, subst, arith}
 use Rattle.blocks.specs.declared.BlockRef.{BlockRef}
-use Rattle.blocks.specs.Blocks.{Blocks, times, IsOut, Changes, Owned}
-use Rattle.blocks.proofs.Refs.{cases_ref}
-use Rattle.blocks.proofs.Change.{one_if, Counts, Changes-same, Changes-counted, Counts-changed, Owned-others}
+use Rattle.blocks.specs.Blocks.{Blocks, Changes}
+use Rattle.blocks.proofs.Change.{Changes-same}
+use Rattle.collection_walk.proofs.Renamed.{renamed, bytes_kept, other_kept, moved_keyed, moved_changes, items_stand}
 use Rattle.rehash_dict.specs.Table.{Table, Element, item}
-use Rattle.rehash_dict.specs.Keyed.{Keyed, key_tables}
 use Rattle.rehash_dict.specs.Steps.{Holds, Renames}
-use Rattle.rehash_dict.specs.MapOf.{key_refs, own_of}
-use Rattle.rehash_dict.proofs.MapOf.{map_of-renames, refs_changed, key_refs-owned}
+use Rattle.rehash_dict.specs.MapOf.{key_refs}
+use Rattle.rehash_dict.proofs.MapOf.{map_of-renames, key_refs-owned}
 use Rattle.score_list.specs.Linked.{Element as Scored, no_element, renamed_at}
 use Rattle.score_list.specs.Sorted.{Key, key_of, IsSorted, HasAt, Misses, Carries}
 use Rattle.score_table.specs.declared.table.ScoreTable.{ScoreTable}
@@ -18,7 +16,6 @@ use Rattle.score_table.specs.Scored.{IsScoreTable, scores, ranked}
 use Rattle.score_table.specs.Relocation.{IsSettled}
 use Rattle.score_table.proofs.Among.{Among, among_contained, contained_among, among_at, behind_among, less_differs, missed, Follows, it_is, follows_renamed}
 use Rattle.score_table.proofs.Agreeing.{entry_of, agree_follows}
-use Rattle.score_table.proofs.Edits.{no_block, key_within, names_key}
 use Rattle.score_table.proofs.Ranked.{ranking_holds, ranking_once}
 
 pub settled_same : (m : Blocks) (s : ScoreTable) (stays : ℕ → Type 0) → IsScoreTable m s → IsSettled m m s s stays
@@ -49,50 +46,8 @@ apart_ranks m (x ∷ xs) (suc j) zero s lt less same = absurd (less_differs (key
 apart_ranks m (x ∷ xs) (suc j) (suc k) s lt less same = ap suc (apart_ranks m xs j k s.2 (omega (arith, lt)) (omega (arith, less)) same)
 
 module _ (m n : Blocks) (s : ScoreTable) (table : Table ℤ) (ys : List Scored) (at rank : ℕ) (key ref : BlockRef) (v : ℤ) (q : List ℕ) (is : IsScoreTable m s) (h : Holds s.table at key v) (key_bytes : m key ≡ Some q) (has : HasAt m (v, q) s.list rank) (same : n ref ≡ m key) (p : Changes m n (key ∷ []) (ref ∷ [])) (r : Renames s.table table at ref) (list_is : ys ≡ renamed_at s.list rank ref) where
-  abbrev element : Element ℤ
-  element = record { key = key; hash = h.hash; value = v }
-
-  renamed : r.element ≡ element
-  renamed = some_same (item s.table at) r.element element r.found h.found
-    where
-      some_same : (o : Option (Element ℤ)) (a b : Element ℤ) → o ≡ Some a → o ≡ Some b → a ≡ b
-      some_same o a b h k = cc
-
-  bytes_kept : n ref ≡ m r.element.key
-  bytes_kept = same ∙ ap (λ (e : Element ℤ). m e.key) (sym renamed)
-
-  other_kept : (other : ℕ) (e : Element ℤ) → other ≢ at → item s.table other ≡ Some e → n e.key ≡ m e.key
-  other_kept other e apart there = Owned-others m n (key ∷ []) (ref ∷ []) (key_refs s.table) (key_refs-owned m s.table is.keyed) p e.key (names_key s.table other e there) out
-    where
-      out : IsOut e.key (key ∷ [])
-      out = elim (cases_ref key e.key) [
-        | inl one' ↦ absurd (apart (is.keyed.apart other at e element there h.found (ap m (sym one'))))
-        | inr two ↦ omega (arith, ap one_if two)
-      ]
-
-  moved_keyed : Keyed n table × (key_tables n table ≡ key_tables m s.table)
-  moved_keyed = r.keyed m n is.keyed bytes_kept other_kept
-
-  refs_moved : (b : BlockRef) → times b (key_refs table) + times b (key ∷ []) ≡ times b (key_refs s.table) + times b (ref ∷ [])
-  refs_moved b =
-      let both = refs_changed no_block s.table table at (Some (record r.element { key = ref })) r.updates b in
-      let was : times b (own_of no_block (item s.table at)) ≡ times b (key ∷ []) = ap (λ o. times b (own_of no_block o)) h.found in
-      omega (arith, both, was)
-
-  key_owned : Owned (key ∷ []) m
-  key_owned b = omega (arith, key_within s.table at element h.found b, key_refs-owned m s.table is.keyed b)
-
-  moved_changes : Changes m n (key_refs s.table) (key_refs table)
-  moved_changes = Changes-counted m n (key_refs s.table) (key_refs table) (key_refs-owned m s.table is.keyed) (record {
-    balance = λ b. omega (arith, counts.balance b, refs_moved b);
-    kept = λ b out_old out_new. counts.kept b (omega (arith, key_within s.table at element h.found b, out_old)) (omega (arith, refs_moved b, key_within s.table at element h.found b, out_old, out_new));
-  })
-    where
-      counts : Counts m n (key ∷ []) (ref ∷ [])
-      counts = Counts-changed m n (key ∷ []) (ref ∷ []) key_owned p
-
   there : Among s.list (v, key)
-  there = among_contained s.list (v, key) (is.agree.listed at element h.found)
+  there = among_contained s.list (v, key) (is.agree.listed at (record { key = key; hash = h.hash; value = v }) h.found)
 
   key_is : key_of m (get_or s.list rank no_element) ≡ key_of m (v, key)
   key_is = has.1 ∙ ap (λ (o : Option (List ℕ)). let k : Key = (v, unwrap_or o []) in k) (sym key_bytes)
@@ -107,10 +62,10 @@ module _ (m n : Blocks) (s : ScoreTable) (table : Table ℤ) (ys : List Scored) 
   }
     where
       other : (k : ℕ) → k < length s.list → k ≢ rank → (i : ℕ) × Holds s.table i (get_or s.list k no_element).1 (get_or s.list k no_element).0 → n (get_or s.list k no_element).1 ≡ m (get_or s.list k no_element).1
-      other k lt apart p = other_kept p.0 (record { key = (get_or s.list k no_element).1; hash = p.1.hash; value = (get_or s.list k no_element).0 }) not_at p.1.found
+      other k lt apart w = other_kept m n s.table table at key ref v is.keyed h same p r w.0 (record { key = (get_or s.list k no_element).1; hash = w.1.hash; value = (get_or s.list k no_element).0 }) not_at w.1.found
         where
-          not_at : p.0 ≢ at
-          not_at here = apart (apart_ranks m s.list k rank is.sorted lt has.0 (some_same (sym (ap entry_of p.1.found) ∙ ap (λ i. entry_of (item s.table i)) here ∙ ap entry_of h.found) ∙ sym found))
+          not_at : w.0 ≢ at
+          not_at here = apart (apart_ranks m s.list k rank is.sorted lt has.0 (some_same (sym (ap entry_of w.1.found) ∙ ap (λ i. entry_of (item s.table i)) here ∙ ap entry_of h.found) ∙ sym found))
             where
               some_same : {a b : Scored} → Some a ≡ Some b → a ≡ b
               some_same h = cc
@@ -120,14 +75,11 @@ module _ (m n : Blocks) (s : ScoreTable) (table : Table ℤ) (ys : List Scored) 
     sound = sound;
     scores_are = scores_same;
     ranked_are = ranking_once (scores m s) (ranked n new) (ranked m s) (subst (λ map. IsRanking map (ranked n new)) scores_same (ranking_holds n new sound)) (ranking_holds m s is);
-    tables_are = moved_keyed.1;
-    changes = moved_changes;
+    tables_are = (moved_keyed m n s.table table at key ref v is.keyed h same p r).1;
+    changes = moved_changes m n s.table table at key ref v is.keyed h same p r;
     seed = r.seed;
     top = r.top;
-    same_items = λ i. elim (cases_eq i at) [
-      | inl here ↦ ap (λ j. is_some (item table j)) here ∙ ap is_some r.updates.changed ∙ sym (ap (λ j. is_some (item s.table j)) here ∙ ap is_some r.found)
-      | inr other ↦ ap is_some (r.updates.others i other)
-    ];
+    same_items = items_stand m n s.table table at key ref v is.keyed h same p r;
     others = λ i other. r.updates.others i other;
   }
     where
@@ -137,15 +89,15 @@ module _ (m n : Blocks) (s : ScoreTable) (table : Table ℤ) (ys : List Scored) 
       follows : Follows s.list ys (entry_of (item s.table at)) (Some (r.element.value, ref))
       follows = subst (λ zs. Follows s.list zs (entry_of (item s.table at)) (Some (r.element.value, ref))) (sym list_is)
           (subst (λ o. Follows s.list (renamed_at s.list rank ref) o (Some (r.element.value, ref))) (sym (ap entry_of h.found))
-          (subst (λ (e : Element ℤ). Follows s.list (renamed_at s.list rank ref) (Some (v, key)) (Some (e.value, ref))) (sym renamed)
+          (subst (λ (e : Element ℤ). Follows s.list (renamed_at s.list rank ref) (Some (v, key)) (Some (e.value, ref))) (sym (renamed m n s.table table at key ref v is.keyed h same p r))
           (follows_renamed m s.list is.sorted (v, key) there rank has.0 key_is ref)))
 
       sound : IsScoreTable n new
       sound = record {
-        keyed = moved_keyed.0;
+        keyed = (moved_keyed m n s.table table at key ref v is.keyed h same p r).0;
         sorted = sorted;
         agree = agree_follows m s.table table s.list ys at (Some (record r.element { key = ref })) is.keyed r.updates is.agree follows;
       }
 
       scores_same : scores n new ≡ scores m s
-      scores_same = map_of-renames m n (λ (v : ℤ). v) s.table table at ref is.keyed moved_keyed.0 r bytes_kept other_kept
+      scores_same = map_of-renames m n (λ (v : ℤ). v) s.table table at ref is.keyed (moved_keyed m n s.table table at key ref v is.keyed h same p r).0 r (bytes_kept m n s.table table at key ref v is.keyed h same p r) (other_kept m n s.table table at key ref v is.keyed h same p r)

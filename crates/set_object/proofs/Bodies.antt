@@ -1,23 +1,20 @@
 -- What a set's body depends on, and a body that takes another's place.
-use Rattle.std.proofs.Common.{◌≡◌, ℕ, zero, suc, ◌≤◌, List, [], ◌∷◌, Option, Some, unwrap_or, refl, sym, ap, ◌∙◌, subst, arith, flat_map}
+use Rattle.std.proofs.Common.{◌≡◌, ℕ, [], Some, unwrap_or, refl, sym, ap, ◌∙◌, subst, arith}
 use Rattle.std.proofs.lemmas.List.{length-map}
 use Rattle.std.specs.FinMap.{len, len-empty}
 use Rattle.std.specs.Ordering.{nat_cmp}
 use Rattle.std.specs.Cmp.Lexicographic.{slice_cmp}
-use Rattle.std.proofs.lemmas.Bool.{cond-true}
 use Rattle.blocks.specs.declared.BlockRef.{BlockRef}
-use Rattle.blocks.specs.Blocks.{Blocks, times, IsIn, bytes_at, Changes}
-use Rattle.blocks.proofs.Refs.{ref_eq-refl}
-use Rattle.blocks.proofs.Times.{times-append}
+use Rattle.blocks.specs.Blocks.{Blocks, IsIn, bytes_at, Changes}
 use Rattle.blocks.proofs.Change.{one, Changes-owned}
 use Rattle.int_text.specs.Decimal.{canonical}
 use Rattle.intset.specs.Intset.{numbers_of}
 use Rattle.collection_walk.proofs.Replaced.{new_kept, replaced}
 use Rattle.object_codec.specs.declared.limits.Limits.{Limits}
-use Rattle.rehash_dict.specs.Table.{Element, item, at_item, table_len}
+use Rattle.collection_walk.proofs.Named.{self, names_key}
+use Rattle.rehash_dict.specs.Table.{Element, item, table_len}
 use Rattle.rehash_dict.specs.Keyed.{hash_of}
 use Rattle.rehash_dict.specs.Grown.{Grown}
-use Rattle.rehash_dict.specs.MapOf.{key_refs, own_of}
 use Rattle.rehash_dict.proofs.Keys.{Keyed-frame}
 use Rattle.rehash_dict.proofs.MapOf.{len-map_of}
 use Rattle.set_object.specs.declared.members.Body.{Body}
@@ -27,21 +24,6 @@ use Rattle.set_object.specs.Strings.{Strings}
 use Rattle.set_object.specs.Members.{IsMembers, IsBody, IsNumbers, IsMemberPack, IsChanged, members_of, refs, refs_of, tables, tables_of, no_tables}
 use Rattle.set_object.proofs.Texts.{numbers_once}
 use Rattle.set_object.proofs.Hashing.{Dict, content_kept}
-
-pub self : (r : BlockRef) → one r r ≡ 1
-self r = cond-true _ _ _ (ref_eq-refl r)
-
--- an element's key block is among those of its table
-pub key_within : (t : Dict) (at : ℕ) (e : Element (Unit {0})) → item t at ≡ Some e → (r : BlockRef) → times r (e.key ∷ []) ≤ times r (key_refs t)
-key_within t at e found r = in_list t.items at found
-  where
-    in_list : (items : List (Option (Element (Unit {0})))) (at : ℕ) → at_item items at ≡ Some e → times r (e.key ∷ []) ≤ times r (flat_map (own_of (λ (_ : Unit {0}). [])) items)
-    in_list [] at found = cc
-    in_list (x ∷ items) zero found = (let here : times r (own_of (λ (_ : Unit {0}). []) x) ≡ times r (e.key ∷ []) = ap (λ o. times r (own_of (λ (_ : Unit {0}). []) o)) found in omega (arith, here, times-append r (own_of (λ (_ : Unit {0}). []) x) (flat_map (own_of (λ (_ : Unit {0}). [])) items)))
-    in_list (x ∷ items) (suc at) found = omega (arith, in_list items at found, times-append r (own_of (λ (_ : Unit {0}). []) x) (flat_map (own_of (λ (_ : Unit {0}). [])) items))
-
-pub names_key : (t : Dict) (at : ℕ) (e : Element (Unit {0})) → item t at ≡ Some e → IsIn e.key (key_refs t)
-names_key t at e found = omega (arith, key_within t at e found e.key, self e.key)
 
 module _ (a b : Blocks) (limits : Limits) (seed : ℕ) where
   -- A body is the same where its blocks keep their bytes.

@@ -24,7 +24,7 @@ use Rattle.set_object.proofs.Hashing.{Dict}
 use Rattle.set_object.proofs.Listed.{table_listed, table_once, keys_len}
 use Rattle.set_object.proofs.Ranks.{key_there}
 use Rattle.collection_walk.proofs.Ranks.{rank, rank_next, rank_past, rank_below, rank_all}
-use Rattle.set_object.proofs.Bodies.{self, names_key}
+use Rattle.collection_walk.proofs.Named.{self, names_key}
 use Rattle.set_object.proofs.Settling.{numbers_moved, numbers_mean, pack_moved, pack_mean}
 
 -- the members of a dictionary before an item number

@@ -1,9 +1,8 @@
 -- Sets over blocks that others change.
-use Rattle.std.proofs.Common.{◌≡◌, List, [], ◌∷◌, ◌++◌, length, Some, None, unwrap_or, flat_map, cond, is_some, refl, sym, ap, ◌∙◌, arith, inl, inr}
+use Rattle.collection_walk.proofs.Replaced.{still_owned, beside}
+use Rattle.std.proofs.Common.{◌≡◌, [], ◌∷◌, length, Some, None, unwrap_or, flat_map, refl, sym, ap, ◌∙◌, arith}
 use Rattle.blocks.specs.declared.BlockRef.{BlockRef}
-use Rattle.blocks.specs.Blocks.{Blocks, live, IsIn, bytes_at, Changes, Owned}
-use Rattle.blocks.proofs.Change.{cases_in, live-once, Owned-others}
-use Rattle.blocks.proofs.Times.{times-append}
+use Rattle.blocks.specs.Blocks.{Blocks, IsIn, bytes_at}
 use Rattle.set_object.specs.declared.members.Body.{Body}
 use Rattle.set_object.specs.declared.members.Body.TheVariants.{Empty, Numbers, Pack, Table}
 use Rattle.set_object.specs.declared.members.Members.{Members}
@@ -13,7 +12,8 @@ use Rattle.set_object.specs.Relocation.{marks_in}
 use Rattle.collection_walk.proofs.Numbered.{items_marked, names}
 use Rattle.set_object.specs.Laws.{MembersLaws}
 use Rattle.set_object.proofs.Listed.{Slots, table_listed, arranged}
-use Rattle.set_object.proofs.Bodies.{self, body_kept}
+use Rattle.set_object.proofs.Bodies.{body_kept}
+use Rattle.collection_walk.proofs.Named.{self}
 
 module _ (a b : Blocks) where
   keys_same : (items : Slots) → ((r : BlockRef) → IsIn r (flat_map names items) → b r ≡ a r) → flat_map (key_in b) items ≡ flat_map (key_in a) items
@@ -29,19 +29,9 @@ module _ (a b : Blocks) where
   own_body (Pack p) same = ap (λ o. members_of (λ _. o) (Pack p)) (same p.at (omega (arith, self p.at)))
   own_body (Table t) same = table_listed b t ∙ ap set_of (keys_same t.items same) ∙ sym (table_listed a t)
 
-  still_owned : (list : List BlockRef) → ((r : BlockRef) → IsIn r list → b r ≡ a r) → Owned list a → Owned list b
-  still_owned list same o r = elim (cases_in r list) [
-    | inl out ↦ omega (arith, out)
-    | inr isin ↦ let e : live b r ≡ live a r = ap (λ x. cond (is_some x) 1 0) (same r isin) in omega (arith, o r, e)
-  ]
-
   sound : (m : Members) → ((r : BlockRef) → IsIn r (refs m) → b r ≡ a r) → IsMembers a m → IsMembers b m × (tables b m ≡ tables a m)
   sound m same s = (let kept = body_kept a b m.limits m.seed m.body s.body same in
-      (record { limits = s.limits; owned = still_owned (refs m) same s.owned; body = kept.0 }, kept.2))
-
-  beside : (m : Members) (old new : List BlockRef) → Owned (refs m ++ old) a → Changes a b old new → (r : BlockRef) → IsIn r (refs m) → b r ≡ a r
-  beside m old new o p r isin =
-      Owned-others a b old new (refs m ++ old) o p r (omega (arith, isin, times-append r (refs m) old)) (omega (arith, isin, o r, times-append r (refs m) old, live-once a r))
+      (record { limits = s.limits; owned = still_owned a b (refs m) same s.owned; body = kept.0 }, kept.2))
 
 marked : (body : Body) → length (marks_in body) ≡ length (refs_of body)
 marked Empty = refl
@@ -53,8 +43,8 @@ pub members_laws_hold : MembersLaws
 members_laws_hold = record {
   own = λ a b m same. own_body a b m.body same;
   sound = sound;
-  others = λ a b m old new o p. own_body a b m.body (beside a b m old new o p);
-  stays = λ a b m old new o p s. (sound a b m (beside a b m old new o p) s).0;
+  others = λ a b m old new o p. own_body a b m.body (beside a b (refs m) old new o p);
+  stays = λ a b m old new o p s. (sound a b m (beside a b (refs m) old new o p) s).0;
   marked = λ m. marked m.body;
   arranged = arranged;
 }

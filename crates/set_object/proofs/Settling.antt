@@ -1,22 +1,19 @@
 -- A set whose blocks move means what it meant.
-use Rattle.std.proofs.Common.{◌≡◌, ◌≢◌, ◌⊎◌, ℕ, ◌+◌, ◌<◌, ◌≤◌, [], ◌∷◌, Option, Some, is_some, unwrap_or, refl, sym, ap, ◌∙◌, subst, arith, inl, inr}
-use Rattle.std.proofs.lemmas.Bool.{cases_eq}
+use Rattle.std.proofs.Common.{◌≡◌, ◌≢◌, ◌⊎◌, ℕ, ◌+◌, ◌<◌, ◌≤◌, [], ◌∷◌, unwrap_or, refl, sym, ap, ◌∙◌, subst, arith, inl, inr}
 use Rattle.blocks.specs.declared.BlockRef.{BlockRef}
-use Rattle.blocks.specs.Blocks.{Blocks, times, IsOut, bytes_at, Changes, Owned}
-use Rattle.blocks.proofs.Refs.{cases_ref}
-use Rattle.blocks.proofs.Change.{one_if, Counts, Changes-same, Changes-then, Changes-counted, Counts-changed, Owned-others}
+use Rattle.blocks.specs.Blocks.{Blocks, bytes_at, Changes}
+use Rattle.blocks.proofs.Change.{Changes-same, Changes-then}
 use Rattle.object_codec.specs.declared.limits.Limits.{Limits}
-use Rattle.rehash_dict.specs.Table.{Element, item}
-use Rattle.rehash_dict.specs.Keyed.{Keyed, key_tables}
+use Rattle.collection_walk.proofs.Renamed.{bytes_kept, other_kept, moved_keyed, moved_changes, items_stand}
+use Rattle.rehash_dict.specs.Keyed.{Keyed}
 use Rattle.rehash_dict.specs.Steps.{Holds, Renames}
-use Rattle.rehash_dict.specs.MapOf.{key_refs, own_of}
-use Rattle.rehash_dict.proofs.MapOf.{map_of-renames, refs_changed, key_refs-owned}
+use Rattle.rehash_dict.specs.MapOf.{key_refs}
+use Rattle.rehash_dict.proofs.MapOf.{map_of-renames, key_refs-owned}
 use Rattle.set_object.specs.declared.members.Packed.{Packed}
 use Rattle.set_object.specs.declared.members.Body.TheVariants.{Numbers, Pack}
 use Rattle.set_object.specs.Members.{IsBody, IsNumbers, IsMemberPack, members_of}
 use Rattle.set_object.specs.Relocation.{IsSettled}
 use Rattle.set_object.proofs.Hashing.{Dict}
-use Rattle.set_object.proofs.Bodies.{names_key, key_within}
 
 pub settled_same : (m : Blocks) (t : Dict) (stays : ℕ → Type 0) → Keyed m t → IsSettled m m t t stays
 settled_same m t stays k = record {
@@ -33,62 +30,19 @@ settled_same m t stays k = record {
 -- ---- one member's block
 
 module _ (m n : Blocks) (old new : Dict) (at : ℕ) (key ref : BlockRef) (k : Keyed m old) (h : Holds old at key tt) (same : n ref ≡ m key) (p : Changes m n (key ∷ []) (ref ∷ [])) (r : Renames old new at ref) where
-  abbrev element : Element (Unit {0})
-  element = record { key = key; hash = h.hash; value = tt }
-
-  renamed : r.element ≡ element
-  renamed = some_same (item old at) r.element element r.found h.found
-    where
-      some_same : (o : Option (Element (Unit {0}))) (a b : Element (Unit {0})) → o ≡ Some a → o ≡ Some b → a ≡ b
-      some_same o a b h k = cc
-
-  bytes_kept : n ref ≡ m r.element.key
-  bytes_kept = same ∙ ap (λ (e : Element (Unit {0})). m e.key) (sym renamed)
-
-  other_kept : (other : ℕ) (e : Element (Unit {0})) → other ≢ at → item old other ≡ Some e → n e.key ≡ m e.key
-  other_kept other e apart there = Owned-others m n (key ∷ []) (ref ∷ []) (key_refs old) (key_refs-owned m old k) p e.key (names_key old other e there) out
-    where
-      out : IsOut e.key (key ∷ [])
-      out = elim (cases_ref key e.key) [
-        | inl one' ↦ absurd (apart (k.apart other at e element there h.found (ap m (sym one'))))
-        | inr two ↦ omega (arith, ap one_if two)
-      ]
-
-  moved_keyed : Keyed n new × (key_tables n new ≡ key_tables m old)
-  moved_keyed = r.keyed m n k bytes_kept other_kept
-
-  refs_moved : (q : BlockRef) → times q (key_refs new) + times q (key ∷ []) ≡ times q (key_refs old) + times q (ref ∷ [])
-  refs_moved q =
-      let both = refs_changed (λ _. []) old new at (Some (record r.element { key = ref })) r.updates q in
-      let was : times q (own_of (λ (_ : Unit {0}). []) (item old at)) ≡ times q (key ∷ []) = ap (λ o. times q (own_of (λ (_ : Unit {0}). []) o)) h.found in
-      omega (arith, both, was)
-
-  key_owned : Owned (key ∷ []) m
-  key_owned q = omega (arith, key_within old at element h.found q, key_refs-owned m old k q)
-
-  moved_changes : Changes m n (key_refs old) (key_refs new)
-  moved_changes = Changes-counted m n (key_refs old) (key_refs new) (key_refs-owned m old k) (record {
-    balance = λ q. omega (arith, counts.balance q, refs_moved q);
-    kept = λ q out_old out_new. counts.kept q (omega (arith, key_within old at element h.found q, out_old)) (omega (arith, refs_moved q, key_within old at element h.found q, out_old, out_new));
-  })
-    where
-      counts : Counts m n (key ∷ []) (ref ∷ [])
-      counts = Counts-changed m n (key ∷ []) (ref ∷ []) key_owned p
-
   pub item_settled : IsSettled m n old new (λ i. i ≢ at)
-  item_settled = record {
-    keyed = moved_keyed.0;
-    content_is = map_of-renames m n (λ (v : Unit {0}). v) old new at ref k moved_keyed.0 r bytes_kept other_kept;
-    tables_are = moved_keyed.1;
-    changes = moved_changes;
-    seed = r.seed;
-    top = r.top;
-    same_items = λ i. elim (cases_eq i at) [
-      | inl here ↦ ap (λ j. is_some (item new j)) here ∙ ap is_some r.updates.changed ∙ sym (ap (λ j. is_some (item old j)) here ∙ ap is_some r.found)
-      | inr other ↦ ap is_some (r.updates.others i other)
-    ];
-    others = λ i other. r.updates.others i other;
-  }
+  item_settled =
+      let moved = moved_keyed m n old new at key ref tt k h same p r in
+      record {
+        keyed = moved.0;
+        content_is = map_of-renames m n (λ (v : Unit {0}). v) old new at ref k moved.0 r (bytes_kept m n old new at key ref tt k h same p r) (other_kept m n old new at key ref tt k h same p r);
+        tables_are = moved.1;
+        changes = moved_changes m n old new at key ref tt k h same p r;
+        seed = r.seed;
+        top = r.top;
+        same_items = items_stand m n old new at key ref tt k h same p r;
+        others = λ i other. r.updates.others i other;
+      }
 
 -- ---- one after the other
 

@@ -5,13 +5,12 @@ use Rattle.std.specs.Ordering.{nat_cmp}
 use Rattle.std.specs.Cmp.Lexicographic.{slice_cmp}
 use Rattle.blocks.specs.declared.BlockRef.{BlockRef}
 use Rattle.blocks.specs.Blocks.{Blocks, IsIn, bytes_at, Changes}
-use Rattle.std.proofs.lemmas.Bool.{cond-true}
-use Rattle.blocks.proofs.Refs.{ref_eq-refl}
 use Rattle.blocks.proofs.Change.{one, Changes-owned}
 use Rattle.collection_walk.proofs.Replaced.{new_kept, replaced}
 use Rattle.object_codec.specs.declared.limits.Limits.{Limits}
 use Rattle.object_codec.specs.declared.form.Form.TheVariants.{Listpack, Skiplist}
 use Rattle.pack_pairs.specs.Pairs.{IsOnce, pairs}
+use Rattle.collection_walk.proofs.Named.{self}
 use Rattle.rehash_dict.specs.Keyed.{hash_of}
 use Rattle.rehash_dict.specs.Grown.{Grown}
 use Rattle.score_table.specs.declared.table.ScoreTable.{ScoreTable}
@@ -27,16 +26,13 @@ use Rattle.zset_object.specs.Packed.{keys_of, keys_in, scores_in}
 use Rattle.zset_object.specs.Scored.{IsScored, IsBody, IsMemberPack, IsChanged, IsPlacedBody, listed_of, scores_of, ranked_of, refs, refs_of_body, form_of_body, tables, tables_of}
 use Rattle.zset_object.proofs.Keys.{once_len, longest_key}
 
-pub one_of : (r : BlockRef) → one r r ≡ 1
-one_of r = cond-true _ _ _ (ref_eq-refl r)
-
 module _ (a b : Blocks) (limits : Limits) (seed : ℕ) where
   -- A body is the same where its blocks keep their bytes.
   pub body_kept : (body : Body) → IsBody a limits seed body → ((r : BlockRef) → IsIn r (refs_of_body body) → b r ≡ a r)
       → IsBody b limits seed body × (scores_of b body ≡ scores_of a body) × (ranked_of b body ≡ ranked_of a body) × (tables_of b body ≡ tables_of a body)
   body_kept Empty is same = (tt, refl, refl, refl)
   body_kept (Pack packed) is same =
-      let bytes : bytes_at b packed.at ≡ bytes_at a packed.at = ap (λ o. unwrap_or o []) (same packed.at (omega (arith, one_of packed.at))) in
+      let bytes : bytes_at b packed.at ≡ bytes_at a packed.at = ap (λ o. unwrap_or o []) (same packed.at (omega (arith, self packed.at))) in
       (subst (IsMemberPack limits packed.len) (sym bytes) is, ap scores_in bytes, ap keys_in bytes, refl)
   body_kept (Table t) is same =
       let k = score_table_laws_hold.sound a b t same is.sound in

@@ -1,14 +1,13 @@
 -- What a sorted set depends on, and the one list of its members.
-use Rattle.std.proofs.Common.{◌≡◌, ℕ, ◌<◌, ℤ, List, [], ◌++◌, length, Option, Some, None, IsSome, unwrap_or, refl, sym, ap, ◌∙◌, arith, cond, is_some, inl, inr}
+use Rattle.std.proofs.Common.{◌≡◌, ℕ, ◌<◌, ℤ, List, [], length, Option, Some, None, IsSome, unwrap_or, refl, sym, ap, ◌∙◌, arith}
 use Rattle.std.specs.FinMap.{get, get-empty, len, len-empty}
 use Rattle.std.specs.Ordering.{nat_cmp}
 use Rattle.std.specs.Cmp.Lexicographic.{slice_cmp}
 use Rattle.blocks.specs.declared.BlockRef.{BlockRef}
-use Rattle.blocks.specs.Blocks.{Blocks, IsIn, bytes_at, live, Changes, Owned}
-use Rattle.blocks.proofs.Times.{times-append}
-use Rattle.blocks.proofs.Change.{cases_in, live-once, Owned-others}
+use Rattle.blocks.specs.Blocks.{Blocks, IsIn, bytes_at}
 use Rattle.object_codec.specs.declared.limits.Limits.{Limits}
 use Rattle.pack_pairs.specs.Pairs.{pairs}
+use Rattle.collection_walk.proofs.Replaced.{still_owned, beside}
 use Rattle.score_table.specs.Ranking.{IsRanking}
 use Rattle.score_table.proofs.Depends.{score_table_laws_hold}
 use Rattle.zset_object.specs.declared.scored.Body.{Body}
@@ -18,30 +17,21 @@ use Rattle.zset_object.specs.Packed.{keys_in, scores_in}
 use Rattle.zset_object.specs.Scored.{IsScored, IsBody, scores_of, ranked, ranked_of, refs, refs_of_body, tables}
 use Rattle.zset_object.specs.Items.{pair_in, top_in}
 use Rattle.zset_object.specs.Laws.{ScoredLaws}
-use Rattle.zset_object.proofs.Bodies.{one_of, body_kept}
+use Rattle.zset_object.proofs.Bodies.{body_kept}
+use Rattle.collection_walk.proofs.Named.{self}
 use Rattle.zset_object.proofs.Keys.{once_len, keys_len}
 use Rattle.zset_object.proofs.Marks.{all_marked}
 use Rattle.zset_object.proofs.Listed.{pack_found, pack_has, pack_apart, pack_ranking, empty_ranking, get_below}
 
 own_scores : (a b : Blocks) (body : Body) → ((r : BlockRef) → IsIn r (refs_of_body body) → b r ≡ a r) → scores_of b body ≡ scores_of a body
 own_scores a b Empty same = refl
-own_scores a b (Pack p) same = ap (λ o. scores_in (unwrap_or o [])) (same p.at (omega (arith, one_of p.at)))
+own_scores a b (Pack p) same = ap (λ o. scores_in (unwrap_or o [])) (same p.at (omega (arith, self p.at)))
 own_scores a b (Table t) same = score_table_laws_hold.own a b t same
 
 kept : (a b : Blocks) (s : Scored) → ((r : BlockRef) → IsIn r (refs s) → b r ≡ a r) → IsScored a s → IsScored b s × (ranked b s ≡ ranked a s) × (tables b s ≡ tables a s)
 kept a b s same is =
     let k = body_kept a b s.limits s.seed s.body is.body same in
-    (record { limits = is.limits; owned = owned; body = k.0 }, k.2, k.3)
-  where
-    owned : Owned (refs s) b
-    owned r = elim (cases_in r (refs s)) [
-      | inl out ↦ omega (arith, out)
-      | inr isin ↦ let e : live b r ≡ live a r = ap (λ x. cond (is_some x) 1 0) (same r isin) in omega (arith, is.owned r, e)
-    ]
-
-beside : (a b : Blocks) (s : Scored) (old new : List BlockRef) → Owned (refs s ++ old) a → Changes a b old new → (r : BlockRef) → IsIn r (refs s) → b r ≡ a r
-beside a b s old new o p r isin =
-    Owned-others a b old new (refs s ++ old) o p r (omega (arith, isin, times-append r (refs s) old)) (omega (arith, isin, o r, times-append r (refs s) old, live-once a r))
+    (record { limits = is.limits; owned = still_owned a b (refs s) same is.owned; body = k.0 }, k.2, k.3)
 
 ranking_of : (m : Blocks) (limits : Limits) (seed : ℕ) (body : Body) → IsBody m limits seed body → IsRanking (scores_of m body) (ranked_of m body)
 ranking_of m limits seed Empty is = empty_ranking (scores_of m Empty) (λ k. get-empty (slice_cmp nat_cmp) k)
@@ -81,8 +71,8 @@ pub scored_laws_hold : ScoredLaws
 scored_laws_hold = record {
   own = λ a b s same. own_scores a b s.body same;
   sound = kept;
-  others = λ a b s old new o p. own_scores a b s.body (beside a b s old new o p);
-  stays = λ a b s old new o p is. (kept a b s (beside a b s old new o p) is).0;
+  others = λ a b s old new o p. own_scores a b s.body (beside a b (refs s) old new o p);
+  stays = λ a b s old new o p is. (kept a b s (beside a b (refs s) old new o p) is).0;
   marked = λ s. all_marked s.body;
   ranking = λ m s is. ranking_of m s.limits s.seed s.body is.body;
   counted = λ m s is. counted_of m s.limits s.seed s.body is.body;
