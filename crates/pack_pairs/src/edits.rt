@@ -16,6 +16,24 @@ pub fn empty(alloc: Global) -> Result<Vec<u8>, Memory>
     listpack::empty(alloc)
 }
 
+/// The listpack with one pair more before the one at an index, or behind all where that is their number.
+pub fn put_pair(
+    mut pack: Vec<u8>,
+    index: usize,
+    first: &[u8],
+    second: &[u8],
+) -> Result<Vec<u8>, Memory>
+    requires pack { IsPairPack pack.items }
+    requires index { index ≤ length (pairs pack.items) }
+    requires fits { FitsPair pack.items first.now second.now }
+    ensures pack { IfOk result (λ new. IsPairPack new.items) }
+    ensures list { IfOk result (λ new. pairs new.items ≡ inserted (pairs pack.items) index (first.now, second.now)) }
+{
+    listpack::insert(&mut pack, 2 * index, second)?;
+    listpack::insert(&mut pack, 2 * index, first)?;
+    Ok(pack)
+}
+
 /// A copy of the listpack with one pair more before the one at an index, or behind all where that is their number.
 pub fn with_pair(
     alloc: Global,
@@ -30,10 +48,8 @@ pub fn with_pair(
     ensures pack { IfOk result (λ new. IsPairPack new.items) }
     ensures list { IfOk result (λ new. pairs new.items ≡ inserted (pairs bytes.now) index (first.now, second.now)) }
 {
-    let mut pack = Vec::from_slice(alloc, bytes)?;
-    listpack::insert(&mut pack, 2 * index, second)?;
-    listpack::insert(&mut pack, 2 * index, first)?;
-    Ok(pack)
+    let pack = Vec::from_slice(alloc, bytes)?;
+    put_pair(pack, index, first, second)
 }
 
 /// A copy of the listpack with one pair more behind all others.

@@ -4,6 +4,6 @@
 mod edits;
 mod walks;
 
-pub use edits::{empty, with_last, with_pair, with_second, without};
+pub use edits::{empty, put_pair, with_last, with_pair, with_second, without};
 pub use listpack::Memory;
 pub use walks::{Place, find, find_second, first, first_place, next_place, second, seek, text};

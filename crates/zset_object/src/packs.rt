@@ -14,7 +14,7 @@ use blocks::Memory;
 use int_text::read_i64;
 use itoa::Buffer;
 use listpack::Element;
-use pack_pairs::{find, first, first_place, next_place, second, text, with_pair, without};
+use pack_pairs::{find, first, first_place, next_place, put_pair, second, text, without};
 use std::alloc::Global;
 use std::cmp::Ordering;
 
@@ -102,17 +102,17 @@ pub(crate) fn find_index(bytes: &[u8], member: &[u8]) -> Option<usize>
     }
 }
 
-// A copy of the listpack with a member that it lacks, at the place that its score gives it.
-fn with_member(alloc: Global, bytes: &[u8], score: i64, member: &[u8]) -> Result<Vec<u8>, Memory>
-    requires pack { IsScorePack bytes.now }
-    requires lacks { second_of member.now (pairs bytes.now) ≡ None }
-    requires fits { FitsPair bytes.now member.now (canonical score) }
+// The listpack with a member that it lacks, at the place that its score gives it.
+fn with_member(pack: Vec<u8>, score: i64, member: &[u8]) -> Result<Vec<u8>, Memory>
+    requires pack { IsScorePack pack.items }
+    requires lacks { second_of member.now (pairs pack.items) ≡ None }
+    requires fits { FitsPair pack.items member.now (canonical score) }
     ensures pack { IfOk result (λ new. IsScorePack new.items) }
-    ensures list { IfOk result (λ new. pairs new.items ≡ inserted (pairs bytes.now) (place_in (score, member.now) (keys_in bytes.now)) (member.now, canonical score)) }
+    ensures list { IfOk result (λ new. pairs new.items ≡ inserted (pairs pack.items) (place_in (score, member.now) (keys_in pack.items)) (member.now, canonical score)) }
 {
-    let index = place_of(bytes, score, member);
+    let index = place_of(&pack, score, member);
     let mut room = Buffer::new();
-    with_pair(alloc, bytes, index, member, room.format(score).as_bytes())
+    put_pair(pack, index, member, room.format(score).as_bytes())
 }
 
 /// A copy of the listpack with this score of a member, whose pair's index is at hand.
@@ -134,8 +134,11 @@ pub(crate) fn pack_with(
     match index {
         Some(index) => {
             let left = without(alloc, bytes, index)?;
-            with_member(alloc, &left, score, member)
+            with_member(left, score, member)
         }
-        None => with_member(alloc, bytes, score, member),
+        None => {
+            let all = Vec::from_slice(alloc, bytes)?;
+            with_member(all, score, member)
+        }
     }
 }
