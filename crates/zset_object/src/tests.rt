@@ -6,6 +6,8 @@ ghost use Rattle.blocks.specs.Plain.{plain_blocks};
 ghost use Rattle.object_codec.specs.Limits.{AreInRange};
 ghost use Rattle.zset_object.specs.Scored.{IsScored};
 
+mod slabs;
+
 use crate::scarce::Scarce;
 use crate::{Memory, Moved, Scored, scored_laws};
 use itoa::Buffer;
@@ -211,14 +213,22 @@ impl Held {
     }
 }
 
-// Whether so many members have one form, and with one more another.
-fn rises_behind(alloc: Global, limits: Limits, count: u32, forms: [Form; 2]) -> Result<bool, Memory>
-    requires limits { AreInRange limits }
+// Whether so many members have one form by these limits, and with one more another.
+fn rises_behind(
+    alloc: Global,
+    entries: u32,
+    value: u32,
+    count: u32,
+    forms: [Form; 2],
+) -> Result<bool, Memory>
+    requires entries { entries ≤ 4096 }
+    requires value { value ≤ 4096 }
     requires few { count ≤ 4096 }
 {
-    let mut held = Held::new(alloc, limits);
+    let mut held = Held::new(alloc, limits(entries, value));
     for n in 0..=count {
-        held.set(Buffer::new().format(n).as_bytes(), -(n as i64))?;
+        let member = format!(in alloc; "m{n}")?;
+        held.set(member.as_bytes(), -(n as i64))?;
         if n + 1 == count && held.set.form() != forms[0] {
             return Ok(false);
         }
@@ -226,35 +236,48 @@ fn rises_behind(alloc: Global, limits: Limits, count: u32, forms: [Form; 2]) -> 
     Ok(held.set.form() == forms[1] && held.set.len() == count as usize + 1)
 }
 
-// Forms at each limit and one past it: numbers of members at 128, the default, at 0 and at 512, and then lengths at 64, the default, at 0
-// and at 4,096, the most.
+// Forms at each number of members that is a limit and at one more: 128, the default, 0, and 4,096, the most.
 #[test]
 fn forms_rise(rt: HostRuntime) -> Result<(), Fail> {
     let alloc = rt.alloc();
     let forms = [Form::Listpack, Form::Skiplist];
-    assert!(rt; rises_behind(alloc, limits(128, 64), 128, forms)?);
-    assert!(rt; rises_behind(alloc, limits(512, 4096), 512, forms)?);
-    assert!(rt; rises_behind(alloc, limits(0, 64), 0, forms)?);
+    assert!(rt; rises_behind(alloc, 128, 64, 128, forms)?);
+    assert!(rt; rises_behind(alloc, 0, 64, 0, forms)?);
+    assert!(rt; rises_behind(alloc, 4096, 64, 4096, forms)?);
     Ok(())
 }
 
+// Whether members have their forms by these limits in their turn.
+fn rises_by(
+    alloc: Global,
+    entries: u32,
+    value: u32,
+    rows: &[(&[u8], i64, Form)],
+) -> Result<bool, Memory>
+    requires entries { entries ≤ 4096 }
+    requires value { value ≤ 4096 }
+{
+    Held::new(alloc, limits(entries, value)).rises(rows)
+}
+
+// Forms at each length that is a limit and at one more: 64, the default, 0, and 4,096, the most.
 #[test]
 fn forms_rise_by_length(rt: HostRuntime) -> Result<(), Fail> {
     let alloc = rt.alloc();
-    let by_member: [(&[u8], i64, Form); 4] = [
+    let by_default: [(&[u8], i64, Form); 4] = [
         (b"12", -7, Form::Listpack),
         (&[7; 64], i64::MAX, Form::Listpack),
         (&[7; 65], 0, Form::Skiplist),
         (b"b", i64::MIN, Form::Skiplist),
     ];
-    assert!(rt; Held::new(alloc, limits(128, 64)).rises(&by_member)?);
+    assert!(rt; rises_by(alloc, 128, 64, &by_default)?);
     let none: [(&[u8], i64, Form); 2] = [(b"", 1, Form::Listpack), (b"a", 1, Form::Skiplist)];
-    assert!(rt; Held::new(alloc, limits(4096, 0)).rises(&none)?);
+    assert!(rt; rises_by(alloc, 4096, 0, &none)?);
     let most: [(&[u8], i64, Form); 2] = [
         (&[1; 4096], i64::MIN, Form::Listpack),
         (&[1; 4097], 2, Form::Skiplist),
     ];
-    assert!(rt; Held::new(alloc, limits(4096, 4096)).rises(&most)?);
+    assert!(rt; rises_by(alloc, 4096, 4096, &most)?);
     Ok(())
 }
 
@@ -450,18 +473,30 @@ fn edits_agree_with_a_plain_list(rt: HostRuntime) {
     }
 }
 
-// A sorted set by ranks of a listpack and by item numbers of a table, and its pages: a listpack is one page, and none goes on from it.
+impl Held {
+    // Whether one page has all of so many members, also from a place that none goes on to, and these have the item numbers below.
+    fn is_one_page(&self, alloc: Global, count: usize) -> Result<bool, Memory> {
+        let all = page(alloc, &self.set, 5, 1)?;
+        Ok(all.next == 0 && all.items.len() == count && self.set.top() == count)
+    }
+}
+
+// A listpack is one page, and its members' item numbers are their ranks.
 #[test]
-fn members_have_item_numbers(rt: HostRuntime) -> Result<(), Fail> {
+fn a_listpack_is_one_page(rt: HostRuntime) -> Result<(), Fail> {
     scored_laws();
     let mut held = Held::new(rt.alloc(), limits(3, 64));
     for count in 0..=3u32 {
         held.set_numbers(count)?;
-        let all = page(rt.alloc(), &held.set, 5, 1)?;
-        assert_eq!(rt; all.next, 0);
-        assert_eq!(rt; all.items.len(), count as usize);
-        assert_eq!(rt; held.set.top(), count as usize);
+        assert!(rt; held.is_one_page(rt.alloc(), count as usize)?);
     }
+    Ok(())
+}
+
+// The members of a table have item numbers, and a page.
+#[test]
+fn members_have_item_numbers(rt: HostRuntime) -> Result<(), Fail> {
+    let mut held = Held::new(rt.alloc(), limits(3, 64));
     held.set_numbers(5)?;
     assert!(rt; held.set.form() == Form::Skiplist);
     assert_eq!(rt; page(rt.alloc(), &held.set, 0, 5)?.items.len(), 5);
