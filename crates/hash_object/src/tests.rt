@@ -6,6 +6,8 @@ ghost use Rattle.blocks.specs.Plain.{plain_blocks};
 ghost use Rattle.object_codec.specs.Limits.{AreInRange};
 ghost use Rattle.hash_object.specs.Fields.{IsFields};
 
+mod slabs;
+
 use crate::scarce::Scarce;
 use crate::{Fields, Memory, Moved, fields_laws};
 use itoa::Buffer;
@@ -205,12 +207,19 @@ impl Held {
     }
 }
 
-// Whether so many fields have one form, and with one more another.
-fn rises_behind(alloc: Global, limits: Limits, count: u32, forms: [Form; 2]) -> Result<bool, Memory>
-    requires limits { AreInRange limits }
+// Whether so many fields have one form by these limits, and with one more another.
+fn rises_behind(
+    alloc: Global,
+    entries: u32,
+    value: u32,
+    count: u32,
+    forms: [Form; 2],
+) -> Result<bool, Memory>
+    requires entries { entries ≤ 4096 }
+    requires value { value ≤ 4096 }
     requires few { count ≤ 4096 }
 {
-    let mut held = Held::new(alloc, limits);
+    let mut held = Held::new(alloc, limits(entries, value));
     for n in 0..=count {
         let field = format!(in alloc; "f{n}")?;
         held.set(field.as_bytes(), b"v")?;
@@ -221,39 +230,75 @@ fn rises_behind(alloc: Global, limits: Limits, count: u32, forms: [Form; 2]) -> 
     Ok(held.hash.form() == forms[1] && held.hash.len() == count as usize + 1)
 }
 
-// Forms at each limit and one past it: numbers of fields at 512, the default, at 0 and at 4,096, the most, lengths at 64, the default,
-// at 0 and at 4,096.
+// Forms at each number of fields that is a limit and at one more: 512, the default, 0, and 4,096, the most.
 #[test]
 fn forms_rise(rt: HostRuntime) -> Result<(), Fail> {
     let alloc = rt.alloc();
     let forms = [Form::Listpack, Form::Hashtable];
-    assert!(rt; rises_behind(alloc, limits(512, 64), 512, forms)?);
-    assert!(rt; rises_behind(alloc, limits(4096, 4096), 4096, forms)?);
-    assert!(rt; rises_behind(alloc, limits(0, 64), 0, forms)?);
-    let by_field: [(&[u8], &[u8], Form); 4] = [
+    assert!(rt; rises_behind(alloc, 512, 64, 512, forms)?);
+    assert!(rt; rises_behind(alloc, 0, 64, 0, forms)?);
+    assert!(rt; rises_behind(alloc, 4096, 4096, 4096, forms)?);
+    Ok(())
+}
+
+// Whether fields have their values and the hash its forms by this limit of lengths in their turn.
+fn rises_by(alloc: Global, value: u32, rows: &[(&[u8], &[u8], Form)]) -> Result<bool, Memory>
+    requires { value ≤ 4096 }
+{
+    Held::new(alloc, limits(4096, value)).rises(rows)
+}
+
+// Forms at each length of a field that is a limit and at one more: 64, the default, 0, and 4,096, the most.
+#[test]
+fn forms_rise_by_fields(rt: HostRuntime) -> Result<(), Fail> {
+    let alloc = rt.alloc();
+    let by_default: [(&[u8], &[u8], Form); 4] = [
         (b"12", b"-7", Form::Listpack),
         (&[7; 64], b"", Form::Listpack),
         (&[7; 65], b"", Form::Hashtable),
         (b"b", b"1", Form::Hashtable),
     ];
-    assert!(rt; Held::new(alloc, limits(512, 64)).rises(&by_field)?);
-    let by_value: [(&[u8], &[u8], Form); 3] = [
-        (b"a", &[7; 64], Form::Listpack),
-        (b"b", &[7; 65], Form::Hashtable),
-        (b"", b"", Form::Hashtable),
-    ];
-    assert!(rt; Held::new(alloc, limits(512, 64)).rises(&by_value)?);
+    assert!(rt; rises_by(alloc, 64, &by_default)?);
     let none: [(&[u8], &[u8], Form); 2] = [
         (b"", b"", Form::Listpack),
         (b"a", b"", Form::Hashtable),
     ];
-    assert!(rt; Held::new(alloc, limits(4096, 0)).rises(&none)?);
+    assert!(rt; rises_by(alloc, 0, &none)?);
     let most: [(&[u8], &[u8], Form); 2] = [
-        (&[1; 4096], &[2; 4096], Form::Listpack),
-        (b"", &[1; 4097], Form::Hashtable),
+        (&[1; 4096], b"", Form::Listpack),
+        (&[1; 4097], b"", Form::Hashtable),
     ];
-    assert!(rt; Held::new(alloc, limits(4096, 4096)).rises(&most)?);
+    assert!(rt; rises_by(alloc, 4096, &most)?);
     Ok(())
+}
+
+// The same of values.
+#[test]
+fn forms_rise_by_values(rt: HostRuntime) -> Result<(), Fail> {
+    let alloc = rt.alloc();
+    let by_default: [(&[u8], &[u8], Form); 3] = [
+        (b"a", &[7; 64], Form::Listpack),
+        (b"b", &[7; 65], Form::Hashtable),
+        (b"", b"", Form::Hashtable),
+    ];
+    assert!(rt; rises_by(alloc, 64, &by_default)?);
+    let none: [(&[u8], &[u8], Form); 1] = [(b"", b"1", Form::Hashtable)];
+    assert!(rt; rises_by(alloc, 0, &none)?);
+    let most: [(&[u8], &[u8], Form); 2] = [
+        (b"a", &[2; 4096], Form::Listpack),
+        (b"b", &[2; 4097], Form::Hashtable),
+    ];
+    assert!(rt; rises_by(alloc, 4096, &most)?);
+    Ok(())
+}
+
+impl Held {
+    // Whether the field `f` was there and has this value then, and a hash of `f` and `g` its form.
+    fn overwrites(&mut self, value: &[u8], form: Form) -> Result<bool, Memory> {
+        let is_new = self.set(b"f", value)?;
+        let is_right = self.has(b"f", value) && self.has(b"g", b"2");
+        Ok(!is_new && is_right && self.hash.len() == 2 && self.hash.form() == form)
+    }
 }
 
 // Values that are overwritten: in a listpack, by one that is too long for it, and in a dictionary.
@@ -268,11 +313,7 @@ fn values_are_overwritten(rt: HostRuntime) -> Result<(), Fail> {
         (b"123456789", Form::Hashtable),
         (b"4", Form::Hashtable),
     ] {
-        assert!(rt; !held.set(b"f", value)?);
-        assert!(rt; held.has(b"f", value));
-        assert!(rt; held.has(b"g", b"2"));
-        assert_eq!(rt; held.hash.len(), 2);
-        assert!(rt; held.hash.form() == form);
+        assert!(rt; held.overwrites(value, form)?);
     }
     held.release();
     Ok(())
@@ -418,18 +459,30 @@ fn edits_agree_with_a_plain_list(rt: HostRuntime) {
     }
 }
 
-// A hash by an index of a listpack and by item numbers of a dictionary, and its pages: a listpack is one page, and none goes on from it.
+impl Held {
+    // Whether one page has all of so many fields, also from a place that none goes on to, and these have the item numbers below.
+    fn is_one_page(&self, alloc: Global, count: usize) -> Result<bool, Memory> {
+        let all = page(alloc, &self.hash, 5, 1)?;
+        Ok(all.next == 0 && all.items.len() == count && self.hash.top() == count)
+    }
+}
+
+// A listpack is one page, and its fields' item numbers are their indices.
 #[test]
-fn fields_have_item_numbers(rt: HostRuntime) -> Result<(), Fail> {
+fn a_listpack_is_one_page(rt: HostRuntime) -> Result<(), Fail> {
     fields_laws();
     let mut held = Held::new(rt.alloc(), limits(3, 64));
     for count in 0..=3u32 {
         held.set_numbers(count)?;
-        let all = page(rt.alloc(), &held.hash, 5, 1)?;
-        assert_eq!(rt; all.next, 0);
-        assert_eq!(rt; all.items.len(), count as usize);
-        assert_eq!(rt; held.hash.top(), count as usize);
+        assert!(rt; held.is_one_page(rt.alloc(), count as usize)?);
     }
+    Ok(())
+}
+
+// The fields of a dictionary have item numbers, and a page.
+#[test]
+fn fields_have_item_numbers(rt: HostRuntime) -> Result<(), Fail> {
+    let mut held = Held::new(rt.alloc(), limits(3, 64));
     held.set_numbers(5)?;
     assert!(rt; held.hash.form() == Form::Hashtable);
     assert_eq!(rt; page(rt.alloc(), &held.hash, 0, 5)?.items.len(), 5);
@@ -440,17 +493,32 @@ fn fields_have_item_numbers(rt: HostRuntime) -> Result<(), Fail> {
     Ok(())
 }
 
-// Marks of the block of a listpack and of those of fields and values, passed at most 32 at a time, vacant item numbers among them.
+// Whether calls from these marks on answer these.
+fn passes(held: &mut Held, rows: &[(u128, Option<u128>, u32)]) -> bool {
+    for (from, next, used) in rows {
+        let moved = held.relocate(*from);
+        if moved.next != *next || moved.used != *used {
+            return false;
+        }
+    }
+    true
+}
+
+// The mark of the block of a listpack.
+#[test]
+fn a_listpack_is_passed_by_its_mark(rt: HostRuntime) -> Result<(), Fail> {
+    let mut packed = Held::new(rt.alloc(), limits(512, 64));
+    assert!(rt; passes(&mut packed, &[(0, None, 0)]));
+    assert_eq!(rt; packed.hash.units(), 0);
+    assert!(rt; packed.set(b"f", b"v")?);
+    assert!(rt; passes(&mut packed, &[(0, None, 1), (1, None, 0)]));
+    assert_eq!(rt; packed.hash.units(), 1);
+    Ok(())
+}
+
+// The marks of the blocks of fields and values, passed at most 32 at a time, a vacant item number among them.
 #[test]
 fn blocks_are_passed_by_marks(rt: HostRuntime) -> Result<(), Fail> {
-    let passed = |next, used| Moved { next, used };
-    let mut packed = Held::new(rt.alloc(), limits(512, 64));
-    assert_eq!(rt; packed.relocate(0), passed(None, 0));
-    assert_eq!(rt; packed.hash.units(), 0);
-    packed.set(b"f", b"v")?;
-    assert_eq!(rt; packed.relocate(0), passed(None, 1));
-    assert_eq!(rt; packed.relocate(1), passed(None, 0));
-    assert_eq!(rt; packed.hash.units(), 1);
     let mut hashed = Held::new(rt.alloc(), limits(0, 0));
     hashed.set_numbers(20)?;
     assert!(rt; hashed.remove(b"3")?);
@@ -463,9 +531,7 @@ fn blocks_are_passed_by_marks(rt: HostRuntime) -> Result<(), Fail> {
         (33, None, 7),
         (40, None, 0),
     ];
-    for (from, next, used) in rows {
-        assert_eq!(rt; hashed.relocate(from), passed(next, used));
-    }
+    assert!(rt; passes(&mut hashed, &rows));
     assert_eq!(rt; hashed.hash.units(), 39);
     assert!(rt; hashed.meets(19));
     Ok(())
