@@ -1,5 +1,6 @@
 -- What a run is given: what its words ask for, and what stands outside.
-use Rattle.std.specs.Prelude.{◌≡◌, ℕ, ◌^◌, ◌-◌, nat_le, List, [], ◌∷◌, map, fold, Option, Some, Bool, true, ◌&&◌, codes, if◌then◌else◌}
+use Rattle.std.specs.Prelude.{◌≡◌, ℕ, ◌^◌, ◌-◌, nat_le, List, [], ◌∷◌, map, fold, Option, Some, Bool, true, ◌&&◌}
+use Rattle.std.specs.Prelude.{codes, if◌then◌else◌}
 use Rattle.std.specs.List.{list_all}
 use Rattle.std.specs.Option.{option_map_or}
 use Rattle.std.specs.Str.Parse.{digits_value}

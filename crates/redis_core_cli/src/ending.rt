@@ -4,6 +4,7 @@ ghost use Rattle.std.specs.Prelude.{◌≡◌};
 ghost use Rattle.redis_core_cli.specs.Statuses.{status_of, ending_of};
 
 use rdb_grammar::LoadKind;
+use resp_frames::Rule;
 use serving::Ended;
 
 /// What ends a run. Each has an exit status.
@@ -17,7 +18,7 @@ pub enum Ending {
     Usage,
     /// The bytes break a rule of the protocol, at a byte that is counted from the start of the input: 2.
     Protocol {
-        rule: u8,
+        rule: Rule,
         at: u64,
     },
     /// The input ended inside a request: 3.

@@ -6,6 +6,7 @@ use crate::test_runs::run_up_to;
 use crate::top_call::redis_core;
 use outside::{Clock, ListClock, MemHost, MemSink, MemSource};
 use rdb_grammar::LoadKind;
+use resp_frames::Rule;
 use std::alloc::{AllocError, Global};
 use std::test::Fail;
 
@@ -352,7 +353,10 @@ const LINES: [(Ending, &[u8]); 11] = [
     (Ending::Usage, b"redis-core: wrong usage\n"),
     (Ending::Quit, b""),
     (
-        Ending::Protocol { rule: 3, at: 4 },
+        Ending::Protocol {
+            rule: Rule::InvalidBulkLength,
+            at: 4,
+        },
         b"redis-core: protocol error P3 at byte 4\n",
     ),
     (Ending::Cut, b"redis-core: input ended inside a request\n"),

@@ -3,7 +3,7 @@
 ghost use Rattle.std.specs.Prelude.{◌≡◌, ◌++◌, codes};
 ghost use Rattle.std.specs.Fmt.{decimal};
 ghost use Rattle.resp_frames.specs.Puts.{Puts};
-ghost use Rattle.redis_core_cli.specs.Notes.{Notes, line_feed, fault_line, line_of};
+ghost use Rattle.redis_core_cli.specs.Notes.{Notes, line_feed, numbered_fault_line, line_of};
 
 use crate::ending::Ending;
 use itoa::Buffer;
@@ -34,8 +34,13 @@ fn put_place<N: Sink>(notes: &mut N, at: u64) -> Result<(), WriteFault>
 }
 
 // Puts the line of a fault that has a number, at a byte.
-fn put_fault<N: Sink>(notes: &mut N, text: &[u8], number: u8, at: u64) -> Result<(), WriteFault>
-    ensures { Puts (N.seen notes.old) (N.seen notes.new) (fault_line text.now number at) result }
+fn put_numbered_fault<N: Sink>(
+    notes: &mut N,
+    text: &[u8],
+    number: u8,
+    at: u64,
+) -> Result<(), WriteFault>
+    ensures { Puts (N.seen notes.old) (N.seen notes.new) (numbered_fault_line text.now number at) result }
 {
     match put_number(notes, text, number as u64) {
         Ok(()) => put_place(notes, at),
@@ -51,17 +56,17 @@ fn put_line<N: Sink>(notes: &mut N, ending: Ending) -> Result<(), WriteFault>
         Ending::Whole => put_all(notes, b""),
         Ending::Quit => put_all(notes, b""),
         Ending::Usage => put_all(notes, b"redis-core: wrong usage\n"),
-        Ending::Protocol { rule, at } => put_fault(
+        Ending::Protocol { rule, at } => put_numbered_fault(
             notes,
             b"redis-core: protocol error P",
-            rule,
+            rule.number(),
             at,
         ),
         Ending::Cut => put_all(notes, b"redis-core: input ended inside a request\n"),
         Ending::ReadFault => put_all(notes, b"redis-core: input failed\n"),
         Ending::WriteFault => put_all(notes, b"redis-core: output failed\n"),
         Ending::Host => put_all(notes, b"redis-core: file could not be read\n"),
-        Ending::Refused { kind, at } => put_fault(
+        Ending::Refused { kind, at } => put_numbered_fault(
             notes,
             b"redis-core: file refused: L",
             kind.number(),

@@ -5,9 +5,9 @@ use Rattle.std.specs.List.{AllByRecursion}
 use Rattle.std.specs.Fmt.{decimal}
 use Rattle.std.proofs.lemmas.List.{append_assoc, append-nil, drop-drop, take_rest, map-append, length-map}
 use Rattle.std.proofs.lemmas.List.Concat.{flat_map-append}
-use Rattle.plain_world.specs.Words.{IsWord, IsRequest}
+use Rattle.plain_world.specs.Words.{IsWord, IsRequest, longest}
 use Rattle.plain_world.specs.Spelling.{line_end}
-use Rattle.resp_frames.specs.Frames.{header, bulk, Asked, Passed, IsNoCount}
+use Rattle.resp_frames.specs.Frames.{header, bulk, Asked, Passed, IsNoCount, most_words}
 use Rattle.resp_frames.specs.HeaderRead.{text_of, IsHeader}
 use Rattle.resp_frames.specs.LineRead.{word_at, words_at, AreWithin}
 use Rattle.resp_frames.specs.RequestRead.{StandsAtCount, StandsAtBody, IsWholeBody, IsRequestAt, IsPassedAt, GoesOn, ReadsStep, step_after}
@@ -24,7 +24,7 @@ use Rattle.resp_frames.proofs.Parts.{within_one}
 pub record Longer (bytes : List ℕ) (read end words : ℕ) (spans : List Span) : Type 0 where
   pub within : end ≤ length bytes
   pub further : read < end
-  pub few : words ≤ 1048576
+  pub few : words ≤ most_words
   pub at_most : length spans ≤ words
   pub some : 0 < length spans
   pub inside : AreWithin bytes spans
@@ -40,7 +40,7 @@ longer bytes read words len spans s w =
     let end = read + len + 2 in
     let low : read ≤ length bytes = s.within in
     let long : len + 2 ≤ length rest = w.within in
-    let small : len ≤ 536870912 = s.small in
+    let small : len ≤ longest = s.small in
     let due_ : length ws < words = s.begun.due in
     let many : length ws ≡ length spans = length-map spans (word_at bytes) in
     let more : length (spans ++ one ∷ []) ≡ length spans + 1 = length-append spans (one ∷ []) in
@@ -70,7 +70,7 @@ all_words bytes read end words spans h is =
     let ws = words_at bytes spans in
     let many : length ws ≡ length spans = length-map spans (word_at bytes) in
     let count : words ≡ length ws = sym (many ∙ is) in
-    let few : words ≤ 1048576 = h.few in
+    let few : words ≤ most_words = h.few in
     let some : 0 < length spans = h.some in
     let further : read < end = h.further in
     let sound : IsRequest ws = record { some = omega arith; few = omega arith; each = h.each } in

@@ -4,7 +4,7 @@ use Rattle.std.specs.Prelude.{flat_map}
 use Rattle.std.specs.List.{AllByRecursion}
 use Rattle.std.specs.Fmt.{decimal}
 use Rattle.std.proofs.lemmas.List.{append_assoc, take-append-drop, drop_all, drop_more}
-use Rattle.plain_world.specs.Words.{Words}
+use Rattle.plain_world.specs.Words.{Words, longest}
 use Rattle.plain_world.specs.Spelling.{line_end}
 use Rattle.plain_world.proofs.Lines.{decimal_plain}
 use Rattle.std.proofs.lemmas.Fmt.{length-decimal-le}
@@ -14,11 +14,13 @@ use Rattle.resp_frames.specs.Reading.{Read, Took, Open, Wrong, read_on, read_hea
 use Rattle.resp_frames.proofs.Choices.{on_equal, on_other, by_equal}
 use Rattle.resp_frames.proofs.Headers.{HeaderIs, header_again, header_is, line_first, line_begins}
 use Rattle.resp_frames.proofs.Numbers.{NumberIs, number_is, length_again, length_bad, not_length}
+use Rattle.resp_frames.specs.declared.rule.Rule.{Rule}
+use Rattle.resp_frames.specs.declared.rule.Rule.TheVariants as rules
 
 pub decimal_text : (n : ℕ) → n < 2 ^ 64 → IsText (decimal n)
 decimal_text n h = let k : length (decimal n) ≤ 20 = length-decimal-le 20 n (lit< tt) (omega arith) h in record { plain = decimal_plain n h; short = omega arith }
 
-length_text : (n : ℕ) → n ≤ 536870912 → IsText (decimal n)
+length_text : (n : ℕ) → n ≤ longest → IsText (decimal n)
 length_text n h = decimal_text n (omega arith)
 
 -- a bulk string, as its header and what follows
@@ -36,25 +38,25 @@ drop_whole (b ∷ w) A = drop_whole w A
 -- behind the mark
 marked : (bytes more : List ℕ) → bytes ≡ 36 ∷ more → read_bulk bytes ≡ read_marked bytes
 unfolding read_bulk
-marked bytes more e = ap read_bulk e ∙ on_equal 36 36 (read_marked (36 ∷ more)) (Wrong 2 (36 ∷ more)) refl ∙ ap read_marked (sym e)
+marked bytes more e = ap read_bulk e ∙ on_equal 36 36 (read_marked (36 ∷ more)) (Wrong rules.ExpectedDollar (36 ∷ more)) refl ∙ ap read_marked (sym e)
 
 bulk_none : read_bulk [] ≡ Open
 unfolding read_bulk
 bulk_none = refl
 
 -- the bytes after a whole header
-pub after_length : (n : ℕ) (rest : List ℕ) → n ≤ 536870912 → read_bulk (header 36 (decimal n) ++ rest) ≡ read_body n rest
+pub after_length : (n : ℕ) (rest : List ℕ) → n ≤ longest → read_bulk (header 36 (decimal n) ++ rest) ≡ read_body n rest
 after_length n rest le =
     let all = header 36 (decimal n) ++ rest in
     marked all ((decimal n ++ line_end) ++ rest) refl
-    ∙ ap (λ x. read_on x (λ text more. read_word all (read_number 536870912 text) more)) (header_again 36 (decimal n) rest (length_text n le))
+    ∙ ap (λ x. read_on x (λ text more. read_word all (read_number longest text) more)) (header_again 36 (decimal n) rest (length_text n le))
     ∙ ap (λ o. read_word all o rest) (length_again n le)
 
 -- a bulk string whose header isn't whole
 pub bulk_counting : (bytes : List ℕ) → (bytes ≡ []) ⊎ (bytes ≡ 36 ∷ drop 1 bytes) → read_header bytes ≡ Open → read_bulk bytes ≡ Open
 bulk_counting bytes begun e = elim begun [
   | inl none ↦ ap read_bulk none ∙ bulk_none
-  | inr some ↦ marked bytes (drop 1 bytes) some ∙ ap (λ x. read_on x (λ text rest. read_word bytes (read_number 536870912 text) rest)) e
+  | inr some ↦ marked bytes (drop 1 bytes) some ∙ ap (λ x. read_on x (λ text rest. read_word bytes (read_number longest text) rest)) e
 ]
 
 -- a body that isn't whole
@@ -76,24 +78,24 @@ body_split w A = ap (λ l. after_word l (drop (length w) (w ++ A))) (take_whole 
 pub bulk_again : (w rest : List ℕ) → IsWord w → read_bulk (bulk w ++ rest) ≡ Took w rest
 bulk_again w rest h = ap read_bulk (as_bulk w rest) ∙ after_length (length w) (w ++ 13 ∷ 10 ∷ rest) h ∙ body_split w (13 ∷ 10 ∷ rest)
 
-fault_is : {A : Type 0} (rule rule' : ℕ) (from from' : List ℕ) → rule ≡ rule' → from ≡ from' → (let w : Read A = Wrong rule' from' in w) ≡ Wrong rule from
+fault_is : {A : Type 0} (rule rule' : Rule) (from from' : List ℕ) → rule ≡ rule' → from ≡ from' → (let w : Read A = Wrong rule' from' in w) ≡ Wrong rule from
 fault_is rule rule' from from' e f = sym (ap (λ r. Wrong r from) e ∙ ap (Wrong rule') f)
 
-pub bulk_first : (bytes : List ℕ) (rule : ℕ) (from : List ℕ) → BulkFault bytes rule from → read_bulk bytes ≡ Wrong rule from
+pub bulk_first : (bytes : List ℕ) (rule : Rule) (from : List ℕ) → BulkFault bytes rule from → read_bulk bytes ≡ Wrong rule from
 unfolding read_bulk
-bulk_first bytes rule from (other_mark b more r f e ne) = ap read_bulk e ∙ on_other b 36 (read_marked (b ∷ more)) (Wrong 2 (b ∷ more)) ne ∙ fault_is rule 2 from (b ∷ more) r (f ∙ e)
+bulk_first bytes rule from (other_mark b more r f e ne) = ap read_bulk e ∙ on_other b 36 (read_marked (b ∷ more)) (Wrong rules.ExpectedDollar (b ∷ more)) ne ∙ fault_is rule rules.ExpectedDollar from (b ∷ more) r (f ∙ e)
 bulk_first bytes rule from (length_line h) =
     let begins = line_begins 36 rule bytes from h in
-    marked bytes begins.0 begins.1 ∙ ap (λ x. read_on x (λ text more. read_word bytes (read_number 536870912 text) more)) (line_first 36 rule bytes from h)
+    marked bytes begins.0 begins.1 ∙ ap (λ x. read_on x (λ text more. read_word bytes (read_number longest text) more)) (line_first 36 rule bytes from h)
 bulk_first bytes rule from (length_number (bad_number text more r f e h bad)) =
-    marked bytes ((text ++ line_end) ++ more) e ∙ ap (λ x. read_on x (λ t m. read_word bytes (read_number 536870912 t) m)) (ap read_header e ∙ header_again 36 text more h)
-    ∙ ap (λ o. read_word bytes o more) (length_bad text bad) ∙ fault_is rule 3 from bytes r f
+    marked bytes ((text ++ line_end) ++ more) e ∙ ap (λ x. read_on x (λ t m. read_word bytes (read_number longest t) m)) (ap read_header e ∙ header_again 36 text more h)
+    ∙ ap (λ o. read_word bytes o more) (length_bad text bad) ∙ fault_is rule rules.InvalidBulkLength from bytes r f
 bulk_first bytes rule from (no_return word more b r f e h ne) =
-    ap read_bulk e ∙ after_length (length word) (word ++ from) h ∙ body_split word from ∙ ap (after_word word) f ∙ on_other b 13 (after_return word more) (Wrong 5 (b ∷ more)) ne
-    ∙ fault_is rule 5 from (b ∷ more) r f
+    ap read_bulk e ∙ after_length (length word) (word ++ from) h ∙ body_split word from ∙ ap (after_word word) f ∙ on_other b 13 (after_return word more) (Wrong rules.ExpectedCrLf (b ∷ more)) ne
+    ∙ fault_is rule rules.ExpectedCrLf from (b ∷ more) r f
 bulk_first bytes rule from (no_feed word more b r f e h ne) =
-    ap read_bulk e ∙ after_length (length word) (word ++ 13 ∷ from) h ∙ body_split word (13 ∷ from) ∙ ap (after_return word) f ∙ on_other b 10 (Took word more) (Wrong 5 (b ∷ more)) ne
-    ∙ fault_is rule 5 from (b ∷ more) r f
+    ap read_bulk e ∙ after_length (length word) (word ++ 13 ∷ from) h ∙ body_split word (13 ∷ from) ∙ ap (after_return word) f ∙ on_other b 10 (Took word more) (Wrong rules.ExpectedCrLf (b ∷ more)) ne
+    ∙ fault_is rule rules.ExpectedCrLf from (b ∷ more) r f
 
 -- what the reading of a bulk string tells
 abbrev pub BulkIs : List ℕ → Read (List ℕ) → Type 0
@@ -109,14 +111,14 @@ record Worded (bytes w rest : List ℕ) : Type 0 where
 feed_is : (bytes w rest : List ℕ) → Worded bytes w (13 ∷ rest) → BulkIs bytes (after_return w rest)
 feed_is bytes w [] h = tt
 feed_is bytes w (b ∷ rest) h =
-    by_equal (BulkIs bytes) b 10 (Took w rest) (Wrong 5 (b ∷ rest))
+    by_equal (BulkIs bytes) b 10 (Took w rest) (Wrong rules.ExpectedCrLf (b ∷ rest))
     (λ e. (h.small, h.whole ∙ ap (λ c. header 36 (decimal (length w)) ++ (w ++ 13 ∷ c ∷ rest)) e ∙ sym (as_bulk w rest)))
     (λ ne. no_feed w rest b refl refl h.whole h.small ne)
 
 return_is : (bytes w rest : List ℕ) → Worded bytes w rest → BulkIs bytes (after_word w rest)
 return_is bytes w [] h = tt
 return_is bytes w (b ∷ rest) h =
-    by_equal (BulkIs bytes) b 13 (after_return w rest) (Wrong 5 (b ∷ rest))
+    by_equal (BulkIs bytes) b 13 (after_return w rest) (Wrong rules.ExpectedCrLf (b ∷ rest))
     (λ e. feed_is bytes w rest (record { whole = h.whole ∙ ap (λ c. header 36 (decimal (length w)) ++ (w ++ c ∷ rest)) e; small = h.small }))
     (λ ne. no_return w rest b refl refl h.whole h.small ne)
 
@@ -126,7 +128,7 @@ length_taken zero bytes b more e = refl
 length_taken (suc n) [] b more e = cc
 length_taken (suc n) (x ∷ bytes) b more e = let r : length (take n bytes) ≡ n = length_taken n bytes b more e in omega (arith, r)
 
-body_is : (bytes : List ℕ) (len : ℕ) (rest : List ℕ) → len ≤ 536870912 → bytes ≡ header 36 (decimal len) ++ rest → BulkIs bytes (read_body len rest)
+body_is : (bytes : List ℕ) (len : ℕ) (rest : List ℕ) → len ≤ longest → bytes ≡ header 36 (decimal len) ++ rest → BulkIs bytes (read_body len rest)
 unfolding read_body
 body_is bytes len rest le e =
     elim (drop len rest) as (λ d. drop len rest ≡ d → BulkIs bytes (after_word (take len rest) d)) [
@@ -138,12 +140,12 @@ body_is bytes len rest le e =
           return_is bytes (take len rest) (b ∷ more) (record { whole = m; small = omega arith })
     ] refl
 
-word_is : (bytes text rest : List ℕ) (o : Option ℕ) → read_number 536870912 text ≡ o → NumberIs 536870912 text o → IsText text → bytes ≡ header 36 text ++ rest → BulkIs bytes (read_word bytes o rest)
+word_is : (bytes text rest : List ℕ) (o : Option ℕ) → read_number longest text ≡ o → NumberIs longest text o → IsText text → bytes ≡ header 36 text ++ rest → BulkIs bytes (read_word bytes o rest)
 word_is bytes text rest None is k h e = length_number (bad_number text rest refl refl e h (not_length text is))
 word_is bytes text rest (Some len) is k h e = body_is bytes len rest k.0 (e ∙ ap (λ t. header 36 t ++ rest) k.1)
 
-then_word : (bytes : List ℕ) (x : Read (List ℕ)) → HeaderIs 36 bytes x → BulkIs bytes (read_on x (λ text rest. read_word bytes (read_number 536870912 text) rest))
-then_word bytes (Took text rest) h = word_is bytes text rest _ refl (number_is 536870912 text) h.0 h.1
+then_word : (bytes : List ℕ) (x : Read (List ℕ)) → HeaderIs 36 bytes x → BulkIs bytes (read_on x (λ text rest. read_word bytes (read_number longest text) rest))
+then_word bytes (Took text rest) h = word_is bytes text rest _ refl (number_is longest text) h.0 h.1
 then_word bytes Open h = tt
 then_word bytes (Wrong rule from) h = length_line h
 
@@ -152,7 +154,7 @@ unfolding read_bulk
 bulk_is [] = tt
 bulk_is (b ∷ bytes) =
     let Q : ℕ → Type 0 = λ c. BulkIs (c ∷ bytes) (read_marked (c ∷ bytes)) in
-    by_equal (BulkIs (b ∷ bytes)) b 36 (read_marked (b ∷ bytes)) (Wrong 2 (b ∷ bytes))
+    by_equal (BulkIs (b ∷ bytes)) b 36 (read_marked (b ∷ bytes)) (Wrong rules.ExpectedDollar (b ∷ bytes))
     (λ e. subst Q (sym e) (then_word (36 ∷ bytes) (read_header (36 ∷ bytes)) (header_is 36 bytes)))
     (λ ne. other_mark b bytes refl refl refl ne)
 
@@ -178,7 +180,7 @@ bulks_open (suc n) (w ∷ words) rest less h e =
     ∙ ap (λ x. read_on x next) (bulk_again w (flat_map bulk words ++ rest) h.0)
     ∙ ap (λ x. read_on x (λ ws end. Took (w ∷ ws) end)) (bulks_open n words rest (omega arith) h.1 e)
 
-pub bulks_wrong : (n : ℕ) (words : Words) (rest : List ℕ) (rule : ℕ) (from : List ℕ) → length words < n → AllByRecursion IsWord words → read_bulk rest ≡ Wrong rule from → read_bulks n (flat_map bulk words ++ rest) ≡ Wrong rule from
+pub bulks_wrong : (n : ℕ) (words : Words) (rest : List ℕ) (rule : Rule) (from : List ℕ) → length words < n → AllByRecursion IsWord words → read_bulk rest ≡ Wrong rule from → read_bulks n (flat_map bulk words ++ rest) ≡ Wrong rule from
 unfolding read_bulks
 bulks_wrong zero words rest rule from less h e = absurd (omega arith)
 bulks_wrong (suc n) [] rest rule from less h e = ap (λ x. read_on x (λ word more. read_on (read_bulks n more) (λ ws end. Took (word ∷ ws) end))) e
@@ -189,7 +191,7 @@ bulks_wrong (suc n) (w ∷ words) rest rule from less h e =
     ∙ ap (λ x. read_on x (λ ws end. Took (w ∷ ws) end)) (bulks_wrong n words rest rule from (omega arith) h.1 e)
 
 -- some words are whole, and the next is wrong
-pub record Fewer (n : ℕ) (bytes : List ℕ) (rule : ℕ) (from : List ℕ) : Type 0 where
+pub record Fewer (n : ℕ) (bytes : List ℕ) (rule : Rule) (from : List ℕ) : Type 0 where
   pub words : Words
   pub rest : List ℕ
   pub whole : bytes ≡ flat_map bulk words ++ rest

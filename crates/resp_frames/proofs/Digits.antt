@@ -3,7 +3,7 @@ use Rattle.std.proofs.Common.{◌≡◌, ℕ, ◌+◌, ◌-◌, ◌*◌, ◌<◌
 use Rattle.std.specs.Fmt.{decimal}
 use Rattle.std.specs.Int.{IsInRange}
 use Rattle.std.specs.Prelude.{IsTrue}
-use Rattle.resp_frames.specs.Frames.{is_negative}
+use Rattle.resp_frames.specs.Frames.{is_negative, most_words}
 use Rattle.resp_frames.specs.Faults.{IsCount}
 use Rattle.plain_world.proofs.Numerals.{AreDigits, read_on, own, zero_text}
 use Rattle.std.proofs.lemmas.Fmt.{digits_decimal, digits_value-decimal, decimal-digits_value, decimal_nonempty, first_decimal, decimal_digit}
@@ -66,7 +66,7 @@ no_bytes text m small none is =
 pub read_whole : (text : List ℕ) → AreDigits text → 0 < length text → (get_or text 0 0 ≡ 48 → length text ≡ 1) → read_on 0 text < 2 ^ 64 → text ≡ decimal (read_on 0 text)
 read_whole text ds some zero fits = sym (decimal-digits_value own text ds some zero fits)
 
-pub no_count : (text : List ℕ) → (IsTrue (is_negative text) → ⊥) → ((n : ℕ) → n ≤ 1048576 → text ≡ decimal n → ⊥) → IsCount text → ⊥
+pub no_count : (text : List ℕ) → (IsTrue (is_negative text) → ⊥) → ((n : ℕ) → n ≤ most_words → text ≡ decimal n → ⊥) → IsCount text → ⊥
 no_count text negative none h = elim h [
   | inl less ↦ elim less [ inl zero ↦ none 0 (lit≤ tt) (zero ∙ sym zero_text) | inr n ↦ negative n ]
   | inr p ↦ none p.0 p.1 p.2

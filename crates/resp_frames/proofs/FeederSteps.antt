@@ -5,7 +5,7 @@ use Rattle.resp_frames.specs.Reading.{read_item, Open}
 use Rattle.resp_frames.specs.Ends.{IsCut}
 use Rattle.resp_frames.specs.Faults.{RequestFault}
 use Rattle.plain_world.specs.Words.{Words}
-use Rattle.resp_frames.specs.Feeding.{Feeding, feeding, current_words, Gives, GivesOut, GivesNone, GivesFault, NextIs, NextFound}
+use Rattle.resp_frames.specs.Feeding.{Feeding, feeding, current_words, GivesRequests, GivesOut, GivesNone, GivesFault, NextIs, NextFound}
 use Rattle.resp_frames.specs.declared.feeder.FrameFault.{FrameFault}
 use Rattle.resp_frames.specs.declared.feeder.FrameFault.TheVariants as faults
 use Rattle.resp_frames.specs.RequestRead.{words_at, IsPassedAt, IsRequestAt}
@@ -15,21 +15,22 @@ use Rattle.resp_frames.specs.declared.span.Span.{Span}
 use Rattle.resp_frames.specs.declared.request.Progress.{Progress}
 use Rattle.resp_frames.proofs.Giving.{gives_append, gives_none, gives_request, gives_passed, gives_fewer}
 use Rattle.resp_frames.proofs.Items.{cut_from_open}
+use Rattle.resp_frames.specs.declared.rule.Rule.{Rule}
 
 pub record Further (bytes : List ℕ) (at : ℕ) (spans : List Span) : Type 0 where
-  pub gives : Gives bytes (drop at bytes) []
+  pub gives : GivesRequests bytes (drop at bytes) []
   pub within : at ≤ length bytes
   pub none : spans ≡ []
 
 -- a header more is passed over
-pub passed_further : (bytes : List ℕ) (at end : ℕ) (spans : List Span) → Gives bytes (drop at bytes) [] → at ≤ length bytes → IsPassedAt (take (length bytes - at) (drop at bytes)) end spans → Further bytes (at + end) spans
+pub passed_further : (bytes : List ℕ) (at end : ℕ) (spans : List Span) → GivesRequests bytes (drop at bytes) [] → at ≤ length bytes → IsPassedAt (take (length bytes - at) (drop at bytes)) end spans → Further bytes (at + end) spans
 passed_further bytes at end spans g low h =
     let P : List ℕ → Type 0 = λ l. IsPassedAt l end spans in
     let k = subst P (take_rest bytes at) h in
     let e : drop end (drop at bytes) ≡ drop (at + end) bytes = drop-drop end at bytes ∙ ap (λ n. drop n bytes) (omega arith) in
     let w : end ≤ length (drop at bytes) = k.within in
     record {
-      gives = subst (λ l. Gives bytes l []) e (gives_append bytes (drop at bytes) (drop end (drop at bytes)) [] [] g (gives_passed (drop at bytes) end spans k));
+      gives = subst (λ l. GivesRequests bytes l []) e (gives_append bytes (drop at bytes) (drop end (drop at bytes)) [] [] g (gives_passed (drop at bytes) end spans k));
       within = omega (arith, length-drop at bytes);
       none = k.none;
     }
@@ -65,7 +66,7 @@ module _ (old : Feeding) (gone at passed : ℕ) (bytes lent : List ℕ) (spans :
       let left : drop end (drop passed (drop at bytes)) ≡ drop (at + passed + end) bytes = ap (drop end) rest ∙ rest_is bytes (at + passed) end in
       let g = gives_append (drop at bytes) (drop passed (drop at bytes)) (drop end (drop passed (drop at bytes))) [] _ m.gives (gives_request (drop passed (drop at bytes)) end spans m.reads) in
       let w : end ≤ length (drop passed (drop at bytes)) = m.reads.within in
-      let P : List ℕ → List ℕ → List ℕ → Type 0 = λ a b l. Gives a b (words_at l spans ∷ []) in
+      let P : List ℕ → List ℕ → List ℕ → Type 0 = λ a b l. GivesRequests a b (words_at l spans ∷ []) in
       record {
         words = words_at (drop (at + passed) bytes) spans;
         gives = subst (λ a. P a (drop (at + passed + end) bytes) (drop (at + passed) bytes)) kept (subst (λ b. P (drop at bytes) b (drop (at + passed) bytes)) left (subst (λ l. P (drop at bytes) (drop end (drop passed (drop at bytes))) l) rest g));
@@ -73,8 +74,8 @@ module _ (old : Feeding) (gone at passed : ℕ) (bytes lent : List ℕ) (spans :
         fed = fed_as_before end (let v : passed ≤ length (drop at bytes) = m.within in omega (arith, length-drop passed (drop at bytes)));
       }
 
-  gives_rest : Gives (drop at bytes) (drop passed (drop at bytes)) [] → Gives old.kept (drop (at + passed) bytes) []
-  gives_rest g = subst (λ a. Gives a (drop (at + passed) bytes) []) kept (subst (λ b. Gives (drop at bytes) b []) (rest_is bytes at passed) g)
+  gives_rest : GivesRequests (drop at bytes) (drop passed (drop at bytes)) [] → GivesRequests old.kept (drop (at + passed) bytes) []
+  gives_rest g = subst (λ a. GivesRequests a (drop (at + passed) bytes) []) kept (subst (λ b. GivesRequests (drop at bytes) b []) (rest_is bytes at passed) g)
 
   fed_none : passed ≤ length (drop at bytes) → gone + (at + passed) + length (drop (at + passed) bytes) ≡ old.gone + length old.kept
   fed_none w = let k : length (drop at bytes) ≡ length old.kept = ap length kept in omega (arith, length-drop (at + passed) bytes, length-drop at bytes)
@@ -91,7 +92,7 @@ module _ (old : Feeding) (gone at passed : ℕ) (bytes lent : List ℕ) (spans :
         fed = fed_none m.within;
       }
 
-  pub fault_out : (base : ℕ) (spans' : List Span) (ready : Bool) → ready ≡ false → (rule place : ℕ) → NextFound (take (length lent - at) (drop at lent)) spans passed (next.Broken rule place) → GivesFault old (feeding gone bytes base (at + passed) spans' ready) rule (gone + (at + passed + place))
+  pub fault_out : (base : ℕ) (spans' : List Span) (ready : Bool) → ready ≡ false → (rule : Rule) (place : ℕ) → NextFound (take (length lent - at) (drop at lent)) spans passed (next.Broken rule place) → GivesFault old (feeding gone bytes base (at + passed) spans' ready) rule (gone + (at + passed + place))
   fault_out base spans' ready not rule place h =
       let m = whole_found bytes lent at passed spans (next.Broken rule place) same h in
       let rest = rest_is bytes at passed in

@@ -5,7 +5,7 @@ use Rattle.std.specs.Fmt.{decimal}
 use Rattle.std.proofs.lemmas.List.{append_assoc}
 use Rattle.plain_world.specs.Words.{Words}
 use Rattle.plain_world.specs.Spelling.{line_end}
-use Rattle.resp_frames.specs.Frames.{header, bulk, IsText, Item, Asked, Passed, Line, item_bytes, IsItem}
+use Rattle.resp_frames.specs.Frames.{header, bulk, IsText, Item, Asked, Passed, Line, item_bytes, IsItem, most_words}
 use Rattle.resp_frames.specs.Faults.{LineFault, too_long, no_line_feed, NumberFault, bad_number, BulkFault, other_mark, length_line, length_number, no_return, no_feed, Begun, RequestFault, count_line, count_number, in_word, in_line}
 use Rattle.resp_frames.specs.Ends.{IsCut}
 use Rattle.resp_frames.specs.Reading.{Read, Took, Open, Wrong, read_on, read_header, read_count, read_bulk, read_bulks, read_words, read_array, read_line, read_item}
@@ -14,8 +14,10 @@ use Rattle.resp_frames.proofs.Headers.{HeaderIs, header_again, header_is, line_f
 use Rattle.resp_frames.proofs.Inlines.{InlineIs, line_again, inline_first, inline_is, inline_within, inline_stays}
 use Rattle.resp_frames.proofs.Numbers.{CountIs, count_is, count_again, passed_again, count_bad, not_count}
 use Rattle.resp_frames.proofs.Bulks.{decimal_text, bulk_first, BulksIs, bulks_again, bulks_open, bulks_wrong, bulks_is}
+use Rattle.resp_frames.specs.declared.rule.Rule.{Rule}
+use Rattle.resp_frames.specs.declared.rule.Rule.TheVariants as rules
 
-count_text : (n : ℕ) → n ≤ 1048576 → IsText (decimal n)
+count_text : (n : ℕ) → n ≤ most_words → IsText (decimal n)
 count_text n h = decimal_text n (omega arith)
 
 -- behind the mark
@@ -40,7 +42,7 @@ after_words all text zero rest h = absurd (omega arith)
 after_words all text (suc n) rest h = refl
 
 -- a request of n words, from its first word on
-after_number : (n : ℕ) (rest : List ℕ) → 0 < n → n ≤ 1048576 → read_item (header 42 (decimal n) ++ rest) ≡ to_item (read_bulks n rest)
+after_number : (n : ℕ) (rest : List ℕ) → 0 < n → n ≤ most_words → read_item (header 42 (decimal n) ++ rest) ≡ to_item (read_bulks n rest)
 after_number n rest some few =
     after_count (decimal n) rest (Some n) (count_text n few) (count_again n few) ∙ after_words (header 42 (decimal n) ++ rest) (decimal n) n rest some
 
@@ -67,15 +69,15 @@ item_counting bytes begun e = elim begun [
   | inr some ↦ marked bytes (drop 1 bytes) some ∙ ap (λ x. read_on x (λ text rest. read_words bytes text (read_count text) rest)) e
 ]
 
-fault_is : (rule rule' : ℕ) (from from' : List ℕ) → rule ≡ rule' → from ≡ from' → (let w : Read Item = Wrong rule' from' in w) ≡ Wrong rule from
+fault_is : (rule rule' : Rule) (from from' : List ℕ) → rule ≡ rule' → from ≡ from' → (let w : Read Item = Wrong rule' from' in w) ≡ Wrong rule from
 fault_is rule rule' from from' e f = sym (ap (λ r. Wrong r from) e ∙ ap (Wrong rule') f)
 
-pub item_first : (bytes : List ℕ) (rule : ℕ) (from : List ℕ) → RequestFault bytes rule from → read_item bytes ≡ Wrong rule from
+pub item_first : (bytes : List ℕ) (rule : Rule) (from : List ℕ) → RequestFault bytes rule from → read_item bytes ≡ Wrong rule from
 item_first bytes rule from (count_line h) =
     let begins = line_begins 42 rule bytes from h in
     marked bytes begins.0 begins.1 ∙ ap (λ x. read_on x (λ text rest. read_words bytes text (read_count text) rest)) (line_first 42 rule bytes from h)
 item_first bytes rule from (count_number (bad_number text more r f e h bad)) =
-    ap read_item e ∙ after_count text more None h (count_bad text bad) ∙ fault_is rule 1 from (header 42 text ++ more) r (f ∙ e)
+    ap read_item e ∙ after_count text more None h (count_bad text bad) ∙ fault_is rule rules.InvalidMultibulkLength from (header 42 text ++ more) r (f ∙ e)
 item_first bytes rule from (in_word n words rest b h) =
     after_begun bytes n words rest b ∙ ap to_item (bulks_wrong n words rest rule from b.due b.each (bulk_first rest rule from h))
 item_first bytes rule from (in_line h) = inline_first bytes rule from h
@@ -86,10 +88,10 @@ ItemIs bytes (Took x rest) = IsItem x × (bytes ≡ item_bytes x ++ rest)
 ItemIs bytes Open = Unit {0}
 ItemIs bytes (Wrong rule from) = RequestFault bytes rule from
 
-request_is : (bytes : List ℕ) (n : ℕ) (rest : List ℕ) → 0 < n → n ≤ 1048576 → bytes ≡ header 42 (decimal n) ++ rest → (x : Read Words) → BulksIs n rest x → ItemIs bytes (to_item x)
+request_is : (bytes : List ℕ) (n : ℕ) (rest : List ℕ) → 0 < n → n ≤ most_words → bytes ≡ header 42 (decimal n) ++ rest → (x : Read Words) → BulksIs n rest x → ItemIs bytes (to_item x)
 request_is bytes n rest some few e (Took words end) h =
     let len : length words ≡ n = h.0 in
-    let P : ℕ → Type 0 = λ m. (0 < m) × (m ≤ 1048576) in
+    let P : ℕ → Type 0 = λ m. (0 < m) × (m ≤ most_words) in
     let bounds : P (length words) = subst P (sym len) (some, few) in (
       record { some = bounds.0; few = bounds.1; each = h.1 },
       e ∙ ap (λ m. header 42 (decimal m) ++ rest) (sym len) ∙ ap (λ l. header 42 (decimal (length words)) ++ l) h.2 ∙ sym (append_assoc (header 42 (decimal (length words))) (flat_map bulk words) end),
@@ -131,20 +133,20 @@ cut_from_open bytes e some = record {
 }
 
 -- the place of a fault stands in the bytes
-line_within : (mark : ℕ) (bytes : List ℕ) (rule : ℕ) (from : List ℕ) → LineFault mark bytes rule from → length from ≤ length bytes
+line_within : (mark : ℕ) (bytes : List ℕ) (rule : Rule) (from : List ℕ) → LineFault mark bytes rule from → length from ≤ length bytes
 line_within mark bytes rule from (too_long t more r f e p n) = omega (arith, ap length f)
 line_within mark bytes rule from (no_line_feed t more b r f e h ne) =
     let n : length bytes ≡ length (mark ∷ t ++ 13 ∷ from) = ap length e in
     let m : length (t ++ 13 ∷ from) ≡ length t + length (13 ∷ from) = length-append t (13 ∷ from) in
     omega arith
 
-number_within : (mark wrong : ℕ) (IsGood : List ℕ → Type 0) (bytes : List ℕ) (rule : ℕ) (from : List ℕ) → NumberFault mark wrong IsGood bytes rule from → length from ≤ length bytes
+number_within : (mark : ℕ) (wrong : Rule) (IsGood : List ℕ → Type 0) (bytes : List ℕ) (rule : Rule) (from : List ℕ) → NumberFault mark wrong IsGood bytes rule from → length from ≤ length bytes
 number_within mark wrong IsGood bytes rule from (bad_number t more r f e h bad) = omega (arith, ap length f)
 
-bulk_within : (bytes : List ℕ) (rule : ℕ) (from : List ℕ) → BulkFault bytes rule from → length from ≤ length bytes
+bulk_within : (bytes : List ℕ) (rule : Rule) (from : List ℕ) → BulkFault bytes rule from → length from ≤ length bytes
 bulk_within bytes rule from (other_mark b more r f e ne) = omega (arith, ap length f)
 bulk_within bytes rule from (length_line h) = line_within 36 bytes rule from h
-bulk_within bytes rule from (length_number h) = number_within 36 3 _ bytes rule from h
+bulk_within bytes rule from (length_number h) = number_within 36 rules.InvalidBulkLength _ bytes rule from h
 bulk_within bytes rule from (no_return w more b r f e h ne) =
     let n : length bytes ≡ length (header 36 (decimal (length w)) ++ (w ++ from)) = ap length e in
     omega (arith, length-append (header 36 (decimal (length w))) (w ++ from), length-append w from)
@@ -152,10 +154,10 @@ bulk_within bytes rule from (no_feed w more b r f e h ne) =
     let n : length bytes ≡ length (header 36 (decimal (length w)) ++ (w ++ 13 ∷ from)) = ap length e in
     omega (arith, length-append (header 36 (decimal (length w))) (w ++ 13 ∷ from), length-append w (13 ∷ from))
 
-pub fault_within : (bytes : List ℕ) (rule : ℕ) (from : List ℕ) → RequestFault bytes rule from → length from ≤ length bytes
+pub fault_within : (bytes : List ℕ) (rule : Rule) (from : List ℕ) → RequestFault bytes rule from → length from ≤ length bytes
 fault_within bytes rule from (count_line h) = line_within 42 bytes rule from h
 fault_within bytes rule from (in_line h) = inline_within bytes rule from h
-fault_within bytes rule from (count_number h) = number_within 42 1 _ bytes rule from h
+fault_within bytes rule from (count_number h) = number_within 42 rules.InvalidMultibulkLength _ bytes rule from h
 fault_within bytes rule from (in_word n words rest b h) =
     let k : length from ≤ length rest = bulk_within rest rule from h in
     let m : length bytes ≡ length (header 42 (decimal n) ++ (flat_map bulk words ++ rest)) = ap length b.whole in
@@ -163,20 +165,20 @@ fault_within bytes rule from (in_word n words rest b h) =
 
 -- a fault stays, whatever comes behind it
 
-line_stays : (mark : ℕ) (bytes : List ℕ) (rule : ℕ) (from back : List ℕ) → LineFault mark bytes rule from → LineFault mark (bytes ++ back) rule (from ++ back)
+line_stays : (mark : ℕ) (bytes : List ℕ) (rule : Rule) (from back : List ℕ) → LineFault mark bytes rule from → LineFault mark (bytes ++ back) rule (from ++ back)
 line_stays mark bytes rule from back (too_long t more r f e p n) =
     too_long t (more ++ back) r (ap (λ l. l ++ back) f) (ap (λ l. l ++ back) e ∙ ap (λ l. mark ∷ l) (append_assoc t more back)) p n
 line_stays mark bytes rule from back (no_line_feed t more b r f e h ne) =
     no_line_feed t (more ++ back) b r (ap (λ l. l ++ back) f) (ap (λ l. l ++ back) e ∙ ap (λ l. mark ∷ l) (append_assoc t (13 ∷ from) back)) h ne
 
-number_stays : (mark wrong : ℕ) (IsGood : List ℕ → Type 0) (bytes : List ℕ) (rule : ℕ) (from back : List ℕ) → NumberFault mark wrong IsGood bytes rule from → NumberFault mark wrong IsGood (bytes ++ back) rule (from ++ back)
+number_stays : (mark : ℕ) (wrong : Rule) (IsGood : List ℕ → Type 0) (bytes : List ℕ) (rule : Rule) (from back : List ℕ) → NumberFault mark wrong IsGood bytes rule from → NumberFault mark wrong IsGood (bytes ++ back) rule (from ++ back)
 number_stays mark wrong IsGood bytes rule from back (bad_number t more r f e h bad) =
     bad_number t (more ++ back) r (ap (λ l. l ++ back) f) (ap (λ l. l ++ back) e ∙ append_assoc (header mark t) more back) h bad
 
-bulk_stays : (bytes : List ℕ) (rule : ℕ) (from back : List ℕ) → BulkFault bytes rule from → BulkFault (bytes ++ back) rule (from ++ back)
+bulk_stays : (bytes : List ℕ) (rule : Rule) (from back : List ℕ) → BulkFault bytes rule from → BulkFault (bytes ++ back) rule (from ++ back)
 bulk_stays bytes rule from back (other_mark b more r f e ne) = other_mark b (more ++ back) r (ap (λ l. l ++ back) f) (ap (λ l. l ++ back) e) ne
 bulk_stays bytes rule from back (length_line h) = length_line (line_stays 36 bytes rule from back h)
-bulk_stays bytes rule from back (length_number h) = length_number (number_stays 36 3 _ bytes rule from back h)
+bulk_stays bytes rule from back (length_number h) = length_number (number_stays 36 rules.InvalidBulkLength _ bytes rule from back h)
 bulk_stays bytes rule from back (no_return w more b r f e h ne) =
     let head = header 36 (decimal (length w)) in
     no_return w (more ++ back) b r (ap (λ l. l ++ back) f) (ap (λ l. l ++ back) e ∙ append_assoc head (w ++ from) back ∙ ap (λ l. head ++ l) (append_assoc w from back)) h ne
@@ -194,8 +196,8 @@ begun_stays bytes n words rest back b =
       each = b.each;
     }
 
-pub fault_stays : (bytes : List ℕ) (rule : ℕ) (from back : List ℕ) → RequestFault bytes rule from → RequestFault (bytes ++ back) rule (from ++ back)
+pub fault_stays : (bytes : List ℕ) (rule : Rule) (from back : List ℕ) → RequestFault bytes rule from → RequestFault (bytes ++ back) rule (from ++ back)
 fault_stays bytes rule from back (count_line h) = count_line (line_stays 42 bytes rule from back h)
 fault_stays bytes rule from back (in_line h) = in_line (inline_stays bytes rule from back h)
-fault_stays bytes rule from back (count_number h) = count_number (number_stays 42 1 _ bytes rule from back h)
+fault_stays bytes rule from back (count_number h) = count_number (number_stays 42 rules.InvalidMultibulkLength _ bytes rule from back h)
 fault_stays bytes rule from back (in_word n words rest b h) = in_word n words (rest ++ back) (begun_stays bytes n words rest back b) (bulk_stays rest rule from back h)

@@ -3,7 +3,7 @@ use Rattle.std.proofs.Common.{◌≡◌, ℕ, ◌+◌, ◌<◌, ◌≤◌, List,
 use Rattle.std.specs.Io.BufRead.{strip_last}
 use Rattle.std.proofs.lemmas.List.{append_assoc, take-append-drop, take_all, drop_more, drop-append-le, length-map}
 use Rattle.plain_world.specs.Words.{Words, IsRequest}
-use Rattle.resp_frames.specs.Frames.{Line, IsInline, IsLine, IsWithout, line_words, asked_inline}
+use Rattle.resp_frames.specs.Frames.{Line, IsInline, IsLine, IsWithout, line_words, asked_inline, longest_line}
 use Rattle.resp_frames.specs.Faults.{InlineFault, endless, quoted, in_line}
 use Rattle.resp_frames.specs.HeaderRead.{IsOther}
 use Rattle.resp_frames.specs.LineRead.{word_at, words_at, AreWithin, IsOpenLine, IsLineOf, IsWholeLine, IsEndlessLine, IsQuotedLine, ReadsLine, AreWords}
@@ -13,6 +13,8 @@ use Rattle.resp_frames.specs.declared.line.Inline.TheVariants as lines
 use Rattle.resp_frames.specs.declared.request.Due.TheVariants as due
 use Rattle.resp_frames.proofs.Inlines.{inline_front, line_open}
 use Rattle.resp_frames.proofs.Parts.{words_stay, within_stays, line_inside, line_words_at, line_request}
+use Rattle.resp_frames.specs.declared.rule.Rule.{Rule}
+use Rattle.resp_frames.specs.declared.rule.Rule.TheVariants as rules
 
 -- it begins as an inline request does
 is_inline : (bytes : List ℕ) → IsOther 42 bytes → IsInline bytes
@@ -27,7 +29,7 @@ inline_take bytes n h = inline_front (take n bytes) (drop n bytes) (subst IsInli
 pub open_line : (bytes : List ℕ) (scanned n : ℕ) (spans : List Span) → StandsAtLine bytes 0 scanned spans → IsOpenLine bytes n → IsOpenRequest bytes (record { read = 0; due = due.Line n }) spans
 open_line bytes scanned n spans s h =
     let all : n ≡ length bytes = h.all in
-    let few : n ≤ 65536 = h.few in
+    let few : n ≤ longest_line = h.few in
     record {
       stands = record {
         start = refl;
@@ -38,9 +40,9 @@ open_line bytes scanned n spans s h =
       more = line_open bytes (is_inline bytes s.begun) (begun_some bytes s.begun) h.plain (omega arith);
     }
 
-pub endless_line : (bytes : List ℕ) (n : ℕ) → n ≤ length bytes → n ≤ 65537 → IsWithout 10 (take n bytes) → 65536 < n → IsEndlessLine bytes
+pub endless_line : (bytes : List ℕ) (n : ℕ) → n ≤ length bytes → n ≤ longest_line + 1 → IsWithout 10 (take n bytes) → longest_line < n → IsEndlessLine bytes
 endless_line bytes n within few plain many =
-    let is : n ≡ 65537 = omega arith in
+    let is : n ≡ longest_line + 1 = omega arith in
     let P : ℕ → Type 0 = λ m. IsWithout 10 (take m bytes) in
     record { within = omega arith; plain = subst P is plain }
 
@@ -49,9 +51,9 @@ line_cut : (bytes : List ℕ) (n : ℕ) → IsLineOf bytes n → bytes ≡ take 
 line_cut bytes n h = sym (take-append-drop n bytes) ∙ ap (λ l. take n bytes ++ l) (drop_more bytes n 0 h.within ∙ ap (λ b. b ∷ drop (n + 1) bytes) h.end)
 
 line_sound : (bytes : List ℕ) (n : ℕ) → IsInline bytes → IsLineOf bytes n → IsLine (take n bytes)
-line_sound bytes n i h = let few : n ≤ 65536 = h.few in record { inline = inline_take bytes n i; plain = h.plain; short = omega (arith, length-take n bytes) }
+line_sound bytes n i h = let few : n ≤ longest_line = h.few in record { inline = inline_take bytes n i; plain = h.plain; short = omega (arith, length-take n bytes) }
 
-quoted_line : (bytes : List ℕ) (at : ℕ) → IsInline bytes → IsQuotedLine bytes at → InlineFault bytes 6 (drop at bytes)
+quoted_line : (bytes : List ℕ) (at : ℕ) → IsInline bytes → IsQuotedLine bytes at → InlineFault bytes rules.QuotedInline (drop at bytes)
 quoted_line bytes at i h =
     let text = take h.len bytes in
     let more = drop (h.len + 1) bytes in
@@ -70,16 +72,16 @@ quoted_within bytes at h =
     let lt : at < length (take h.len bytes) = h.quoted.within in
     omega (arith, length-take h.len bytes)
 
-pub broken_line : (bytes : List ℕ) (scanned rule at : ℕ) (spans : List Span) → StandsAtLine bytes 0 scanned spans → ReadsLine bytes (lines.Broken rule at) → IsBrokenAt bytes rule at
+pub broken_line : (bytes : List ℕ) (scanned : ℕ) (rule : Rule) (at : ℕ) (spans : List Span) → StandsAtLine bytes 0 scanned spans → ReadsLine bytes (lines.Broken rule at) → IsBrokenAt bytes rule at
 broken_line bytes scanned rule at spans s h =
     let i = is_inline bytes s.begun in
     elim h [
       | inl p ↦
-          let w : 65537 ≤ length bytes = p.2.within in
-          let whole : bytes ≡ take 65537 bytes ++ drop 65537 bytes = sym (take-append-drop 65537 bytes) in
+          let w : longest_line + 1 ≤ length bytes = p.2.within in
+          let whole : bytes ≡ take (longest_line + 1) bytes ++ drop (longest_line + 1) bytes = sym (take-append-drop (longest_line + 1) bytes) in
           record {
             within = omega (arith, p.1);
-            fault = in_line (endless (take 65537 bytes) (drop 65537 bytes) p.0 (ap (λ k. drop k bytes) p.1) whole (inline_take bytes 65537 i) p.2.plain (omega (arith, length-take 65537 bytes)));
+            fault = in_line (endless (take (longest_line + 1) bytes) (drop (longest_line + 1) bytes) p.0 (ap (λ k. drop k bytes) p.1) whole (inline_take bytes (longest_line + 1) i) p.2.plain (omega (arith, length-take (longest_line + 1) bytes)));
           }
       | inr p ↦ record {
         within = quoted_within bytes at p.1;
@@ -113,7 +115,7 @@ pub request_line : (bytes : List ℕ) (scanned n : ℕ) (old spans : List Span) 
 request_line bytes scanned n old spans s h w some =
     let text = take n bytes in
     let are = bytes_words_at bytes n spans h.line w in
-    let few : n ≤ 65536 = h.line.few in
+    let few : n ≤ longest_line = h.line.few in
     let P : Words → Type 0 = λ ws. 0 < length ws in
     let words : 0 < length (line_words text) = subst P are (omega (arith, words_many bytes spans)) in
     record {

@@ -5,7 +5,7 @@ use Rattle.std.specs.List.{AllByRecursion}
 use Rattle.std.specs.Io.BufRead.{strip_last, ends_with_byte}
 use Rattle.std.proofs.lemmas.List.{append_assoc, append-nil, map-append, take-append-drop, drop-append-le, take-append-le, drop-drop, drop_more, drop_all, take_rest}
 use Rattle.plain_world.specs.Words.{Words, IsWord, IsRequest}
-use Rattle.resp_frames.specs.Frames.{is_blank, with_byte, parts_of, has_bytes, words_of, line_words}
+use Rattle.resp_frames.specs.Frames.{is_blank, with_byte, parts_of, has_bytes, words_of, line_words, longest_line}
 use Rattle.resp_frames.specs.LineRead.{word_at, words_at, AreWithin, IsWithoutBlank, AreWords}
 use Rattle.resp_frames.specs.declared.span.Span.{Span}
 use Rattle.resp_frames.proofs.Choices.{chosen, other, by_test}
@@ -186,14 +186,14 @@ parts_short [] = (omega arith, tt)
 parts_short (b ∷ line) =
     by_test (AreShort (suc (length line))) (is_blank b) ([] ∷ parts_of line) (with_byte b (parts_of line)) (λ e. (omega arith, short_more (length line) (parts_of line) (parts_short line))) (λ e. byte_short b (length line) (parts_of line) (parts_short line))
 
-are_words : (n : ℕ) (parts : Words) → n ≤ 65536 → AreShort n parts → AllByRecursion IsWord parts
+are_words : (n : ℕ) (parts : Words) → n ≤ longest_line → AreShort n parts → AllByRecursion IsWord parts
 are_words n [] le h = tt
 are_words n (part ∷ parts) le h = (let k : length part ≤ n = h.0 in omega arith, are_words n parts le h.1)
 
 return_less : (text : List ℕ) → length (strip_last 13 text) ≤ length text
 return_less text = by_test (λ l. length l ≤ length text) (ends_with_byte 13 text) (take (length text - 1) text) text (λ e. omega (arith, length-take (length text - 1) text)) (λ e. omega arith)
 
-pub line_request : (text : List ℕ) → length text ≤ 65536 → 0 < length (line_words text) → IsRequest (line_words text)
+pub line_request : (text : List ℕ) → length text ≤ longest_line → 0 < length (line_words text) → IsRequest (line_words text)
 line_request text short some =
     let line = strip_last 13 text in
     let less : length line ≤ length text = return_less text in

@@ -11,18 +11,21 @@ use Rattle.resp_frames.specs.declared.span.Span.{Span}
 use Rattle.resp_frames.specs.declared.request.Due.TheVariants as due
 use Rattle.resp_frames.proofs.Bulks.{bulk_counting, after_length}
 use Rattle.resp_frames.proofs.Items.{item_begun, item_counting}
+use Rattle.resp_frames.specs.declared.rule.Rule.{Rule}
+use Rattle.resp_frames.specs.declared.rule.Rule.TheVariants as rules
+use Rattle.plain_world.specs.Words.{longest}
 
 pub open_count : (bytes : List ℕ) (scanned n : ℕ) (spans : List Span) → StandsAtCount bytes 0 scanned spans → IsOpenHeader 42 bytes n → IsOpenRequest bytes (record { read = 0; due = due.Count n }) spans
 open_count bytes scanned n spans s h = record { stands = record { start = refl; none = s.none; header = h.scanned }; more = item_counting bytes h.begun h.more }
 
-pub broken_count : (bytes : List ℕ) (rule at : ℕ) → IsNoHeader 42 bytes rule at → IsBrokenAt bytes rule at
+pub broken_count : (bytes : List ℕ) (rule : Rule) (at : ℕ) → IsNoHeader 42 bytes rule at → IsBrokenAt bytes rule at
 broken_count bytes rule at h = record { within = h.within; fault = count_line h.fault }
 
 -- the text as the code cuts it
 text_cut : (bytes : List ℕ) (n : ℕ) → take (n + 1 - 1) (drop 1 bytes) ≡ text_of bytes n
 text_cut bytes n = ap (λ k. take k (drop 1 bytes)) (omega arith)
 
-pub wrong_count : (bytes : List ℕ) (n : ℕ) → IsHeader 42 bytes n → (IsCount (take (n + 1 - 1) (drop 1 bytes)) → ⊥) → IsBrokenAt bytes 1 0
+pub wrong_count : (bytes : List ℕ) (n : ℕ) → IsHeader 42 bytes n → (IsCount (take (n + 1 - 1) (drop 1 bytes)) → ⊥) → IsBrokenAt bytes rules.InvalidMultibulkLength 0
 wrong_count bytes n h bad =
     let P : List ℕ → Type 0 = λ t. IsCount t → ⊥ in
     record { within = omega arith; fault = count_number (bad_number (text_of bytes n) (drop (n + 3) bytes) refl refl h.whole h.text (subst P (text_cut bytes n) bad)) }
@@ -44,7 +47,7 @@ place_within bytes read at low h = omega (arith, length-drop read bytes)
 place_from : (bytes : List ℕ) (read at : ℕ) → drop at (drop read bytes) ≡ drop (read + at) bytes
 place_from bytes read at = drop-drop at read bytes ∙ ap (λ k. drop k bytes) (omega arith)
 
-pub broken_length : (bytes : List ℕ) (read words scanned rule at : ℕ) (spans : List Span) → StandsAtLength bytes read words scanned spans → IsNoHeader 36 (take (length bytes - read) (drop read bytes)) rule at → IsBrokenAt bytes rule (read + at)
+pub broken_length : (bytes : List ℕ) (read words scanned : ℕ) (rule : Rule) (at : ℕ) (spans : List Span) → StandsAtLength bytes read words scanned spans → IsNoHeader 36 (take (length bytes - read) (drop read bytes)) rule at → IsBrokenAt bytes rule (read + at)
 broken_length bytes read words scanned rule at spans s h =
     let P : List ℕ → Type 0 = λ l. IsNoHeader 36 l rule at in
     let k = subst P (take_rest bytes read) h in
@@ -53,15 +56,15 @@ broken_length bytes read words scanned rule at spans s h =
       fault = in_word words (words_at bytes spans) (drop read bytes) s.begun (length_line (subst (λ f. LineFault 36 (drop read bytes) rule f) (place_from bytes read at) k.fault));
     }
 
-pub other_length : (bytes : List ℕ) (read words scanned : ℕ) (spans : List Span) → StandsAtLength bytes read words scanned spans → IsOther 36 (take (length bytes - read) (drop read bytes)) → IsBrokenAt bytes 2 read
+pub other_length : (bytes : List ℕ) (read words scanned : ℕ) (spans : List Span) → StandsAtLength bytes read words scanned spans → IsOther 36 (take (length bytes - read) (drop read bytes)) → IsBrokenAt bytes rules.ExpectedDollar read
 other_length bytes read words scanned spans s h =
     let k = subst (IsOther 36) (take_rest bytes read) h in
     record { within = s.within; fault = in_word words (words_at bytes spans) (drop read bytes) s.begun (other_mark k.b k.more refl refl k.first k.other) }
 
 pub bad_length : (bytes : List ℕ) (read words scanned n : ℕ) (spans : List Span) → StandsAtLength bytes read words scanned spans → IsHeader 36 (take (length bytes - read) (drop read bytes)) n →
-    ((m : ℕ) → m ≤ 536870912 → take (n + 1 - 1) (drop 1 (take (length bytes - read) (drop read bytes))) ≡ decimal m → ⊥) → IsBrokenAt bytes 3 read
+    ((m : ℕ) → m ≤ longest → take (n + 1 - 1) (drop 1 (take (length bytes - read) (drop read bytes))) ≡ decimal m → ⊥) → IsBrokenAt bytes rules.InvalidBulkLength read
 bad_length bytes read words scanned n spans s h bad =
-    let P : List ℕ → Type 0 = λ l. IsHeader 36 l n × ((m : ℕ) → m ≤ 536870912 → take (n + 1 - 1) (drop 1 l) ≡ decimal m → ⊥) in
+    let P : List ℕ → Type 0 = λ l. IsHeader 36 l n × ((m : ℕ) → m ≤ longest → take (n + 1 - 1) (drop 1 l) ≡ decimal m → ⊥) in
     let k = subst P (take_rest bytes read) (h, bad) in
     let rest = drop read bytes in
     record {
@@ -75,14 +78,14 @@ open_body bytes read words len spans s e =
     let k : read_body len (drop read bytes) ≡ Open = ap (read_body len) (sym (take_rest bytes read)) ∙ e in
     record { stands = s; more = item_begun bytes words (words_at bytes spans) s.rest s.begun (ap read_bulk s.headed ∙ after_length len (drop read bytes) s.small ∙ k) }
 
-pub broken_body : (bytes : List ℕ) (read words len at : ℕ) (spans : List Span) → StandsAtBody bytes read words len spans → IsNoBody (take (length bytes - read) (drop read bytes)) len at → IsBrokenAt bytes 5 (read + at)
+pub broken_body : (bytes : List ℕ) (read words len at : ℕ) (spans : List Span) → StandsAtBody bytes read words len spans → IsNoBody (take (length bytes - read) (drop read bytes)) len at → IsBrokenAt bytes rules.ExpectedCrLf (read + at)
 broken_body bytes read words len at spans s h =
     let P : List ℕ → Type 0 = λ l. IsNoBody l len at in
     let k = subst P (take_rest bytes read) h in
     let rest = drop read bytes in
     let within : at < length rest = k.within in
     let long : len ≤ length rest = k.long in
-    let small : len ≤ 536870912 = s.small in
+    let small : len ≤ longest = s.small in
     let n : length (take len rest) ≡ len = omega (arith, length-take len rest) in
     let headed : s.rest ≡ header 36 (decimal (length (take len rest))) ++ rest = s.headed ∙ ap (λ m. header 36 (decimal m) ++ rest) (sym n) in
     let head = header 36 (decimal (length (take len rest))) in

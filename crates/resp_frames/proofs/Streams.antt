@@ -9,6 +9,7 @@ use Rattle.resp_frames.specs.Frames.{Item, Asked, Passed, Line, item_bytes, IsIt
 use Rattle.resp_frames.specs.Ends.{End, Whole, Cut, Fault, BreaksAt, EndsAs, Frames}
 use Rattle.resp_frames.specs.Reading.{Read, Took, Open, Wrong, read_item}
 use Rattle.resp_frames.proofs.Items.{item_again, item_first, item_is, item_none, ItemIs, cut_from_open, fault_within, fault_stays}
+use Rattle.resp_frames.specs.declared.rule.Rule.{Rule}
 
 -- two items at the front of the same bytes are one
 pub item_unique : (x y : Item) (A B : List ℕ) → IsItem x → IsItem y → item_bytes x ++ A ≡ item_bytes y ++ B → (x ≡ y) × (A ≡ B)
@@ -154,13 +155,13 @@ frames_there bytes =
 
 -- a fault stays where it is
 
-pub breaks_stay : (bytes rest back : List ℕ) (rule at : ℕ) → BreaksAt bytes rest rule at → BreaksAt (bytes ++ back) (rest ++ back) rule at
+pub breaks_stay : (bytes rest back : List ℕ) (rule : Rule) (at : ℕ) → BreaksAt bytes rest rule at → BreaksAt (bytes ++ back) (rest ++ back) rule at
 breaks_stay bytes rest back rule at h = (h.0 ++ back, fault_stays rest rule h.0 back h.1, let n : at + length h.0 ≡ length bytes = h.2 in omega (arith, length-append h.0 back, length-append bytes back))
 
 pub framed_more : (bytes rest more : List ℕ) (items : List Item) → Framed bytes items rest → Framed (bytes ++ more) items (rest ++ more)
 framed_more bytes rest more items f = record { whole = ap (λ l. l ++ more) f.whole ∙ append_assoc (flat_map item_bytes items) rest more; each = f.each }
 
-pub fault_frames : (front back : List ℕ) (p : List Words) (rule at : ℕ) → Frames front p (Fault rule at) → Frames (front ++ back) p (Fault rule at)
+pub fault_frames : (front back : List ℕ) (p : List Words) (rule : Rule) (at : ℕ) → Frames front p (Fault rule at) → Frames (front ++ back) p (Fault rule at)
 fault_frames front back p rule at a = record {
   items = a.items;
   rest = a.rest ++ back;

@@ -3,6 +3,7 @@ use Rattle.std.proofs.Common.{◌≡◌, ℕ, zero, suc, ◌<◌, List, [], ◌�
 use Rattle.resp_frames.specs.Frames.{IsWithout}
 use Rattle.resp_frames.specs.Reading.{Read, Took, Open, Wrong, with_front, read_text}
 use Rattle.resp_frames.proofs.Choices.{on_equal, on_other, by_equal}
+use Rattle.resp_frames.specs.declared.rule.Rule.TheVariants as rules
 
 pub text_again : (end k : ℕ) (t rest : List ℕ) → IsWithout end t → length t < k → read_text end k (t ++ end ∷ rest) ≡ Took t rest
 unfolding read_text
@@ -16,7 +17,7 @@ text_open end zero t p h = absurd (omega arith)
 text_open end (suc k) [] p h = refl
 text_open end (suc k) (b ∷ t) p h = on_other b end (Took [] t) (with_front b (read_text end k t)) p.0 ∙ ap (with_front b) (text_open end k t p.1 (omega arith))
 
-pub text_long : (end k : ℕ) (t rest : List ℕ) → IsWithout end t → length t ≡ k → read_text end k (t ++ rest) ≡ Wrong 4 rest
+pub text_long : (end k : ℕ) (t rest : List ℕ) → IsWithout end t → length t ≡ k → read_text end k (t ++ rest) ≡ Wrong rules.LineTooLong rest
 unfolding read_text
 text_long end zero [] rest p h = refl
 text_long end zero (b ∷ t) rest p h = absurd (omega arith)

@@ -4,13 +4,14 @@ use Rattle.std.specs.Fmt.{decimal}
 use Rattle.std.proofs.lemmas.List.{append_assoc, take-append-drop, take_rest, take_more, drop-drop, drop_more, get_or-take, get_or-drop}
 use Rattle.plain_world.specs.Spelling.{line_end}
 use Rattle.plain_world.proofs.Numerals.{AreDigits, read_on}
-use Rattle.resp_frames.specs.Frames.{header}
+use Rattle.resp_frames.specs.Frames.{header, most_words}
 use Rattle.resp_frames.specs.RequestRead.{StandsAtLength, StandsAtBody, IsWholeBody, IsRequestAt}
 use Rattle.resp_frames.specs.WholeRead.{IsNumberLine, IsHeaded, IsWholeWord}
 use Rattle.resp_frames.specs.declared.span.Span.{Span}
 use Rattle.resp_frames.specs.declared.whole.Numbered.{Numbered}
 use Rattle.resp_frames.proofs.Digits.{digits_more, read_whole}
 use Rattle.resp_frames.proofs.BodySteps.{Longer, longer, all_words, more_words}
+use Rattle.plain_world.specs.Words.{longest}
 
 -- a digit more
 read_more : (n : ℕ) (ds : List ℕ) (c : ℕ) → read_on n (ds ++ c ∷ []) ≡ read_on n ds * 10 + (c - 48)
@@ -127,7 +128,7 @@ module _ (mark most : ℕ) (bytes : List ℕ) (some : 99 ≤ most) (small : most
       tail_header (record { number = n * 10 + (get_or bytes 2 0 - 48); len = 2 }) line (omega arith) feed
 
 -- a word behind its header, as the code cuts them
-pub word_whole : (bytes : List ℕ) (read : ℕ) (h : Numbered) (rest : List ℕ) → rest ≡ take (length bytes - read) (drop read bytes) → read ≤ length bytes → IsHeaded 36 536870912 rest h → IsWholeBody (take (length rest - h.len) (drop h.len rest)) h.number →
+pub word_whole : (bytes : List ℕ) (read : ℕ) (h : Numbered) (rest : List ℕ) → rest ≡ take (length bytes - read) (drop read bytes) → read ≤ length bytes → IsHeaded 36 longest rest h → IsWholeBody (take (length rest - h.len) (drop h.len rest)) h.number →
     IsWholeWord bytes read (record { start = read + h.len; len = h.number })
 word_whole bytes read h rest is low k b =
     let whole : rest ≡ drop read bytes = is ∙ take_rest bytes read in
@@ -144,7 +145,7 @@ word_whole bytes read h rest is low k b =
     }
 
 -- the words are due behind a whole header
-pub words_due : (bytes : List ℕ) (h : Numbered) (spans : List Span) → spans ≡ [] → IsHeaded 42 1048576 bytes h → StandsAtLength bytes h.len h.number 0 spans
+pub words_due : (bytes : List ℕ) (h : Numbered) (spans : List Span) → spans ≡ [] → IsHeaded 42 most_words bytes h → StandsAtLength bytes h.len h.number 0 spans
 words_due bytes h spans none k =
     let P : List Span → Type 0 = λ l. StandsAtLength bytes h.len h.number 0 l in
     let due : 0 < h.number = k.some in

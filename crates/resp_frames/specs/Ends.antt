@@ -3,21 +3,22 @@ use Rattle.std.specs.Prelude.{◌≡◌, ◌≢◌, ℕ, ◌+◌, List, [], ◌+
 use Rattle.plain_world.specs.Words.{Words}
 use Rattle.resp_frames.specs.Frames.{Item, item_bytes, IsItem, requests, Framed}
 use Rattle.resp_frames.specs.Faults.{RequestFault}
+use Rattle.resp_frames.specs.declared.rule.Rule.{Rule}
 
--- after a whole request, inside one, or where a rule is broken: its number, and how many bytes stand before the one named
+-- after a whole request, inside one, or where a rule is broken, and how many bytes stand before the one named
 pub data End : Type 0 where
   Whole : End
   Cut : End
-  Fault : ℕ → ℕ → End
+  Fault : Rule → ℕ → End
 
 -- the bytes end inside a request, with no fault
 pub record IsCut (rest : List ℕ) : Type 0 where
   pub some : rest ≢ []
   pub open_yet : (item : Item) (more : List ℕ) → IsItem item → rest ≡ item_bytes item ++ more → ⊥
-  pub sound : (rule : ℕ) (from : List ℕ) → RequestFault rest rule from → ⊥
+  pub sound : (rule : Rule) (from : List ℕ) → RequestFault rest rule from → ⊥
 
 -- a rule is broken in the rest of the bytes, at the byte of this number
-abbrev pub BreaksAt : List ℕ → List ℕ → ℕ → ℕ → Type 0
+abbrev pub BreaksAt : List ℕ → List ℕ → Rule → ℕ → Type 0
 BreaksAt bytes rest rule at = (from : List ℕ) × RequestFault rest rule from × (at + length from ≡ length bytes)
 
 abbrev pub EndsAs : List ℕ → List ℕ → End → Type 0

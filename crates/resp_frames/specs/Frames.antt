@@ -1,12 +1,25 @@
--- The frames of a stream of requests, on its whole bytes (RESP2, "Sending commands to a Redis server", "Arrays", "Bulk strings",
--- "Inline commands").
-use Rattle.std.specs.Prelude.{◌≡◌, ◌≢◌, ⊤, ℕ, ◌≤◌, ◌⊎◌, List, [], ◌∷◌, ◌++◌, length, filter, flat_map, Bool, true, false, ◌&&◌, ◌||◌, ◌==◌, nat_le, IsTrue, if◌then◌else◌}
+-- The frames of a stream of requests, on its whole bytes (RESP2, "Sending commands to a Redis server", "Arrays",
+-- "Bulk strings", "Inline commands").
+use Rattle.std.specs.Prelude.{◌≡◌, ◌≢◌, ⊤, ℕ, ◌<◌, ◌≤◌, ◌⊎◌, List, [], ◌∷◌, ◌++◌, length, filter, flat_map, Bool}
+use Rattle.std.specs.Prelude.{true, false, ◌&&◌, ◌||◌, ◌==◌, nat_le, IsTrue, if◌then◌else◌}
 use Rattle.std.specs.List.{AllByRecursion, list_all}
 use Rattle.std.specs.Fmt.{decimal}
 use Rattle.std.specs.Io.BufRead.{strip_last}
 use Rattle.plain_world.specs.Spelling.{line_end}
 use Rattle.plain_world.specs.Words.{Words}
 pub use Rattle.plain_world.specs.Words.{IsWord, IsRequest}
+
+-- the greatest number of words of a request
+abbrev pub most_words : ℕ
+most_words = 1048576
+
+-- the greatest number of bytes of a header before its CR, its mark among them
+abbrev pub longest_header : ℕ
+longest_header = 65536
+
+-- the greatest number of bytes of an inline request before its LF
+abbrev pub longest_line : ℕ
+longest_line = 65536
 
 -- a header: its mark, its text, CR LF
 abbrev pub header : ℕ → List ℕ → List ℕ
@@ -28,10 +41,10 @@ IsWithout mark text = AllByRecursion (λ b. b ≢ mark) text
 abbrev pub IsPlainText : List ℕ → Type 0
 IsPlainText text = IsWithout 13 text
 
--- the text of a header: no CR, and with its mark at most 65,536 bytes
+-- the text of a header: no CR, and not too long with its mark
 pub record IsText (text : List ℕ) : Type 0 where
   pub plain : IsPlainText text
-  pub short : length text ≤ 65535
+  pub short : length text < longest_header
 
 -- digits without a leading zero
 abbrev pub is_digit : ℕ → Bool
@@ -55,11 +68,11 @@ abbrev pub IsInline : List ℕ → Type 0
 IsInline [] = ⊤
 IsInline (b ∷ bytes) = b ≢ 42
 
--- the line of an inline request, without its LF: at most 65,536 bytes
+-- the line of an inline request, without its LF
 pub record IsLine (text : List ℕ) : Type 0 where
   pub inline : IsInline text
   pub plain : IsWithout 10 text
-  pub short : length text ≤ 65536
+  pub short : length text ≤ longest_line
 
 -- a double or a single quote
 abbrev pub is_quote : ℕ → Bool

@@ -2,6 +2,7 @@
 use Rattle.std.specs.Prelude.{◌≡◌, ℕ, List, ◌++◌}
 use Rattle.plain_world.specs.Words.{Words}
 use Rattle.resp_frames.specs.Ends.{End, Fault, Frames}
+use Rattle.resp_frames.specs.declared.rule.Rule.{Rule}
 
 -- all bytes have frames
 abbrev pub FramesAreThere : Type 0
@@ -13,8 +14,12 @@ FramesAreOne = (bytes : List ℕ) (p q : List Words) (e f : End) → Frames byte
 
 -- the requests of a front of the bytes are the first of all requests, whatever comes
 abbrev pub RequestsOnlyGrow : Type 0
-RequestsOnlyGrow = (front back : List ℕ) (p q : List Words) (e f : End) → Frames front p e → Frames (front ++ back) q f → (more : List Words) × (q ≡ p ++ more)
+RequestsOnlyGrow =
+    (front back : List ℕ) (p q : List Words) (e f : End) → Frames front p e → Frames (front ++ back) q f
+    → (more : List Words) × (q ≡ p ++ more)
 
 -- a fault stays where it is, whatever comes
 abbrev pub FaultsStay : Type 0
-FaultsStay = (front back : List ℕ) (p : List Words) (rule at : ℕ) → Frames front p (Fault rule at) → Frames (front ++ back) p (Fault rule at)
+FaultsStay =
+    (front back : List ℕ) (p : List Words) (rule : Rule) (at : ℕ) → Frames front p (Fault rule at)
+    → Frames (front ++ back) p (Fault rule at)

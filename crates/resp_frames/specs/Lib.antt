@@ -1,3 +1,4 @@
+pub mod Rules
 pub mod Frames
 pub mod Faults
 pub mod Ends

@@ -1,6 +1,8 @@
 -- What the reading of a request tells.
-use Rattle.std.specs.Prelude.{◌≡◌, ◌≢◌, ◌==◌, ℕ, ◌+◌, ◌≤◌, ◌<◌, ◌⊎◌, List, [], ◌∷◌, ◌++◌, length, take, drop, if◌then◌else◌}
+use Rattle.std.specs.Prelude.{◌≡◌, ◌≢◌, ◌==◌, ℕ, ◌+◌, ◌≤◌, ◌<◌, ◌⊎◌, List, [], ◌∷◌, ◌++◌, length, take, drop}
+use Rattle.std.specs.Prelude.{if◌then◌else◌}
 use Rattle.std.specs.Fmt.{decimal}
+use Rattle.plain_world.specs.Words.{longest}
 use Rattle.plain_world.specs.Spelling.{line_end}
 use Rattle.resp_frames.specs.Frames.{header, IsRequest, Item, item_bytes, IsItem, asked}
 use Rattle.resp_frames.specs.Faults.{Begun, RequestFault}
@@ -8,6 +10,7 @@ use Rattle.resp_frames.specs.Reading.{read_item, read_body, Open}
 use Rattle.resp_frames.specs.HeaderRead.{IsScanned, IsOther}
 use Rattle.resp_frames.specs.LineRead.{IsLineScanned}
 pub use Rattle.resp_frames.specs.LineRead.{word_at, words_at, AreWithin}
+use Rattle.resp_frames.specs.declared.rule.Rule.{Rule}
 use Rattle.resp_frames.specs.declared.span.Span.{Span}
 use Rattle.resp_frames.specs.declared.request.Due.{Due}
 use Rattle.resp_frames.specs.declared.request.Due.TheVariants as due
@@ -43,7 +46,7 @@ pub record StandsAtLength (bytes : List ℕ) (read words scanned : ℕ) (spans :
 pub record StandsAtBody (bytes : List ℕ) (read words len : ℕ) (spans : List Span) : Type 0 where
   pub within : read ≤ length bytes
   pub inside : AreWithin bytes spans
-  pub small : len ≤ 536870912
+  pub small : len ≤ longest
   pub rest : List ℕ
   pub begun : Begun bytes words (words_at bytes spans) rest
   pub headed : rest ≡ header 36 (decimal len) ++ drop read bytes
@@ -67,7 +70,8 @@ pub record IsNoBody (bytes : List ℕ) (len at : ℕ) : Type 0 where
   pub within : at < length bytes
   pub long : len ≤ length bytes
   pub from : drop at bytes ≡ b ∷ more
-  pub either : ((bytes ≡ take len bytes ++ drop at bytes) × (b ≢ 13)) ⊎ ((bytes ≡ take len bytes ++ 13 ∷ drop at bytes) × (b ≢ 10))
+  pub either : ((bytes ≡ take len bytes ++ drop at bytes) × (b ≢ 13))
+      ⊎ ((bytes ≡ take len bytes ++ 13 ∷ drop at bytes) × (b ≢ 10))
 
 abbrev pub ReadsBody : List ℕ → ℕ → Body → Type 0
 ReadsBody bytes len body.Open = read_body len bytes ≡ Open
@@ -101,7 +105,7 @@ pub record IsPassedAt (bytes : List ℕ) (end : ℕ) (spans : List Span) : Type 
   pub whole : bytes ≡ item_bytes item ++ drop end bytes
 
 -- a rule is broken at this byte
-pub record IsBrokenAt (bytes : List ℕ) (rule at : ℕ) : Type 0 where
+pub record IsBrokenAt (bytes : List ℕ) (rule : Rule) (at : ℕ) : Type 0 where
   pub within : at ≤ length bytes
   pub fault : RequestFault bytes rule (drop at bytes)
 
@@ -126,4 +130,5 @@ ReadsRequest bytes spans (found.Broken rule at) = IsBrokenAt bytes rule at
 
 -- what is due after so many whole words, the last of which ends there
 abbrev pub step_after : ℕ → ℕ → ℕ → Step
-step_after end words whole = if whole == words then step.Request end else step.On (record { read = end; due = due.Length words 0 })
+step_after end words whole =
+    if whole == words then step.Request end else step.On (record { read = end; due = due.Length words 0 })

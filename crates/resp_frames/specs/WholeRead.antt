@@ -1,5 +1,6 @@
 -- What the reading of whole requests tells.
 use Rattle.std.specs.Prelude.{◌≡◌, ℕ, ◌<◌, ◌≤◌, List, ◌++◌, length, take, drop, decimal, slice_index}
+use Rattle.plain_world.specs.Words.{longest}
 use Rattle.resp_frames.specs.Frames.{header}
 use Rattle.resp_frames.specs.RequestRead.{Stands, IsWholeBody, IsRequestAt}
 use Rattle.resp_frames.specs.declared.span.Span.{Span}
@@ -27,7 +28,7 @@ pub record IsHeaded (mark most : ℕ) (bytes : List ℕ) (h : Numbered) : Type 0
 pub record IsWholeWord (bytes : List ℕ) (read : ℕ) (word : Span) : Type 0 where
   pub further : read < word.start
   pub within : word.start ≤ length bytes
-  pub small : word.len ≤ 536870912
+  pub small : word.len ≤ longest
   pub headed : drop read bytes ≡ header 36 (decimal word.len) ++ drop word.start bytes
   pub body : IsWholeBody (drop word.start bytes) word.len
 

@@ -4,21 +4,22 @@ ghost use Rattle.std.specs.Prelude.{◌≡◌};
 ghost use Rattle.resp_frames.specs.FaultLines.{rule_text, place_text, fault_line};
 ghost use Rattle.resp_frames.specs.Puts.{Puts};
 
+use crate::rule::Rule;
 use crate::spelling::{put_all, put_two};
 use itoa::Buffer;
 use outside::{Sink, WriteFault};
 
-// What the rule of this number asks for.
-fn text_of_rule(rule: u8) -> &'static [u8]
+// What is wrong where this rule is broken.
+fn text_of_rule(rule: Rule) -> &'static [u8]
     ensures { result.now ≡ rule_text rule }
 {
     match rule {
-        1 => b"invalid multibulk length",
-        2 => b"expected '$'",
-        3 => b"invalid bulk length",
-        4 => b"line too long",
-        5 => b"expected CR LF",
-        _ => b"inline request not taken",
+        Rule::InvalidMultibulkLength => b"invalid multibulk length",
+        Rule::ExpectedDollar => b"expected '$'",
+        Rule::InvalidBulkLength => b"invalid bulk length",
+        Rule::LineTooLong => b"line too long",
+        Rule::ExpectedCrLf => b"expected CR LF",
+        Rule::QuotedInline => b"inline request not taken",
     }
 }
 
@@ -33,9 +34,9 @@ fn put_place<O: Sink>(sink: &mut O, at: u64) -> Result<(), WriteFault>
     }
 }
 
-/// Puts the line of the rule of this number, which is broken at this byte, or a front of it where that fails.
+/// Puts the line of a rule that is broken at this byte, or a front of it where that fails.
 /// `WriteFault` comes only where the sink counted one.
-pub fn put_fault<O: Sink>(sink: &mut O, rule: u8, at: u64) -> Result<(), WriteFault>
+pub fn put_fault<O: Sink>(sink: &mut O, rule: Rule, at: u64) -> Result<(), WriteFault>
     ensures { Puts (O.seen sink.old) (O.seen sink.new) (fault_line rule at) result }
 {
     match put_two(sink, b"-ERR Protocol error: ", text_of_rule(rule)) {

@@ -6,6 +6,7 @@ ghost use Rattle.resp_frames.specs.Feeding.{NextFound, NextIs, HasFed};
 ghost use Rattle.resp_frames.specs.RequestRead.{word_at, words_at, AreWithin, Stands};
 
 use crate::request::{Found, Progress, read_request};
+use crate::rule::Rule;
 use crate::span::{Span, Spans};
 use crate::whole::{Ahead, read_ahead};
 use std::alloc::{AllocError, Global};
@@ -15,9 +16,9 @@ use thiserror::Error;
 /// Why no next request is given.
 #[derive(Clone, Copy, Debug, PartialEq, Eq, Error)]
 pub enum FrameFault {
-    /// The bytes break the rule of this number, 1 to 6, at the byte of this number from the start of the stream.
-    #[error("rule {fault} is broken at byte {at}")]
-    Protocol { fault: u8, at: u64 },
+    /// The bytes break this rule, at the byte of this number from the start of the stream.
+    #[error("{rule} at byte {at}")]
+    Protocol { rule: Rule, at: u64 },
     /// Want of memory.
     #[error("out of memory")]
     Memory,
@@ -95,7 +96,7 @@ pub enum Next {
     /// A request that ends there.
     Request(usize),
     /// A rule is broken, at this byte.
-    Broken(u8, usize),
+    Broken(Rule, usize),
 }
 
 // Reads on from what is read so far, and passes over what has no words.
@@ -248,11 +249,11 @@ impl Feeder {
                         self.is_ready = true;
                         Ok(true)
                     }
-                    Next::Broken(fault, place) => {
+                    Next::Broken(rule, place) => {
                         self.spans.clear();
                         self.progress = Progress::start();
                         Err(FrameFault::Protocol {
-                            fault,
+                            rule,
                             at: self.gone + (self.at + place) as u64,
                         })
                     }

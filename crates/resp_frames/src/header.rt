@@ -1,11 +1,13 @@
 //! The header of a request or of a bulk string: a mark, a number, CR LF.
 
 ghost use Rattle.std.specs.Prelude.{◌≡◌, ◌≢◌, ◌<◌, ◌≤◌, ℕ, length, take, slice_index};
-ghost use Rattle.resp_frames.specs.Frames.{IsPlainText, IsWithout};
-ghost use Rattle.resp_frames.specs.HeaderRead.{Reads, ReadsText, IsScanned};
+ghost use Rattle.resp_frames.specs.Frames.{IsPlainText, IsWithout, longest_header};
+ghost use Rattle.resp_frames.specs.HeaderRead.{ReadsHeader, ReadsText, IsScanned};
+
+use crate::rule::Rule;
 
 // At most so many bytes stand before the CR of a header, its mark among them.
-const LONGEST: usize = 65_536;
+const LONGEST_HEADER: usize = 65_536;
 
 /// What stands at the front of some bytes.
 #[derive(Clone, Copy)]
@@ -17,7 +19,7 @@ pub enum Header {
     /// The text that follows the mark is so long.
     Text(usize),
     /// A rule is broken, at this byte.
-    Broken(u8, usize),
+    Broken(Rule, usize),
 }
 
 /// How many bytes stand before the first `end`, up to `limit`. The first `scanned` are known to be others.
@@ -42,19 +44,19 @@ pub fn before_end(bytes: &[u8], end: u8, limit: usize, scanned: usize) -> usize
 // Reads the header whose mark stands before these bytes.
 fn read_text(bytes: &[u8], scanned: usize) -> Header
     requires within { scanned ≤ length bytes.now }
-    requires few { scanned ≤ 65536 }
+    requires few { scanned ≤ longest_header }
     requires plain { IsPlainText (take scanned bytes.now) }
     ensures { ReadsText bytes.now result }
 {
-    let text = before_end(bytes, b'\r', LONGEST, scanned);
-    if text == LONGEST {
-        return Header::Broken(4, 0);
+    let text = before_end(bytes, b'\r', LONGEST_HEADER, scanned);
+    if text == LONGEST_HEADER {
+        return Header::Broken(Rule::LineTooLong, 0);
     }
     if text + 1 >= bytes.len() {
         return Header::Open(text);
     }
     if bytes[text + 1] != b'\n' {
-        return Header::Broken(5, text + 2);
+        return Header::Broken(Rule::ExpectedCrLf, text + 2);
     }
     Header::Text(text)
 }
@@ -63,7 +65,7 @@ fn read_text(bytes: &[u8], scanned: usize) -> Header
 /// The first `scanned` bytes of its text are known to hold no CR, and aren't read again.
 pub fn read_header(bytes: &[u8], mark: u8, scanned: usize) -> Header
     requires { IsScanned bytes.now scanned }
-    ensures { Reads mark bytes.now result }
+    ensures { ReadsHeader mark bytes.now result }
 {
     if bytes.is_empty() {
         return Header::Open(0);

@@ -8,6 +8,7 @@ mod laws;
 mod line;
 mod number;
 mod request;
+mod rule;
 mod span;
 mod spelling;
 #[cfg(test)]
@@ -17,4 +18,5 @@ mod whole;
 pub use fault_lines::put_fault;
 pub use feeder::{Feeder, FrameFault, Request};
 pub use laws::{faults_stay, frames_are_one, frames_are_there, requests_only_grow};
+pub use rule::Rule;
 pub use spelling::{put_all, put_part, spell};

@@ -7,11 +7,12 @@ ghost use Rattle.resp_frames.specs.Frames.{IsUnquoted};
 ghost use Rattle.resp_frames.specs.LineRead.{IsLineScanned, IsWithoutBlank, IsQuotedAt, ReadsLine, AreWords};
 
 use crate::header::before_end;
+use crate::rule::Rule;
 use crate::span::{Span, Spans};
 use std::alloc::AllocError;
 
 // At most so many bytes stand before the LF of a line.
-const LONGEST: usize = 65_536;
+const LONGEST_LINE: usize = 65_536;
 
 /// What stands at the front of some bytes.
 #[derive(Clone, Copy)]
@@ -21,7 +22,7 @@ pub enum Inline {
     /// So many bytes stand before the LF, and no quote is among them.
     Text(usize),
     /// A rule is broken, at this byte.
-    Broken(u8, usize),
+    Broken(Rule, usize),
 }
 
 // Whether it is a double or a single quote.
@@ -56,15 +57,15 @@ pub fn read_line(bytes: &[u8], scanned: usize) -> Inline
     requires { IsLineScanned bytes.now scanned }
     ensures { ReadsLine bytes.now result }
 {
-    let text = before_end(bytes, b'\n', LONGEST + 1, scanned);
-    if text > LONGEST {
-        return Inline::Broken(4, 0);
+    let text = before_end(bytes, b'\n', LONGEST_LINE + 1, scanned);
+    if text > LONGEST_LINE {
+        return Inline::Broken(Rule::LineTooLong, 0);
     }
     if text == bytes.len() {
         return Inline::Open(text);
     }
     match first_quote(&bytes[..text]) {
-        Some(at) => Inline::Broken(6, at),
+        Some(at) => Inline::Broken(Rule::QuotedInline, at),
         None => Inline::Text(text),
     }
 }

@@ -5,6 +5,9 @@ ghost use Rattle.std.specs.List.{list_all};
 ghost use Rattle.resp_frames.specs.Frames as frames;
 ghost use Rattle.resp_frames.specs.NumberRead.{ReadsCount};
 
+/// At most so many words has a request.
+pub const MOST_WORDS: usize = 1_048_576;
+
 /// What the number of a request's header says.
 #[derive(Clone, Copy)]
 pub enum Count {
@@ -85,7 +88,7 @@ fn is_negative(text: &[u8]) -> bool
 pub fn read_count(text: &[u8]) -> Count
     ensures { ReadsCount text.now result }
 {
-    match small_number(text, 1_048_576) {
+    match small_number(text, MOST_WORDS as u64) {
         Some(0) => Count::Passed,
         Some(n) => Count::Words(n as usize),
         None => {

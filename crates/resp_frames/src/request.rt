@@ -2,12 +2,15 @@
 //! come, and later from there on.
 
 ghost use Rattle.std.specs.Prelude.{◌≡◌, ◌≤◌, IfOk};
+ghost use Rattle.plain_world.specs.Words.{longest};
 ghost use Rattle.resp_frames.specs.RequestRead.{Stands, StandsAtCount, StandsAtLine, StandsAtLength, StandsAtBody, ReadsBody, ReadsStep, ReadsRequest, step_after};
 
 use crate::header::{Header, read_header};
 use crate::line::{Inline, push_words, read_line, without_return};
 use crate::number::{Count, read_count, small_number};
+use crate::rule::Rule;
 use crate::span::{Span, Spans};
+use plain_world::LONGEST as LONGEST_WORD;
 use std::alloc::AllocError;
 
 /// What is due next in a request.
@@ -55,7 +58,7 @@ pub enum Step {
     /// A header or a line that is passed over ends there.
     Passed(usize),
     /// A rule is broken, at this byte.
-    Broken(u8, usize),
+    Broken(Rule, usize),
 }
 
 /// What was found at the front of some bytes.
@@ -68,7 +71,7 @@ pub enum Found {
     /// A header or a line that is passed over, which ends there.
     Passed(usize),
     /// A rule is broken, at this byte.
-    Broken(u8, usize),
+    Broken(Rule, usize),
 }
 
 // Reads an inline request.
@@ -106,7 +109,7 @@ fn step_count(bytes: &[u8], scanned: usize, spans: &mut Spans) -> Result<Step, A
         })),
         Header::Broken(rule, at) => Ok(Step::Broken(rule, at)),
         Header::Text(text) => match read_count(&bytes[1..text + 1]) {
-            Count::Wrong => Ok(Step::Broken(1, 0)),
+            Count::Wrong => Ok(Step::Broken(Rule::InvalidMultibulkLength, 0)),
             Count::Passed => Ok(Step::Passed(text + 3)),
             Count::Words(words) => Ok(Step::On(Progress {
                 read: text + 3,
@@ -123,14 +126,14 @@ fn step_length(bytes: &[u8], read: usize, words: usize, scanned: usize, spans: &
 {
     let rest = &bytes[read..];
     match read_header(rest, b'$', scanned) {
-        Header::Other => Step::Broken(2, read),
+        Header::Other => Step::Broken(Rule::ExpectedDollar, read),
         Header::Open(text) => Step::Open(Progress {
             read,
             due: Due::Length(words, text),
         }),
         Header::Broken(rule, at) => Step::Broken(rule, read + at),
-        Header::Text(text) => match small_number(&rest[1..text + 1], 536_870_912) {
-            None => Step::Broken(3, read),
+        Header::Text(text) => match small_number(&rest[1..text + 1], LONGEST_WORD as u64) {
+            None => Step::Broken(Rule::InvalidBulkLength, read),
             Some(len) => Step::On(Progress {
                 read: read + text + 3,
                 due: Due::Body(words, len as usize),
@@ -152,7 +155,7 @@ pub enum Body {
 
 /// Looks for the word and its CR LF.
 pub fn read_body(bytes: &[u8], len: usize) -> Body
-    requires { len ≤ 536870912 }
+    requires { len ≤ longest }
     ensures { ReadsBody bytes.now len result }
 {
     if bytes.len() <= len {
@@ -186,7 +189,7 @@ fn step_body(
             read,
             due: Due::Body(words, len),
         })),
-        Body::Broken(at) => Ok(Step::Broken(5, read + at)),
+        Body::Broken(at) => Ok(Step::Broken(Rule::ExpectedCrLf, read + at)),
         Body::Whole => {
             spans.push(Span { start: read, len })?;
             Ok(after_word(read + len + 2, words, spans.len()))

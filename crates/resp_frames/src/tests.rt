@@ -4,33 +4,43 @@
 ghost use Rattle.std.specs.Prelude.{◌≤◌, length};
 ghost use Rattle.resp_frames.specs.Feeding.{SameFed};
 
-use crate::{Feeder, FrameFault, Request, put_all, put_fault, put_part};
+use crate::{Feeder, FrameFault, Request, Rule, put_all, put_fault, put_part};
 use outside::MemSink;
 use plain_world::{Part, Refusal};
 use std::alloc::{AllocError, Global};
 use std::test::Fail;
 
 /// A stream, how many requests are whole before it breaks, the rule, and the byte.
-struct Row(&'static [u8], u64, u8, u64);
+struct Row(&'static [u8], u64, Rule, u64);
 
 const ROWS: [Row; 17] = [
-    Row(b"*x\r\n", 0, 1, 0),
-    Row(b"*01\r\n", 0, 1, 0),
-    Row(b"*-0\r\n", 0, 1, 0),
-    Row(b"*\r\n", 0, 1, 0),
-    Row(b"*1048577\r\n", 0, 1, 0),
-    Row(b"*0\r\n*99999999999999999999\r\n", 0, 1, 4),
-    Row(b"*1\r\n+OK\r\n", 0, 2, 4),
-    Row(b"*1\r\n$3\r\nFOO\r\n*2\r\n$1\r\na\r\n*", 1, 2, 24),
-    Row(b"*1\r\n$536870913\r\n", 0, 3, 4),
-    Row(b"*1\r\n$-1\r\n", 0, 3, 4),
-    Row(b"*1\r\n$+1\r\n", 0, 3, 4),
-    Row(b"*1\rx", 0, 5, 3),
-    Row(b"*1x\r\r", 0, 5, 4),
-    Row(b"*1\r\n$3\r\nFOOx", 0, 5, 11),
-    Row(b"*1\r\n$3\r\nFOO\rx", 0, 5, 12),
-    Row(b"GET \"a\"\n", 0, 6, 4),
-    Row(b"*1\r\n$3\r\nFOO\r\n\r\n'\n", 1, 6, 15),
+    Row(b"*x\r\n", 0, Rule::InvalidMultibulkLength, 0),
+    Row(b"*01\r\n", 0, Rule::InvalidMultibulkLength, 0),
+    Row(b"*-0\r\n", 0, Rule::InvalidMultibulkLength, 0),
+    Row(b"*\r\n", 0, Rule::InvalidMultibulkLength, 0),
+    Row(b"*1048577\r\n", 0, Rule::InvalidMultibulkLength, 0),
+    Row(
+        b"*0\r\n*99999999999999999999\r\n",
+        0,
+        Rule::InvalidMultibulkLength,
+        4,
+    ),
+    Row(b"*1\r\n+OK\r\n", 0, Rule::ExpectedDollar, 4),
+    Row(
+        b"*1\r\n$3\r\nFOO\r\n*2\r\n$1\r\na\r\n*",
+        1,
+        Rule::ExpectedDollar,
+        24,
+    ),
+    Row(b"*1\r\n$536870913\r\n", 0, Rule::InvalidBulkLength, 4),
+    Row(b"*1\r\n$-1\r\n", 0, Rule::InvalidBulkLength, 4),
+    Row(b"*1\r\n$+1\r\n", 0, Rule::InvalidBulkLength, 4),
+    Row(b"*1\rx", 0, Rule::ExpectedCrLf, 3),
+    Row(b"*1x\r\r", 0, Rule::ExpectedCrLf, 4),
+    Row(b"*1\r\n$3\r\nFOOx", 0, Rule::ExpectedCrLf, 11),
+    Row(b"*1\r\n$3\r\nFOO\rx", 0, Rule::ExpectedCrLf, 12),
+    Row(b"GET \"a\"\n", 0, Rule::QuotedInline, 4),
+    Row(b"*1\r\n$3\r\nFOO\r\n\r\n'\n", 1, Rule::QuotedInline, 15),
 ];
 
 // Gives out what is whole, and says how many requests that were, and why the stream broke.
@@ -69,12 +79,12 @@ fn broken(
 
 #[test]
 fn faults_and_their_places(rt: HostRuntime) -> Result<(), Fail> {
-    for Row(stream, requests, fault, at) in &ROWS {
+    for Row(stream, requests, rule, at) in &ROWS {
         assert!(rt; stream.len() <= 1000);
         for first in 0..=stream.len() {
             let answer = broken(rt.alloc(), stream, first)?;
             let due = FrameFault::Protocol {
-                fault: *fault,
+                rule: *rule,
                 at: *at,
             };
             assert_eq!(rt; answer, (*requests, Some(due)));
@@ -99,7 +109,7 @@ fn words_and_what_is_kept(rt: HostRuntime) -> Result<(), Fail> {
 
 /// A stream, the words of its requests, each followed by a bar and the last of a request by a semicolon too, how many
 /// bytes are left, and the rule and the byte where it breaks.
-struct WordsRow(&'static [u8], &'static [u8], usize, Option<(u8, u64)>);
+struct WordsRow(&'static [u8], &'static [u8], usize, Option<(Rule, u64)>);
 
 const WORDS: [WordsRow; 20] = [
     WordsRow(b"PING\r\n", b"PING|;", 0, None),
@@ -127,11 +137,21 @@ const WORDS: [WordsRow; 20] = [
     WordsRow(b"PING\nPING\r", b"PING|;", 5, None),
     WordsRow(b"GET \"a\"", b"", 7, None),
     // the first quote of a whole line
-    WordsRow(b"GET \"a\"\n", b"", 8, Some((6, 4))),
-    WordsRow(b"\nPING\nGET 'a\"'\r\nPING\n", b"PING|;", 15, Some((6, 10))),
-    WordsRow(b"\"\n", b"", 2, Some((6, 0))),
-    WordsRow(b"a \r'\n", b"", 5, Some((6, 3))),
-    WordsRow(b"PING\n*1\r\n'\n", b"PING|;", 6, Some((2, 9))),
+    WordsRow(b"GET \"a\"\n", b"", 8, Some((Rule::QuotedInline, 4))),
+    WordsRow(
+        b"\nPING\nGET 'a\"'\r\nPING\n",
+        b"PING|;",
+        15,
+        Some((Rule::QuotedInline, 10)),
+    ),
+    WordsRow(b"\"\n", b"", 2, Some((Rule::QuotedInline, 0))),
+    WordsRow(b"a \r'\n", b"", 5, Some((Rule::QuotedInline, 3))),
+    WordsRow(
+        b"PING\n*1\r\n'\n",
+        b"PING|;",
+        6,
+        Some((Rule::ExpectedDollar, 9)),
+    ),
 ];
 
 // Adds the words of a request.
@@ -207,8 +227,8 @@ fn inline_requests_and_their_words(rt: HostRuntime) -> Result<(), Fail> {
     for WordsRow(stream, said, kept, broken) in &WORDS {
         assert!(rt; stream.len() <= 1000);
         let due = match broken {
-            Some((fault, at)) => Some(FrameFault::Protocol {
-                fault: *fault,
+            Some((rule, at)) => Some(FrameFault::Protocol {
+                rule: *rule,
                 at: *at,
             }),
             None => None,
@@ -263,7 +283,10 @@ fn lines_that_are_too_long(rt: HostRuntime) -> Result<(), Fail> {
         for first in [0, 1, 65_535, 65_536, 65_537, 65_538] {
             assert!(rt; first <= line.len() && line.len() <= 100_000);
             let read = in_two(rt.alloc(), line.as_slice(), first)?;
-            let due = FrameFault::Protocol { fault: 4, at: 0 };
+            let due = FrameFault::Protocol {
+                rule: Rule::LineTooLong,
+                at: 0,
+            };
             assert_eq!(rt;
                 (read.said.as_slice(), read.kept, read.fault),
                 (b"".as_slice(), 65_538, Some(due))
@@ -281,12 +304,15 @@ fn headers_of_the_longest(rt: HostRuntime) -> Result<(), Fail> {
     let mut taken = Vec::from_slice(rt.alloc(), header.as_slice())?;
     taken.extend_from_slice(b"\r\n")?;
     header.push(b'1')?;
-    let cases = [(taken.as_slice(), 1u8), (header.as_slice(), 4u8)];
-    for (stream, fault) in cases {
+    let cases = [
+        (taken.as_slice(), Rule::InvalidMultibulkLength),
+        (header.as_slice(), Rule::LineTooLong),
+    ];
+    for (stream, rule) in cases {
         assert!(rt; stream.len() <= 100_000);
         for first in [0, 1, 65_535, 65_536] {
             assert!(rt; first <= stream.len());
-            let due = FrameFault::Protocol { fault, at: 0 };
+            let due = FrameFault::Protocol { rule, at: 0 };
             assert_eq!(rt; broken(rt.alloc(), stream, first)?, (0, Some(due)));
         }
     }
@@ -294,32 +320,36 @@ fn headers_of_the_longest(rt: HostRuntime) -> Result<(), Fail> {
 }
 
 /// A rule, a byte, and the line.
-struct LineRow(u8, u64, &'static [u8]);
+struct LineRow(Rule, u64, &'static [u8]);
 
 const LINES: [LineRow; 6] = [
     LineRow(
-        1,
+        Rule::InvalidMultibulkLength,
         7,
         b"-ERR Protocol error: invalid multibulk length at byte 7\r\n",
     ),
-    LineRow(2, 0, b"-ERR Protocol error: expected '$' at byte 0\r\n"),
     LineRow(
-        3,
+        Rule::ExpectedDollar,
+        0,
+        b"-ERR Protocol error: expected '$' at byte 0\r\n",
+    ),
+    LineRow(
+        Rule::InvalidBulkLength,
         10,
         b"-ERR Protocol error: invalid bulk length at byte 10\r\n",
     ),
     LineRow(
-        4,
+        Rule::LineTooLong,
         65_537,
         b"-ERR Protocol error: line too long at byte 65537\r\n",
     ),
     LineRow(
-        5,
+        Rule::ExpectedCrLf,
         18_446_744_073_709_551_615,
         b"-ERR Protocol error: expected CR LF at byte 18446744073709551615\r\n",
     ),
     LineRow(
-        6,
+        Rule::QuotedInline,
         4,
         b"-ERR Protocol error: inline request not taken at byte 4\r\n",
     ),

@@ -5,8 +5,10 @@ ghost use Rattle.std.specs.Prelude.{◌<◌, ◌≤◌, ◌^◌, length, IfSome,
 ghost use Rattle.resp_frames.specs.WholeRead.{IsNumberLine, IsHeaded, IsWholeWord, ReadsAhead};
 ghost use Rattle.resp_frames.specs.RequestRead.{Stands, StandsAtLength};
 
+use crate::number::MOST_WORDS;
 use crate::request::{Body, Due, Progress, read_body};
 use crate::span::{Span, Spans};
+use plain_world::LONGEST as LONGEST_WORD;
 use std::alloc::AllocError;
 
 /// A number, and how many bytes its text has, or its header.
@@ -157,7 +159,7 @@ fn whole_word(bytes: &[u8], read: usize) -> Option<Span>
     ensures { IfSome result (λ word. IsWholeWord bytes.now read word) }
 {
     let rest = &bytes[read..];
-    match whole_header(rest, b'$', 536_870_912) {
+    match whole_header(rest, b'$', LONGEST_WORD) {
         None => None,
         Some(head) => match read_body(&rest[head.len..], head.number) {
             Body::Whole => Some(Span {
@@ -199,7 +201,7 @@ pub fn read_ahead(bytes: &[u8], progress: Progress, spans: &mut Spans) -> Result
     ensures { IfOk result (λ ahead. ReadsAhead bytes.now spans.new.items ahead) }
 {
     match progress.due {
-        Due::Count(0) => match whole_header(bytes, b'*', 1_048_576) {
+        Due::Count(0) => match whole_header(bytes, b'*', MOST_WORDS) {
             None => Ok(Ahead::Rest(progress)),
             Some(head) => read_words(bytes, head.len, head.number, spans),
         },

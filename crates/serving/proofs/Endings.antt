@@ -16,6 +16,7 @@ use Rattle.resp_frames.specs.Feeding.{Feeding, SameFed}
 use Rattle.resp_frames.specs.Puts.{PutsAll, PutsFront}
 use Rattle.resp_frames.proofs.Putting.{all_nothing, all_then, fault_then}
 use Rattle.resp_frames.proofs.Streams.{frames_there, requests_first}
+use Rattle.resp_frames.specs.declared.rule.Rule.{Rule}
 use Rattle.serving.specs.declared.ending.Ended.{Ended}
 use Rattle.serving.specs.declared.ending.Ended.TheVariants as endings
 use Rattle.serving.specs.Path.{path, CutPath, whole}
@@ -72,7 +73,7 @@ module _ {E : Type 0} (X C : E → Words → List Part → E → Type 0) (quits 
     no_faults rest w s = (onward_all o o1 (spelled s.replies) s.wrote).faults
 
     -- all requests are answered, and then a rule is broken, whose line can't be written
-    concludes_tail : (rest : List ℕ) (w : E) (s : Serves X C quits spent taken rest first w o o1 [] []) (rule at : ℕ) → EndsAs taken rest (Fault rule at) → (o2 : SinkSeen) → PutsFront o1 o2 (fault_line rule at) → i2.faults ≡ i.faults
+    concludes_tail : (rest : List ℕ) (w : E) (s : Serves X C quits spent taken rest first w o o1 [] []) (rule : Rule) (at : ℕ) → EndsAs taken rest (Fault rule at) → (o2 : SinkSeen) → PutsFront o1 o2 (fault_line rule at) → i2.faults ≡ i.faults
         → Served (path X first) (CutPath X C first) quits spent limit i i2 o o2 w endings.WriteFault
     concludes_tail rest w s rule at e o2 tail reads =
         let front = fault_then o o1 o2 (spelled s.replies) (fault_line rule at) (onward_all o o1 (spelled s.replies) s.wrote) tail in
@@ -189,14 +190,14 @@ module _ {E : Type 0} (X C : E → Words → List Part → E → Type 0) (quits 
       all_served : Serves X C quits spent s.taken new.kept first e1 o o1 [] []
       all_served = serves_then X C quits spent s.taken old.kept first e0 o o0 [] [] s.serves new.kept e1 o1 [] f
 
-      broken : (rule at : ℕ) → IsBroken new rule at → SameFed old new → EndsAs s.taken new.kept (Fault rule at)
+      broken : (rule : Rule) (at : ℕ) → IsBroken new rule at → SameFed old new → EndsAs s.taken new.kept (Fault rule at)
       broken rule at b fed = (b.from, b.fault, b.place ∙ (fed ∙ s.fed ∙ sym s.counted))
 
-      pub ends_protocol : (rule at : ℕ) → IsBroken new rule at → SameFed old new → PutsAll o1 o2 (fault_line rule at) → Served (path X first) (CutPath X C first) quits spent limit i i1 o o2 e1 (endings.Protocol rule at)
+      pub ends_protocol : (rule : Rule) (at : ℕ) → IsBroken new rule at → SameFed old new → PutsAll o1 o2 (fault_line rule at) → Served (path X first) (CutPath X C first) quits spent limit i i1 o o2 e1 (endings.Protocol rule at)
       ends_protocol rule at b fed tail =
           concludes first limit i i1 o o1 s.taken s.took.told few new.kept e1 all_served (Fault rule at) (broken rule at b fed) (endings.Protocol rule at) o2 tail refl s.took.faults (tail.faults ∙ no_faults first limit i i1 o o1 s.taken s.took.told few new.kept e1 all_served)
 
-      pub ends_tail : (rule at : ℕ) → IsBroken new rule at → SameFed old new → PutsFront o1 o2 (fault_line rule at) → Served (path X first) (CutPath X C first) quits spent limit i i1 o o2 e1 endings.WriteFault
+      pub ends_tail : (rule : Rule) (at : ℕ) → IsBroken new rule at → SameFed old new → PutsFront o1 o2 (fault_line rule at) → Served (path X first) (CutPath X C first) quits spent limit i i1 o o2 e1 endings.WriteFault
       ends_tail rule at b fed tail = concludes_tail first limit i i1 o o1 s.taken s.took.told few new.kept e1 all_served rule at (broken rule at b fed) o2 tail s.took.faults
 
       writes_none : o1.faults ≡ o.faults

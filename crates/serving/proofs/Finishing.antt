@@ -6,8 +6,9 @@ use Rattle.plain_world.specs.Words.{Words}
 use Rattle.plain_world.specs.declared.reply.Part.{Part}
 use Rattle.resp_frames.specs.declared.feeder.FrameFault.{FrameFault}
 use Rattle.resp_frames.specs.declared.feeder.FrameFault.TheVariants as faults
-use Rattle.resp_frames.specs.Feeding.{Feeding, Gives, SameFed, GivesOut, GivesNone, GivesFault, NextIs}
+use Rattle.resp_frames.specs.Feeding.{Feeding, GivesRequests, SameFed, GivesOut, GivesNone, GivesFault, NextIs}
 use Rattle.resp_frames.specs.Puts.{PutsAll}
+use Rattle.resp_frames.specs.declared.rule.Rule.{Rule}
 use Rattle.serving.specs.declared.answering.Answered.{Answered}
 use Rattle.serving.specs.declared.answering.Answered.TheVariants as all
 use Rattle.serving.specs.Answering.{Replied, RepliedPart, Serves, Breaks, AnswersAll, Finishes}
@@ -17,7 +18,7 @@ use Rattle.serving.proofs.Runs.{serves_then, breaks_then, quits_then, serves_put
 
 -- ---- what the feeder answers
 
-pub protocol_is : (e : FrameFault) (rule at : ℕ) (old new : Feeding) → e ≡ faults.Protocol rule at → NextIs old (Err e) new → GivesFault old new rule at
+pub protocol_is : (e : FrameFault) (rule : Rule) (at : ℕ) (old new : Feeding) → e ≡ faults.Protocol rule at → NextIs old (Err e) new → GivesFault old new rule at
 protocol_is e rule at old new is n = let P : FrameFault → Type 0 = λ x. NextIs old (Err x) new in subst P is n
 
 pub false_is : (b : Bool) (old new : Feeding) → b ≡ false → NextIs old (Ok b) new → GivesNone old new
@@ -27,11 +28,11 @@ pub true_is : (b : Bool) (old new : Feeding) → b ≡ true → NextIs old (Ok b
 true_is b old new is n = let P : Bool → Type 0 = λ x. NextIs old (Ok x) new in subst P is n
 
 -- the request that is lent is the one that was given out
-pub gives_lent : (old new : Feeding) (lent : Words) → GivesOut old new → new.current ≡ Some lent → Gives old.kept new.kept (lent ∷ [])
+pub gives_lent : (old new : Feeding) (lent : Words) → GivesOut old new → new.current ≡ Some lent → GivesRequests old.kept new.kept (lent ∷ [])
 gives_lent old new lent g e =
     let same : (let o : Option Words = Some g.words in o) ≡ Some lent = sym g.current ∙ e in
     let is : g.words ≡ lent = cc in
-    let P : Words → Type 0 = λ w. Gives old.kept new.kept (w ∷ []) in
+    let P : Words → Type 0 = λ w. GivesRequests old.kept new.kept (w ∷ []) in
     subst P is g.gives
 
 -- nothing changed before
@@ -41,7 +42,7 @@ finishes_from o o1 o2 p p1 p' wanted result e f h = let P : SinkSeen → Type 0 
 module _ {E : Type 0} (X C : E → Words → List Part → E → Type 0) (quits : Words → Bool) (spent : E → Bool) where
   -- from the first bytes to those that are left: what is answered so far, and how many bytes were fed
   module _ (old mid new : Feeding) (e0 e1 : E) (o0 o1 o2 : SinkSeen) (p p' : List ℕ) (s : Serves X C quits spent old.kept mid.kept e0 e1 o0 o1 [] p) (fed : SameFed old mid) where
-    passed : Gives mid.kept new.kept [] → Serves X C quits spent old.kept new.kept e0 e1 o0 o1 [] p
+    passed : GivesRequests mid.kept new.kept [] → Serves X C quits spent old.kept new.kept e0 e1 o0 o1 [] p
     passed g = serves_then X C quits spent old.kept mid.kept e0 e1 o0 o1 [] p s new.kept e1 o1 p (serves_none X C quits spent mid.kept new.kept e1 o1 p g)
 
     put_all : (rest : List ℕ) → Serves X C quits spent old.kept rest e0 e1 o0 o1 [] p → PutsAll o1 o2 p → Serves X C quits spent old.kept rest e0 e1 o0 o2 [] []
@@ -55,7 +56,7 @@ module _ {E : Type 0} (X C : E → Words → List Part → E → Type 0) (quits 
         let P : Answered → Type 0 = λ r. AnswersAll X C quits spent old new e0 e1 o0 o2 r in
         subst P (sym is) (e1, serves_fails X C quits spent old.kept new.kept e0 e1 o0 o1 [] p (passed g.gives) o2 front, inl refl)
 
-    pub finish_protocol : (rule at : ℕ) (result : Answered) → GivesFault mid new rule at → Finishes o1 o2 p p' (all.Protocol rule at) result → AnswersAll X C quits spent old new e0 e1 o0 o2 result
+    pub finish_protocol : (rule : Rule) (at : ℕ) (result : Answered) → GivesFault mid new rule at → Finishes o1 o2 p p' (all.Protocol rule at) result → AnswersAll X C quits spent old new e0 e1 o0 o2 result
     finish_protocol rule at result g (HasPut is put none) =
         let P : Answered → Type 0 = λ r. AnswersAll X C quits spent old new e0 e1 o0 o2 r in
         subst P (sym is) (put_all new.kept (passed g.gives) put, record { from = g.from; fault = g.fault; place = g.place }, g.fed ∙ fed)
@@ -73,7 +74,7 @@ module _ {E : Type 0} (X C : E → Words → List Part → E → Type 0) (quits 
         subst P (sym is) (e1, serves_fails X C quits spent old.kept mid.kept e0 e1 o0 o1 [] p s o2 front, known)
 
   -- a request is given out and answered
-  module _ (old mid new : Feeding) (words : Words) (e0 e1 e2 : E) (o0 o1 o2 : SinkSeen) (p p1 : List ℕ) (s : Serves X C quits spent old.kept mid.kept e0 e1 o0 o1 [] p) (g : Gives mid.kept new.kept (words ∷ [])) where
+  module _ (old mid new : Feeding) (words : Words) (e0 e1 e2 : E) (o0 o1 o2 : SinkSeen) (p p1 : List ℕ) (s : Serves X C quits spent old.kept mid.kept e0 e1 o0 o1 [] p) (g : GivesRequests mid.kept new.kept (words ∷ [])) where
     pub goes_on : Replied X C quits spent e1 e2 words o1 o2 p p1 false → Serves X C quits spent old.kept new.kept e0 e2 o0 o2 [] p1
     goes_on r = serves_then X C quits spent old.kept mid.kept e0 e1 o0 o1 [] p s new.kept e2 o2 p1 (serves_one X C quits spent mid.kept new.kept words e1 e2 o1 o2 p p1 g r)
 

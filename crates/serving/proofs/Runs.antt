@@ -7,7 +7,7 @@ use Rattle.plain_world.specs.Words.{Words}
 use Rattle.plain_world.specs.Spelling.{spelling, spelled}
 use Rattle.plain_world.specs.declared.reply.Part.{Part}
 use Rattle.resp_frames.specs.Frames.{Item, asked, requests}
-use Rattle.resp_frames.specs.Feeding.{Gives}
+use Rattle.resp_frames.specs.Feeding.{GivesRequests}
 use Rattle.resp_frames.specs.Puts.{PutsFront}
 use Rattle.resp_frames.proofs.Giving.{framed_append}
 use Rattle.resp_frames.proofs.Streams.{framed_more}
@@ -155,12 +155,12 @@ module _ {E : Type 0} (X C : E → Words → List Part → E → Type 0) (quits 
         }
 
   -- nothing is given out but what is passed over
-  pub serves_none : (a b : List ℕ) (e : E) (o : SinkSeen) (p : List ℕ) → Gives a b [] → Serves X C quits spent a b e e o o p p
+  pub serves_none : (a b : List ℕ) (e : E) (o : SinkSeen) (p : List ℕ) → GivesRequests a b [] → Serves X C quits spent a b e e o o p p
   serves_none a b e o p g =
       let R : List Words → Type 0 = λ l. path X e l [] e in
       record { items = g.items; replies = []; framed = g.framed; went = subst R (sym g.are) refl; go_on = subst (GoOn quits) (sym g.are) tt; wrote = onward_nothing o p }
 
-  module _ (a b : List ℕ) (words : Words) (e0 e1 : E) (o0 o1 : SinkSeen) (p0 p1 : List ℕ) (g : Gives a b (words ∷ [])) where
+  module _ (a b : List ℕ) (words : Words) (e0 e1 : E) (o0 o1 : SinkSeen) (p0 p1 : List ℕ) (g : GivesRequests a b (words ∷ [])) where
     way : (reply : List Part) → X e0 words reply e1 → path X e0 (requests g.items) (reply ∷ []) e1
     way reply may = let R : List Words → Type 0 = λ l. path X e0 l (reply ∷ []) e1 in subst R (sym g.are) (e1, may, refl)
 

@@ -9,6 +9,7 @@ use Rattle.plain_world.specs.declared.reply.Part.{Part}
 use Rattle.resp_frames.specs.Frames.{Framed}
 use Rattle.resp_frames.specs.Ends.{End, Whole, Cut, Fault, Frames}
 use Rattle.resp_frames.proofs.Streams.{requests_first, framed_more, one_frames, fault_frames}
+use Rattle.resp_frames.specs.declared.rule.Rule.{Rule}
 use Rattle.serving.specs.declared.ending.Ended.{Ended}
 use Rattle.serving.specs.declared.ending.Ended.TheVariants as endings
 use Rattle.serving.specs.Served.{at_limit, take_fails, finds_end, EndsBy, CountsReads, AnswersPart, Ends, answered, quit, write_fault, no_memory, Served}
@@ -111,7 +112,7 @@ module _ {E : Type 0} (P PC : List Words → List (List Part) → E → Type 0) 
         let Q : List ℕ → Type 0 = λ t. Frames t s.asked Cut in
         let e = ends_whole quits bytes asked s.asked end Cut frames well (subst Q same f) go_on in cc
 
-    no_fault : (rule at : ℕ) → Frames s.taken s.asked (Fault rule at) → GoOn quits s.asked → ⊥
+    no_fault : (rule : Rule) (at : ℕ) → Frames s.taken s.asked (Fault rule at) → GoOn quits s.asked → ⊥
     no_fault rule at f go_on =
         let P : List ℕ → Type 0 = λ t. Frames t s.asked (Fault rule at) in
         let e = ends_whole quits bytes asked s.asked end (Fault rule at) frames well (subst P (sym left.whole) (fault_frames s.taken left.rest s.asked rule at f)) go_on in cc

@@ -9,6 +9,7 @@ use Rattle.resp_frames.specs.Faults.{RequestFault}
 use Rattle.resp_frames.specs.Ends.{IsCut}
 use Rattle.resp_frames.specs.Feeding.{Feeding, SameFed}
 use Rattle.resp_frames.specs.Puts.{PutsAll, PutsFront}
+use Rattle.resp_frames.specs.declared.rule.Rule.{Rule}
 use Rattle.serving.specs.Path.{path, CutPath, GoOn}
 use Rattle.serving.specs.Output.{Onward}
 use Rattle.serving.specs.declared.answering.Answer.{Answer}
@@ -17,14 +18,16 @@ use Rattle.serving.specs.declared.answering.Answered.{Answered}
 use Rattle.serving.specs.declared.answering.Answered.TheVariants as all
 
 -- a rule is broken in what is left of a stream, at the byte of this number
-pub record IsBroken (feeder : Feeding) (rule at : ℕ) : Type 0 where
+pub record IsBroken (feeder : Feeding) (rule : Rule) (at : ℕ) : Type 0 where
   pub from : List ℕ
   pub fault : RequestFault feeder.kept rule from
   pub place : at + length from ≡ feeder.gone + length feeder.kept
 
-module _ {E : Type 0} (executes cut_off : E → Words → List Part → E → Type 0) (quits : Words → Bool) (spent : E → Bool) where
+module _ {E : Type 0} (executes cut_off : E → Words → List Part → E → Type 0) (quits : Words → Bool)
+    (spent : E → Bool) where
   -- a request is answered, and ends the run or doesn't
-  pub record Replied (before after : E) (words : Words) (old new : SinkSeen) (pending pending' : List ℕ) (ends : Bool) : Type 0 where
+  pub record Replied (before after : E) (words : Words) (old new : SinkSeen) (pending pending' : List ℕ) (ends : Bool)
+      : Type 0 where
     pub reply : List Part
     pub may : executes before words reply after
     pub ends_run : quits words ≡ ends
@@ -38,14 +41,18 @@ module _ {E : Type 0} (executes cut_off : E → Words → List Part → E → Ty
 
   -- what `answer_one` does
   abbrev pub AnswersOne : E → E → Words → SinkSeen → SinkSeen → List ℕ → List ℕ → Answer → Type 0
-  AnswersOne before after words old new pending pending' one.Written = Replied before after words old new pending pending' false
-  AnswersOne before after words old new pending pending' one.Quit = Replied before after words old new pending pending' true
+  AnswersOne before after words old new pending pending' one.Written =
+      Replied before after words old new pending pending' false
+  AnswersOne before after words old new pending pending' one.Quit =
+      Replied before after words old new pending pending' true
   AnswersOne before after words old new pending pending' one.Fault = RepliedPart before after words old new pending
-  AnswersOne before after words old new pending pending' one.Memory = (spent after ≡ true) × (new ≡ old) × (pending' ≡ pending)
+  AnswersOne before after words old new pending pending' one.Memory =
+      (spent after ≡ true) × (new ≡ old) × (pending' ≡ pending)
 
-  -- The requests that stand before the rest of the bytes are answered by the engine on its way from one state to another,
-  -- and none of them ends the run.
-  pub record Serves (bytes rest : List ℕ) (before after : E) (old new : SinkSeen) (pending pending' : List ℕ) : Type 0 where
+  -- The requests that stand before the rest of the bytes are answered by the engine on its way from one state to
+  -- another, and none of them ends the run.
+  pub record Serves (bytes rest : List ℕ) (before after : E) (old new : SinkSeen) (pending pending' : List ℕ)
+      : Type 0 where
     pub items : List Item
     pub replies : List (List Part)
     pub framed : Framed bytes items rest
@@ -78,11 +85,15 @@ module _ {E : Type 0} (executes cut_off : E → Words → List Part → E → Ty
 
   -- what `answer_all` answers
   abbrev pub AnswersAll : Feeding → Feeding → E → E → SinkSeen → SinkSeen → Answered → Type 0
-  AnswersAll fed fed' before after old new all.All = Serves fed.kept fed'.kept before after old new [] [] × ((fed'.kept ≡ []) ⊎ IsCut fed'.kept) × SameFed fed fed'
-  AnswersAll fed fed' before after old new (all.Protocol rule at) = Serves fed.kept fed'.kept before after old new [] [] × IsBroken fed' rule at × SameFed fed fed'
+  AnswersAll fed fed' before after old new all.All =
+      Serves fed.kept fed'.kept before after old new [] [] × ((fed'.kept ≡ []) ⊎ IsCut fed'.kept) × SameFed fed fed'
+  AnswersAll fed fed' before after old new (all.Protocol rule at) =
+      Serves fed.kept fed'.kept before after old new [] [] × IsBroken fed' rule at × SameFed fed fed'
   AnswersAll fed fed' before after old new all.Quit = Quits fed.kept before after old new [] []
-  AnswersAll fed fed' before after old new all.Fault = (last : E) × Breaks fed.kept before last old new [] × ((last ≡ after) ⊎ (spent after ≡ true))
-  AnswersAll fed fed' before after old new all.Memory = (rest : List ℕ) × (after' : E) × Serves fed.kept rest before after' old new [] []
+  AnswersAll fed fed' before after old new all.Fault =
+      (last : E) × Breaks fed.kept before last old new [] × ((last ≡ after) ⊎ (spent after ≡ true))
+  AnswersAll fed fed' before after old new all.Memory =
+      (rest : List ℕ) × (after' : E) × Serves fed.kept rest before after' old new [] []
 
 -- nothing is pending where the run goes on
 abbrev pub AllPut : List ℕ → Answered → Type 0

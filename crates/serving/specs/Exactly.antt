@@ -21,7 +21,8 @@ pub record HasQuit (quits : Words → Bool) (asked : List Words) : Type 0 where
   pub ends_run : quits quit ≡ true
 
 -- want of memory, a failed put, a request that ends the run, or none and then the end of what was taken
-pub data EndsExactly (quits : Words → Bool) (limit : ℕ) (taken : List ℕ) (asked : List Words) (end : End) (left : Option (List ℕ)) (ended : Ended) : Type 0 where
+pub data EndsExactly (quits : Words → Bool) (limit : ℕ) (taken : List ℕ) (asked : List Words) (end : End)
+    (left : Option (List ℕ)) (ended : Ended) : Type 0 where
   no_memory : ended ≡ endings.Memory → EndsExactly quits limit taken asked end left ended
   write_fault : ended ≡ endings.WriteFault → EndsExactly quits limit taken asked end left ended
   quit : HasQuit quits asked → ended ≡ endings.Quit → EndsExactly quits limit taken asked end left ended
@@ -30,7 +31,8 @@ pub data EndsExactly (quits : Words → Bool) (limit : ℕ) (taken : List ℕ) (
 -- where the input tells its bytes, the bytes taken and their frames say how the serving ends
 abbrev pub ServesExactly : (Words → Bool) → ℕ → SourceSeen → SourceSeen → Ended → Type 0
 ServesExactly quits limit input input' ended =
-    (bytes rest taken : List ℕ) (asked : List Words) (end : End) → input.told ≡ Some bytes → input'.told ≡ Some rest → bytes ≡ taken ++ rest → Frames taken asked end
+    (bytes rest taken : List ℕ) (asked : List Words) (end : End) → input.told ≡ Some bytes → input'.told ≡ Some rest
+    → bytes ≡ taken ++ rest → Frames taken asked end
     → EndsExactly quits limit taken asked end (Some rest) ended
 
 -- no take fails: none does that is sure, or none was counted
@@ -39,10 +41,13 @@ NoReadFault old new = (old.sure ≡ true) ⊎ (Rose old.faults new.faults → �
 
 -- the replies to the first of the requests, whichever are allowed, surely fit
 abbrev pub AllFit : {E : Type 0} → (List Words → List (List Part) → E → Type 0) → List Words → Option ℕ → Type 0
-AllFit Allowed asked room = (some others : List Words) (replies : List (List Part)) (last : _) → asked ≡ some ++ others → Allowed some replies last → Fits room (length (spelled replies))
+AllFit Allowed asked room =
+    (some others : List Words) (replies : List (List Part)) (last : _) → asked ≡ some ++ others
+    → Allowed some replies last → Fits room (length (spelled replies))
 
 -- no put fails: whatever is answered fits, or no fault was counted
-abbrev pub NoWriteFault : {E : Type 0} → (List Words → List (List Part) → E → Type 0) → List Words → SinkSeen → SinkSeen → Type 0
+abbrev pub NoWriteFault : {E : Type 0} → (List Words → List (List Part) → E → Type 0) → List Words → SinkSeen
+    → SinkSeen → Type 0
 NoWriteFault Allowed asked old new = AllFit Allowed asked old.room ⊎ (Rose old.faults new.faults → ⊥)
 
 -- the end after whole requests, or by one that ends the run, unless memory wanted
@@ -55,8 +60,11 @@ pub data EndsWhole (ended : Ended) : Type 0 where
 abbrev pub EndsWell : (Words → Bool) → List Words → End → Type 0
 EndsWell quits asked end = (end ≡ Whole) ⊎ HasQuit quits asked
 
--- an input of fewer bytes than the limit that ends after a whole request, or holds one that ends the run before any fault, is
--- served to this end, where neither it nor the output fails
-abbrev pub ServesWhole : {E : Type 0} → (List Words → List (List Part) → E → Type 0) → (Words → Bool) → ℕ → SourceSeen → SourceSeen → SinkSeen → SinkSeen → Ended → Type 0
+-- an input of fewer bytes than the limit that ends after a whole request, or holds one that ends the run before any
+-- fault, is served to this end, where neither it nor the output fails
+abbrev pub ServesWhole : {E : Type 0} → (List Words → List (List Part) → E → Type 0) → (Words → Bool) → ℕ → SourceSeen
+    → SourceSeen → SinkSeen → SinkSeen → Ended → Type 0
 ServesWhole Allowed quits limit input input' old new ended =
-    (bytes : List ℕ) (asked : List Words) (end : End) → input.told ≡ Some bytes → Frames bytes asked end → EndsWell quits asked end → length bytes < limit → NoReadFault input input' → NoWriteFault Allowed asked old new → EndsWhole ended
+    (bytes : List ℕ) (asked : List Words) (end : End) → input.told ≡ Some bytes → Frames bytes asked end
+    → EndsWell quits asked end → length bytes < limit → NoReadFault input input'
+    → NoWriteFault Allowed asked old new → EndsWhole ended

@@ -16,7 +16,8 @@ module _ {E : Type 0} (executes : E → Words → List Part → E → Type 0) wh
 module _ {E : Type 0} (executes cut_off : E → Words → List Part → E → Type 0) where
   pub data CutPath (old : E) (asked : List Words) (replies : List (List Part)) (new : E) : Type 0 where
     whole : path executes old asked replies new → CutPath old asked replies new
-    at_last : (others : List Words) (last : Words) (front : List (List Part)) (reply : List Part) (mid : E) → asked ≡ others ++ last ∷ [] → replies ≡ front ++ reply ∷ []
+    at_last : (others : List Words) (last : Words) (front : List (List Part)) (reply : List Part) (mid : E)
+        → asked ≡ others ++ last ∷ [] → replies ≡ front ++ reply ∷ []
         → path executes old others front mid → cut_off mid last reply new → CutPath old asked replies new
 
 -- none of the requests ends the run

@@ -9,6 +9,7 @@ use Rattle.plain_world.specs.declared.reply.Part.{Part}
 use Rattle.resp_frames.specs.Ends.{End, Whole, Cut, Fault, Frames}
 use Rattle.resp_frames.specs.FaultLines.{fault_line}
 use Rattle.resp_frames.specs.Puts.{PutsAll, PutsFront}
+use Rattle.resp_frames.specs.declared.rule.Rule.{Rule}
 use Rattle.serving.specs.Path.{GoOn}
 use Rattle.serving.specs.declared.ending.Ended.{Ended}
 use Rattle.serving.specs.declared.ending.Ended.TheVariants as endings
@@ -47,9 +48,10 @@ abbrev pub CountsWrites : SinkSeen → SinkSeen → Ended → Type 0
 CountsWrites old new endings.WriteFault = Rose old.faults new.faults
 CountsWrites old new ended = new.faults ≡ old.faults
 
--- Replies to some requests are allowed on the way from here to what is left, also where the last of them met a fault, and end
--- the run or don't.
-module _ {E : Type 0} (Allowed AllowedCut : List Words → List (List Part) → E → Type 0) (quits : Words → Bool) (spent : E → Bool) where
+-- Replies to some requests are allowed on the way from here to what is left, also where the last of them met a fault,
+-- and end the run or don't.
+module _ {E : Type 0} (Allowed AllowedCut : List Words → List (List Part) → E → Type 0) (quits : Words → Bool)
+    (spent : E → Bool) where
   -- all of the requests are answered, none of which ends the run, and then the tail follows
   pub record AnswersAllOf (asked : List Words) (tail : List ℕ) (old new : SinkSeen) (last : E) : Type 0 where
     pub replies : List (List Part)
@@ -79,8 +81,8 @@ module _ {E : Type 0} (Allowed AllowedCut : List Words → List (List Part) → 
     pub may : Allowed some replies last
     pub wrote : PutsAll old new (spelled replies)
 
-  -- a front of the bytes of replies to the first of the requests is written, or of all replies and the tail of the end, where
-  -- none of the requests ends the run
+  -- a front of the bytes of replies to the first of the requests is written, or of all replies and the tail of the end,
+  -- where none of the requests ends the run
   pub record AnswersPart (asked : List Words) (end : End) (old new : SinkSeen) (last : E) : Type 0 where
     pub some : List Words
     pub others : List Words
@@ -91,18 +93,24 @@ module _ {E : Type 0} (Allowed AllowedCut : List Words → List (List Part) → 
     -- it is what is left, unless memory was refused too
     pub known : (then_is ≡ last) ⊎ (spent last ≡ true)
     pub tail : List ℕ
-    pub behind : (tail ≡ []) ⊎ ((rule at : ℕ) × (end ≡ Fault rule at) × (others ≡ []) × GoOn quits some × (tail ≡ fault_line rule at))
+    pub behind : (tail ≡ [])
+        ⊎ ((rule : Rule) × (at : ℕ) × (end ≡ Fault rule at) × (others ≡ []) × GoOn quits some
+        × (tail ≡ fault_line rule at))
     pub wrote : PutsFront old new (spelled replies ++ tail)
 
   -- how the serving ends
-  pub data Ends (limit : ℕ) (taken : List ℕ) (asked : List Words) (end : End) (left : Option (List ℕ)) (old new : SinkSeen) (last : E) (ended : Ended) : Type 0 where
-    answered : AnswersAllOf asked (tail_of ended) old new last → EndsBy limit taken end left ended → Ends limit taken asked end left old new last ended
+  pub data Ends (limit : ℕ) (taken : List ℕ) (asked : List Words) (end : End) (left : Option (List ℕ))
+      (old new : SinkSeen) (last : E) (ended : Ended) : Type 0 where
+    answered : AnswersAllOf asked (tail_of ended) old new last → EndsBy limit taken end left ended
+        → Ends limit taken asked end left old new last ended
     quit : AnswersToQuit asked old new last → ended ≡ endings.Quit → Ends limit taken asked end left old new last ended
-    write_fault : AnswersPart asked end old new last → ended ≡ endings.WriteFault → Ends limit taken asked end left old new last ended
+    write_fault : AnswersPart asked end old new last → ended ≡ endings.WriteFault
+        → Ends limit taken asked end left old new last ended
     no_memory : AnswersFirst asked old new → ended ≡ endings.Memory → Ends limit taken asked end left old new last ended
 
   -- the bytes answered are the spelling of replies that are allowed to the requests framed in the bytes taken
-  pub record Served (limit : ℕ) (input input' : SourceSeen) (old new : SinkSeen) (last : E) (ended : Ended) : Type 0 where
+  pub record Served (limit : ℕ) (input input' : SourceSeen) (old new : SinkSeen) (last : E) (ended : Ended)
+      : Type 0 where
     pub taken : List ℕ
     pub took : Consumes input.told input'.told taken
     pub few : length taken ≤ limit

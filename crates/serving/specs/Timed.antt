@@ -14,7 +14,8 @@ pub record Timed (E : Type 0) : Type 0 where
   pub pacers : List PacerSeen
 
 -- pacers are asked for a plan, and an engine does just that
-pub record Works {E : Type 0} (works : ℕ → Plan → E → E → Type 0) (moment : ℕ) (old new : E) (pacers pacers' : List PacerSeen) : Type 0 where
+pub record Works {E : Type 0} (works : ℕ → Plan → E → E → Type 0) (moment : ℕ) (old new : E)
+    (pacers pacers' : List PacerSeen) : Type 0 where
   pub plan : Plan
   pub planned : Conducts pacers plan pacers'
   pub done : works moment plan old new
@@ -25,7 +26,8 @@ pub record ReadsMoment (clock clock' : Option Answers) (moment : ℕ) : Type 0 w
   pub read : Tells clock now clock'
   pub is : moment ≡ min now latest
 
-module _ {E : Type 0} (executes : ℕ → E → Words → List Part → E → Type 0) (works : ℕ → Plan → E → E → Type 0) (quits : Words → Bool) where
+module _ {E : Type 0} (executes : ℕ → E → Words → List Part → E → Type 0) (works : ℕ → Plan → E → E → Type 0)
+    (quits : Words → Bool) where
   -- the clock is read, and the engine answers a request at that moment
   pub record TimedReply (moment : ℕ) (old : Timed E) (words : Words) (reply : List Part) (new : Timed E) : Type 0 where
     pub read : ReadsMoment old.clock new.clock moment

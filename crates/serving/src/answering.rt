@@ -9,7 +9,7 @@ use crate::pending::{Pending, flush};
 use crate::server::Server;
 use crate::writing::write_reply;
 use outside::{Clock, Conductor, Pacer, Sink};
-use resp_frames::{Feeder, FrameFault, Request};
+use resp_frames::{Feeder, FrameFault, Request, Rule};
 
 // The greatest moment, in milliseconds.
 const LATEST: u64 = 9_223_372_036_854_775_807;
@@ -33,7 +33,7 @@ pub enum Answered {
     /// All were answered, and no rule is broken.
     All,
     /// All were answered, and then this rule is broken, at this byte of the input.
-    Protocol(u8, u64),
+    Protocol(Rule, u64),
     /// One was answered that ends the run.
     Quit,
     /// A reply could not be written whole.
@@ -113,10 +113,10 @@ pub fn answer_all<E: Server, O: Sink>(
 {
     'requests: loop {
         match feeder.next_request() {
-            Err(FrameFault::Protocol { fault, at }) => return finish(
+            Err(FrameFault::Protocol { rule, at }) => return finish(
                 pending,
                 output,
-                Answered::Protocol(fault, at),
+                Answered::Protocol(rule, at),
             ),
             Err(FrameFault::Memory) => return finish(pending, output, Answered::Memory),
             Ok(false) => return finish(pending, output, Answered::All),

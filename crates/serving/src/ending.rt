@@ -1,5 +1,7 @@
 //! How the serving of an input ends.
 
+use resp_frames::Rule;
+
 /// What ends the serving. Each has an exit status.
 #[derive(Clone, Copy, Debug, PartialEq, Eq)]
 pub enum Ended {
@@ -8,7 +10,7 @@ pub enum Ended {
     /// A request that ends the run was answered: 0.
     Quit,
     /// The bytes break a rule of the protocol, at a byte that is counted from the start of the input: 2.
-    Protocol { rule: u8, at: u64 },
+    Protocol { rule: Rule, at: u64 },
     /// The input ended inside a request: 3.
     Cut,
     /// The input failed: 4.

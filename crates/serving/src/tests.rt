@@ -8,7 +8,7 @@ use outside::{
     Source, WriteFault,
 };
 use plain_world::{Memory, Reply};
-use resp_frames::Request;
+use resp_frames::{Request, Rule};
 use std::alloc::{AllocError, Global};
 use std::cell::Cell;
 use std::test::Fail;
@@ -102,19 +102,28 @@ const ROWS: [Row; 14] = [
     Row(
         b"*1\r\n$1\r\na\r\n*x\r\n*1\r\n$1\r\na\r\n",
         b":1\r\n-ERR Protocol error: invalid multibulk length at byte 11\r\n",
-        Ended::Protocol { rule: 1, at: 11 },
+        Ended::Protocol {
+            rule: Rule::InvalidMultibulkLength,
+            at: 11,
+        },
         1,
     ),
     Row(
         b"*1\r\nx",
         b"-ERR Protocol error: expected '$' at byte 4\r\n",
-        Ended::Protocol { rule: 2, at: 4 },
+        Ended::Protocol {
+            rule: Rule::ExpectedDollar,
+            at: 4,
+        },
         0,
     ),
     Row(
         b"*1\r\n$1\r\na\r\nGET 'a'\r\n",
         b":1\r\n-ERR Protocol error: inline request not taken at byte 15\r\n",
-        Ended::Protocol { rule: 6, at: 15 },
+        Ended::Protocol {
+            rule: Rule::QuotedInline,
+            at: 15,
+        },
         1,
     ),
     // inline requests, of which those without words are passed over

@@ -20,7 +20,7 @@ pub returns-in-Limit : goal.returns-in-Limit
 returns-in-Limit g c = line_as _ _ c.args.ending _ c.put_all-in-Limit.result c.in-Limit.is c.put_all-in-Limit.ensures
 
 pub returns-in-Protocol : goal.returns-in-Protocol
-returns-in-Protocol g c = line_as _ _ c.args.ending _ c.put_fault.result c.in-Protocol.is c.put_fault.ensures
+returns-in-Protocol g c = line_as _ _ c.args.ending _ c.put_numbered_fault.result c.in-Protocol.is (rw c.number.ensures at c.put_numbered_fault.ensures)
 
 pub returns-in-Refused : goal.returns-in-Refused
-returns-in-Refused g c = line_as _ _ c.args.ending _ c.put_fault-in-Refused.result c.in-Refused.is (rw c.number.ensures at c.put_fault-in-Refused.ensures)
+returns-in-Refused g c = line_as _ _ c.args.ending _ c.put_numbered_fault-in-Refused.result c.in-Refused.is (rw c.number-in-Refused.ensures at c.put_numbered_fault-in-Refused.ensures)
