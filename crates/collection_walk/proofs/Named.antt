@@ -1,11 +1,11 @@
 -- The blocks of an element are among those of its dictionary.
-use Rattle.std.proofs.Common.{◌≡◌, ℕ, zero, suc, ◌+◌, ◌≤◌, List, [], ◌∷◌, Option, Some, flat_map, ap, arith}
+use Rattle.std.proofs.Common.{◌≡◌, ℕ, zero, suc, ◌+◌, ◌≤◌, List, [], ◌∷◌, Option, Some, IsSome, flat_map, ap, subst, arith}
 use Rattle.std.proofs.lemmas.Bool.{cond-true}
 use Rattle.blocks.specs.declared.BlockRef.{BlockRef}
-use Rattle.blocks.specs.Blocks.{times, IsIn}
+use Rattle.blocks.specs.Blocks.{Blocks, times, IsIn, Owned}
 use Rattle.blocks.proofs.Refs.{ref_eq-refl}
 use Rattle.blocks.proofs.Times.{times-append}
-use Rattle.blocks.proofs.Change.{one}
+use Rattle.blocks.proofs.Change.{one, live-is}
 use Rattle.rehash_dict.specs.Table.{Element, Table, at_item, item}
 use Rattle.rehash_dict.specs.MapOf.{own_of, refs_of, key_refs}
 use Rattle.collection_walk.proofs.Ranks.{Slots}
@@ -28,3 +28,7 @@ key_within t at e found r = entry_within (λ _. []) t at e found r
 
 pub names_key : {V : Type 0} (t : Table V) (at : ℕ) (e : Element V) → item t at ≡ Some e → IsIn e.key (key_refs t)
 names_key t at e found = omega (arith, key_within t at e found e.key, self e.key)
+
+-- the one block of a packed form is live
+pub packed_live : (m : Blocks) (refs : List BlockRef) (at : BlockRef) → refs ≡ at ∷ [] → Owned refs m → IsSome (m at)
+packed_live m refs at is owned = live-is m at (let one' = subst (λ rs. Owned rs m) is owned at in omega (arith, one', self at))

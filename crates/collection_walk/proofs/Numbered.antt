@@ -4,6 +4,7 @@ use Rattle.std.proofs.lemmas.Bool.{cases_eq}
 use Rattle.std.proofs.lemmas.Bool.Decides.{nat_tests}
 use Rattle.blocks.specs.declared.BlockRef.{BlockRef}
 use Rattle.blocks.specs.Slabs.{Heap, Calmer, wants}
+use Rattle.collection_walk.proofs.Lists.{same_some}
 use Rattle.rehash_dict.specs.Table.{Element, Table, at_item, item}
 use Rattle.rehash_dict.specs.MapOf.{own_of, key_refs}
 use Rattle.collection_walk.proofs.Ranks.{Slots}
@@ -14,9 +15,6 @@ within_parts start end mark h = grind (arith, nat_tests)
 
 pub outside_parts : (start end mark : ℕ) → is_within start end mark ≡ false → (mark < start) ⊎ (end ≤ mark)
 outside_parts start end mark h = grind (arith, nat_tests)
-
-same_some : {X : Type 0} (o : Option X) (a b : X) → o ≡ Some a → o ≡ Some b → a ≡ b
-same_some o a b h k = cc
 
 module _ {V : Type 0} where
   abbrev pub names : Option (Element V) → List BlockRef

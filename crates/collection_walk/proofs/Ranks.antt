@@ -2,11 +2,8 @@
 use Rattle.std.proofs.Common.{add-one, ◌≡◌, ℕ, zero, suc, ◌+◌, ◌<◌, List, [], ◌∷◌, take, Option, Some, None, IsSome, is_some, count_by, refl, sym, ap, ◌∙◌, arith}
 use Rattle.std.specs.Prelude.{MatchOption}
 use Rattle.blocks.proofs.Sums.{count_cons}
+use Rattle.collection_walk.proofs.Lists.{some_of}
 use Rattle.rehash_dict.specs.Table.{Element, Table, at_item, item}
-
-pub some_of : {X : Type 0} (o : Option X) → IsSome o → (x : X) × (o ≡ Some x)
-some_of None h = cc
-some_of (Some x) h = (x, refl)
 
 abbrev pub Slots : Type 0 → Type 0
 Slots V = List (Option (Element V))

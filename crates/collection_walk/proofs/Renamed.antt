@@ -1,10 +1,11 @@
 -- A dictionary of key blocks alone, in which one element's block moved.
-use Rattle.std.proofs.Common.{◌≡◌, ◌≢◌, ℕ, ◌+◌, List, [], ◌∷◌, Option, Some, is_some, sym, ap, ◌∙◌, arith, inl, inr}
+use Rattle.std.proofs.Common.{◌≡◌, ◌≢◌, ℕ, ◌+◌, [], ◌∷◌, Some, is_some, sym, ap, ◌∙◌, arith, inl, inr}
 use Rattle.std.proofs.lemmas.Bool.{cases_eq}
 use Rattle.blocks.specs.declared.BlockRef.{BlockRef}
 use Rattle.blocks.specs.Blocks.{Blocks, times, IsOut, Changes, Owned}
 use Rattle.blocks.proofs.Refs.{cases_ref}
 use Rattle.blocks.proofs.Change.{one_if, Counts, Changes-counted, Counts-changed, Owned-others}
+use Rattle.collection_walk.proofs.Lists.{same_some}
 use Rattle.rehash_dict.specs.Table.{Table, Element, item}
 use Rattle.rehash_dict.specs.Keyed.{Keyed, key_tables}
 use Rattle.rehash_dict.specs.Steps.{Holds, Renames}
@@ -17,10 +18,7 @@ module _ {V : Type 0} (m n : Blocks) (old new : Table V) (at : ℕ) (key ref : B
   element = record { key = key; hash = h.hash; value = value }
 
   pub renamed : r.element ≡ element
-  renamed = some_same (item old at) r.element element r.found h.found
-    where
-      some_same : (o : Option (Element V)) (a b : Element V) → o ≡ Some a → o ≡ Some b → a ≡ b
-      some_same o a b h k = cc
+  renamed = same_some (item old at) r.element element r.found h.found
 
   pub bytes_kept : n ref ≡ m r.element.key
   bytes_kept = same ∙ ap (λ (e : Element V). m e.key) (sym renamed)

@@ -4,7 +4,7 @@ use Rattle.std.proofs.lemmas.List.{take_all}
 use Rattle.std.specs.FinMap.{insert, get, empty}
 use Rattle.blocks.specs.declared.BlockRef.{BlockRef}
 use Rattle.blocks.specs.Blocks.{Blocks, bytes_at, with_block, IsIn, Changes, Owned}
-use Rattle.blocks.proofs.Change.{Owned-others, live-is, Changes-same}
+use Rattle.blocks.proofs.Change.{Owned-others, Changes-same}
 use Rattle.pack_pairs.specs.Pairs.{Pair, second_of, map_of_pairs}
 use Rattle.pack_pairs.proofs.Lists.{no_pair}
 use Rattle.pack_pairs.proofs.Maps.{get_pairs, once_before, map_more}
@@ -12,14 +12,12 @@ use Rattle.rehash_dict.specs.Table.{Element, item}
 use Rattle.rehash_dict.specs.Keyed.{Keyed, Lacks, hash_of}
 use Rattle.rehash_dict.proofs.Growing.{Grown-same}
 use Rattle.hash_object.specs.declared.fields.Packed.{Packed}
-use Rattle.hash_object.specs.declared.fields.Body.{Body}
 use Rattle.hash_object.specs.declared.fields.Body.TheVariants.{Empty, Pack}
 use Rattle.hash_object.specs.declared.fields.Fields.{Fields}
 use Rattle.hash_object.specs.Hashed.{FieldTable, IsHashed, fields_in, entries_in, blocks_of, no_fields}
-use Rattle.hash_object.specs.Fields.{IsFields, IsBody, IsPlacedBody, fields, fields_of, refs_of_body, no_tables}
+use Rattle.hash_object.specs.Fields.{IsFields, IsBody, IsPlacedBody, fields, fields_of, no_tables}
 use Rattle.hash_object.specs.Items.{entry_at}
 use Rattle.hash_object.proofs.Tables.{table_kept, lacks_field, has_key, has_value}
-use Rattle.collection_walk.proofs.Named.{self}
 use Rattle.collection_walk.proofs.Replaced.{old_owned}
 use Rattle.hash_object.proofs.Listed.{table_listed, table_once, slots_len}
 use Rattle.hash_object.proofs.Ranks.{pair_there, pair_of_element}
@@ -76,10 +74,6 @@ all_copied m t at below =
 pub pack_copied : (m n : Blocks) (f : Fields) (p : Packed) (at : BlockRef) → IsFields m f → n ≡ with_block m at (Some (bytes_at m p.at)) → Changes m n [] (at ∷ []) → f.body ≡ Pack p → IsPlacedBody m n f (Pack (record { at = at; len = p.len })) (fields m f)
 pack_copied m n f p at sound placed changes is =
     pack_is_placed m n f at p.len (bytes_at m p.at) placed changes (fields m f) (subst (IsBody m f.limits f.seed) is sound.body) (sym (ap (fields_of m) is))
-
--- a packed form's block is live
-pub packed_live : (m : Blocks) (body : Body) (at : BlockRef) → refs_of_body body ≡ at ∷ [] → Owned (refs_of_body body) m → IsSome (m at)
-packed_live m body at is owned = live-is m at (let one' = subst (λ rs. Owned rs m) is owned at in omega (arith, one', self at))
 
 pub empty_copied : (m : Blocks) (f : Fields) → f.body ≡ Empty → IsPlacedBody m m f Empty (fields m f)
 empty_copied m f is = record {

@@ -1,11 +1,12 @@
 -- The fields and values of a hash in its own order, and their item numbers.
-use Rattle.std.proofs.Common.{◌≡◌, ℕ, zero, suc, ◌+◌, ◌<◌, ◌≤◌, Bool, true, false, cond, List, [], ◌∷◌, length, Option, Some, None, IsSome, is_some, unwrap_or, flat_map, slice_get, slice_index_or, count_by, refl, sym, ap, ◌∙◌, arith, inl, inr}
+use Rattle.std.proofs.Common.{◌≡◌, ℕ, zero, suc, ◌+◌, ◌<◌, ◌≤◌, Bool, true, false, cond, List, [], ◌∷◌, length, Option, Some, None, IsSome, is_some, unwrap_or, flat_map, slice_get, count_by, refl, sym, ap, ◌∙◌, arith, inl, inr}
 use Rattle.std.specs.Cmp.Lexicographic.{nat_list_cmp_total}
 use Rattle.std.specs.FinMap.{get, len, len-insert}
 use Rattle.std.proofs.lemmas.Bool.{cases_Bool, cond-true, cond-false}
 use Rattle.blocks.specs.declared.BlockRef.{BlockRef}
 use Rattle.blocks.specs.Blocks.{Blocks, bytes_at}
 use Rattle.blocks.proofs.Sums.{count_cons}
+use Rattle.collection_walk.proofs.Lists.{get_below, some_none}
 use Rattle.object_codec.specs.declared.limits.Limits.{Limits}
 use Rattle.pack_pairs.specs.Pairs.{Pair, IsOnce, second_of, map_of_pairs}
 use Rattle.pack_pairs.proofs.Maps.{tied, tied-true, tied-same, get_pairs, map_len}
@@ -54,9 +55,6 @@ once_of_len (p ∷ rest) h = elim (cases_Bool (is_some (get (map_of_pairs rest) 
   | inr lacks ↦ (absent rest p.0 lacks, once_of_len rest (omega (arith, h, len_put p rest false lacks)))
 ]
 
-some_none : {A : Type 0} (o : Option A) (x : A) → o ≡ Some x → o ≡ None → ⊥
-some_none o x h k = cc
-
 list_found : (list : List Pair) (k v : List ℕ) → second_of k list ≡ Some v → (i : ℕ) × (slice_get list i ≡ Some (k, v))
 list_found [] k v h = absurd (some_none None v h refl)
 list_found (p ∷ rest) k v h = elim (cases_Bool (tied k p.0)) [
@@ -94,16 +92,6 @@ list_apart (p ∷ rest) (suc i) zero k v w once h g =
     let key : p.0 ≡ k = (let e : Some p ≡ Some (k, w) = g in ap (λ (o : Option Pair). (unwrap_or o (k, w)).0) e) in
     absurd (list_there rest i k v h (ap (λ q. second_of q rest) (sym key) ∙ once.0))
 list_apart (p ∷ rest) (suc i) (suc j) k v w once h g = ap suc (list_apart rest i j k v w once.1 h g)
-
-pub get_below : {X : Type 0} (xs : List X) (i : ℕ) → IsSome (slice_get xs i) → i < length xs
-get_below [] i h = cc
-get_below (x ∷ xs) zero h = omega arith
-get_below (x ∷ xs) (suc i) h = omega (arith, get_below xs i h)
-
-pub get_is : (xs : List Pair) (i : ℕ) (d : Pair) → IsSome (slice_get xs i) → slice_get xs i ≡ Some (slice_index_or xs i d)
-get_is [] i d h = cc
-get_is (x ∷ xs) zero d h = refl
-get_is (x ∷ xs) (suc i) d h = get_is xs i d h
 
 -- ---- the elements of a dictionary
 

@@ -10,7 +10,8 @@ use Rattle.rehash_dict.specs.Table.{Element, at_item, item, table_len}
 use Rattle.hash_object.specs.declared.fields.Body.TheVariants.{Table}
 use Rattle.hash_object.specs.Hashed.{FieldTable}
 use Rattle.hash_object.specs.Relocation.{marks_from, vacant_mark, vacant_below, units_in, block_in}
-use Rattle.collection_walk.specs.Marks.{is_within}
+use Rattle.collection_walk.specs.Marks.{items_from, is_within}
+use Rattle.collection_walk.proofs.Numbered.{items_alike}
 use Rattle.hash_object.proofs.Listed.{Slots}
 use Rattle.hash_object.proofs.Tables.{names}
 use Rattle.collection_walk.proofs.Ranks.{rank, rank_zero, rank_past, rank_next, rank_all}
@@ -103,17 +104,18 @@ mark_block items index mark h =
     let same : p.0 ≡ mark = omega (arith, p.1) in
     (p.2 ∙ ap (block_in items) same, subst (λ k. IsSome (block_in items k)) same p.3)
 
+abbrev both : ℕ → List ℕ
+both n = (2 * n) ∷ (2 * n + 1) ∷ []
+
+-- two marks for each element
+marks_of : (n : ℕ) (items : Slots) → marks_from n items ≡ flat_map both (items_from n items)
+marks_of n [] = refl
+marks_of n (None ∷ items) = marks_of (suc n) items
+marks_of n (Some e ∷ items) = ap (λ zs. (2 * n) ∷ (2 * n + 1) ∷ zs) (marks_of (suc n) items)
+
 -- elements at the same item numbers have the same marks
 pub marks_alike : (n : ℕ) (xs ys : Slots) → ((k : ℕ) → is_some (at_item ys k) ≡ is_some (at_item xs k)) → marks_from n ys ≡ marks_from n xs
-marks_alike n [] [] h = refl
-marks_alike n [] (None ∷ ys) h = marks_alike (suc n) [] ys (λ k. h (suc k))
-marks_alike n [] (Some e ∷ ys) h = (let bad : true ≡ false = h 0 in cc)
-marks_alike n (None ∷ xs) [] h = marks_alike (suc n) xs [] (λ k. h (suc k))
-marks_alike n (Some d ∷ xs) [] h = (let bad : false ≡ true = h 0 in cc)
-marks_alike n (None ∷ xs) (None ∷ ys) h = marks_alike (suc n) xs ys (λ k. h (suc k))
-marks_alike n (None ∷ xs) (Some e ∷ ys) h = (let bad : true ≡ false = h 0 in cc)
-marks_alike n (Some d ∷ xs) (None ∷ ys) h = (let bad : false ≡ true = h 0 in cc)
-marks_alike n (Some d ∷ xs) (Some e ∷ ys) h = ap (λ zs. (2 * n) ∷ (2 * n + 1) ∷ zs) (marks_alike (suc n) xs ys (λ k. h (suc k)))
+marks_alike n xs ys h = marks_of n ys ∙ ap (flat_map both) (items_alike n xs ys h) ∙ sym (marks_of n xs)
 
 -- ---- counts
 

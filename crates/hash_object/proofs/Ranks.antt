@@ -9,7 +9,8 @@ use Rattle.pack_pairs.proofs.Maps.{map_len}
 use Rattle.pack_pairs.proofs.Packs.{pair_inside}
 use Rattle.pack_pairs.specs.Pairs.{Pair}
 use Rattle.rehash_dict.specs.Table.{Element, at_item, item}
-use Rattle.collection_walk.proofs.Ranks.{IsNext, rank, rank_none, rank_some, rank_below, some_of, first_stands, next_stands}
+use Rattle.collection_walk.proofs.Ranks.{IsNext, rank, rank_none, rank_some, rank_below, first_stands, next_stands}
+use Rattle.collection_walk.proofs.Lists.{some_of}
 use Rattle.hash_object.specs.declared.fields.Body.{Body}
 use Rattle.hash_object.specs.declared.fields.Body.TheVariants.{Empty, Pack, Table}
 use Rattle.hash_object.specs.Hashed.{FieldTable, entries_in}

@@ -1,5 +1,5 @@
 -- A table of scores whose members are copied, in the order of their item numbers.
-use Rattle.std.proofs.Common.{◌≡◌, ◌≢◌, ℕ, ℤ, ◌+◌, ◌<◌, suc, List, [], Option, Some, None, IsSome, is_some, cond, unwrap_or, refl, sym, ap, ◌∙◌, subst, arith, inl, inr}
+use Rattle.std.proofs.Common.{◌≡◌, ℕ, ℤ, ◌<◌, suc, List, [], Option, Some, None, IsSome, is_some, cond, unwrap_or, refl, sym, ap, ◌∙◌, subst, arith, inl, inr}
 use Rattle.std.proofs.lemmas.Bool.{cases_eq}
 use Rattle.std.specs.FinMap.{empty, get, insert, get-empty}
 use Rattle.std.specs.Ordering.{nat_cmp}
@@ -7,6 +7,7 @@ use Rattle.std.specs.Cmp.Lexicographic.{slice_cmp}
 use Rattle.blocks.specs.declared.BlockRef.{BlockRef}
 use Rattle.blocks.specs.Blocks.{Blocks, live, IsIn, Changes, Owned}
 use Rattle.blocks.proofs.Change.{cases_in, live-None, Changes-same, Changes-then, Owned-others}
+use Rattle.collection_walk.proofs.Lists.{some_none}
 use Rattle.rehash_dict.specs.Table.{Element, item}
 use Rattle.rehash_dict.specs.Keyed.{hash_of}
 use Rattle.rehash_dict.specs.Grown.{Grown}
@@ -14,7 +15,7 @@ use Rattle.rehash_dict.proofs.MapOf.{key_refs-owned}
 use Rattle.rehash_dict.proofs.Growing.{Grown-same, Grown-then}
 use Rattle.score_list.specs.Sorted.{Key}
 use Rattle.score_table.specs.declared.table.ScoreTable.{ScoreTable}
-use Rattle.score_table.specs.Scored.{IsScoreTable, IsChanged, IsArranged, pair_of, pair_at, scores, refs, seed_of, tables, no_tables}
+use Rattle.score_table.specs.Scored.{IsScoreTable, IsArranged, pair_of, pair_at, scores, refs, seed_of, tables, no_tables}
 use Rattle.score_table.specs.Copied.{IsCopied, TakesOver}
 use Rattle.score_table.proofs.Bytes.{maps_alike, cases_put}
 use Rattle.score_table.proofs.Edits.{kept_sound}
@@ -29,9 +30,6 @@ pub record IsPart (m mid : Blocks) (seed : ℕ) (s copy : ScoreTable) (at : ℕ)
   pub changes : Changes m mid [] (refs copy)
   pub grown : Grown (hash_of seed) no_tables (tables mid copy)
   pub seed_is : seed_of copy ≡ seed
-
-some_none : {A : Type 0} (o : Option A) (x : A) → o ≡ Some x → o ≡ None → ⊥
-some_none o x h k = cc
 
 some_same : {A : Type 0} (o : Option A) (x y : A) → o ≡ Some x → o ≡ Some y → x ≡ y
 some_same o x y h k = cc

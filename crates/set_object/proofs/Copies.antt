@@ -3,8 +3,8 @@ use Rattle.std.proofs.Common.{◌≡◌, ℕ, suc, ◌<◌, false, List, [], ◌
 use Rattle.std.proofs.lemmas.List.{take_all}
 use Rattle.std.specs.FinMap.{insert}
 use Rattle.blocks.specs.declared.BlockRef.{BlockRef}
-use Rattle.blocks.specs.Blocks.{Blocks, bytes_at, with_block, Changes, Owned}
-use Rattle.blocks.proofs.Change.{Owned-others, live-is, Changes-same}
+use Rattle.blocks.specs.Blocks.{Blocks, bytes_at, with_block, Changes}
+use Rattle.blocks.proofs.Change.{Owned-others, Changes-same}
 use Rattle.rehash_dict.specs.Table.{Element, item}
 use Rattle.rehash_dict.specs.Keyed.{Keyed, hash_of, key_of}
 use Rattle.rehash_dict.specs.MapOf.{content, key_refs}
@@ -13,18 +13,17 @@ use Rattle.rehash_dict.proofs.Fresh.{placed_bytes}
 use Rattle.rehash_dict.proofs.MapOf.{key_refs-owned}
 use Rattle.rehash_dict.proofs.Growing.{Grown-same}
 use Rattle.set_object.specs.declared.members.Packed.{Packed}
-use Rattle.set_object.specs.declared.members.Body.{Body}
 use Rattle.set_object.specs.declared.members.Body.TheVariants.{Empty, Numbers, Pack}
 use Rattle.set_object.specs.declared.members.Members.{Members}
 use Rattle.set_object.specs.Strings.{set_of, has}
 use Rattle.set_object.specs.Hashed.{IsHashed, no_members}
-use Rattle.set_object.specs.Members.{IsMembers, IsBody, IsPlacedBody, members, members_of, refs_of, key_in, no_tables}
+use Rattle.set_object.specs.Members.{IsMembers, IsBody, IsPlacedBody, members, members_of, key_in, no_tables}
 use Rattle.set_object.proofs.Sets.{among, has_among, once_before, set_more}
 use Rattle.set_object.proofs.Hashing.{Dict}
 use Rattle.set_object.proofs.Listed.{table_listed, table_once, keys_len}
 use Rattle.set_object.proofs.Ranks.{key_there}
 use Rattle.collection_walk.proofs.Ranks.{rank, rank_next, rank_past, rank_below, rank_all}
-use Rattle.collection_walk.proofs.Named.{self, names_key}
+use Rattle.collection_walk.proofs.Named.{names_key}
 use Rattle.set_object.proofs.Settling.{numbers_moved, numbers_mean, pack_moved, pack_mean}
 
 -- the members of a dictionary before an item number
@@ -88,10 +87,6 @@ module _ (m n : Blocks) (s : Members) (p : Packed) (at : BlockRef) (sound : IsMe
     changes = changes;
     grown = Grown-same (hash_of s.seed) no_tables no_tables refl;
   }
-
--- a packed form's block is live
-pub packed_live : (m : Blocks) (body : Body) (at : BlockRef) → refs_of body ≡ at ∷ [] → Owned (refs_of body) m → IsSome (m at)
-packed_live m body at is owned = live-is m at (let one' = subst (λ rs. Owned rs m) is owned at in omega (arith, one', self at))
 
 pub empty_copied : (m : Blocks) (s : Members) → s.body ≡ Empty → IsPlacedBody m m s Empty (members m s)
 empty_copied m s is = record {

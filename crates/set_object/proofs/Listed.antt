@@ -7,6 +7,7 @@ use Rattle.std.proofs.lemmas.Bool.{cases_Bool, cond-false}
 use Rattle.std.proofs.lemmas.List.{length-map}
 use Rattle.blocks.specs.Blocks.{Blocks, bytes_at}
 use Rattle.blocks.proofs.Sums.{count_cons}
+use Rattle.collection_walk.proofs.Lists.{get_below}
 use Rattle.object_codec.specs.declared.limits.Limits.{Limits}
 use Rattle.rehash_dict.specs.Table.{Element, item}
 use Rattle.rehash_dict.specs.MapOf.{pair_of, content, map_of}
@@ -74,11 +75,6 @@ once_apart (y ∷ xs) (suc i) zero x once h k =
     let same : y ≡ x = cc in
     absurd (two_ways (among y xs) (ap (λ q. among q xs) same ∙ stands_get xs i x h) (once_parts y xs once).0)
 once_apart (y ∷ xs) (suc i) (suc j) x once h k = ap suc (once_apart xs i j x (once_parts y xs once).1 h k)
-
-pub get_below : {X : Type 0} (xs : List X) (i : ℕ) → IsSome (slice_get xs i) → i < length xs
-get_below [] i h = cc
-get_below (x ∷ xs) zero h = omega arith
-get_below (x ∷ xs) (suc i) h = omega (arith, get_below xs i h)
 
 key_some : (m : Blocks) (o : Option (Element (Unit {0}))) (x : List ℕ) → key_at m o ≡ Some x → (e : Element (Unit {0})) × (o ≡ Some e) × (bytes_at m e.key ≡ x)
 key_some m None x h = cc

@@ -1,5 +1,5 @@
 -- How many elements of a dictionary stand before an item number, and which member each is in the dictionary's order.
-use Rattle.std.proofs.Common.{map, slice_get, ◌≡◌, ℕ, zero, suc, ◌+◌, ◌<◌, List, [], ◌∷◌, length, Option, Some, None, IsSome, flat_map, slice_index_or, refl, sym, ap, ◌∙◌, subst, arith}
+use Rattle.std.proofs.Common.{map, ◌≡◌, ℕ, zero, suc, ◌+◌, ◌<◌, [], ◌∷◌, length, Option, Some, None, IsSome, flat_map, slice_index_or, refl, sym, ap, ◌∙◌, subst, arith}
 use Rattle.std.specs.Prelude.{MatchOption}
 use Rattle.blocks.specs.Blocks.{Blocks, bytes_at}
 use Rattle.std.specs.FinMap.{len}
@@ -14,9 +14,10 @@ use Rattle.set_object.specs.declared.members.Body.{Body}
 use Rattle.set_object.specs.declared.members.Body.TheVariants.{Empty, Numbers, Pack, Table}
 use Rattle.set_object.specs.Members.{IsBody, members_of, listed_of, key_in}
 use Rattle.set_object.specs.Items.{IsPlace, member_in, key_at}
-use Rattle.collection_walk.proofs.Ranks.{IsNext, rank, rank_none, rank_some, rank_below, some_of, first_stands, next_stands}
+use Rattle.collection_walk.proofs.Ranks.{IsNext, rank, rank_none, rank_some, rank_below, first_stands, next_stands}
+use Rattle.collection_walk.proofs.Lists.{some_of, get_below, get_is}
 use Rattle.set_object.proofs.Hashing.{Dict}
-use Rattle.set_object.proofs.Listed.{Slots, keys_len, listed_is, get_below}
+use Rattle.set_object.proofs.Listed.{Slots, keys_len, listed_is}
 
 -- the member at an index of the order is that of the element at its item number
 pub key_there : (m : Blocks) (items : Slots) (at : ℕ) (e : Element (Unit {0})) → at_item items at ≡ Some e → slice_index_or (flat_map (key_in m) items) (rank items at) [] ≡ bytes_at m e.key
@@ -50,24 +51,19 @@ module _ (m : Blocks) (b : Body) (t : Dict) (is : b ≡ Table t) where
   table_element i place e there at =
       sym (key_there m t.items place e there) ∙ ap (λ n. slice_index_or (flat_map (key_in m) t.items) n []) (subst (λ c. IsPlace m c i place) is at).1 ∙ ap (λ c. slice_index_or (listed_of m c) i []) (sym is)
 
-get_is : (xs : List (List ℕ)) (i : ℕ) → IsSome (slice_get xs i) → slice_get xs i ≡ Some (slice_index_or xs i [])
-get_is [] i h = cc
-get_is (x ∷ xs) zero h = refl
-get_is (x ∷ xs) (suc i) h = get_is xs i h
-
 -- the place of an item number, and its member
 abbrev pub Spot : Blocks → Body → ℕ → ℕ → Type 0
 Spot m b item place = (x : ℕ) × IsPlace m b x place × (member_in m b item ≡ Some (slice_index_or (listed_of m b) x []))
 
 pub pack_spot : (m : Blocks) (b : Body) (p : Packed) (at place : ℕ) → b ≡ Pack p → IsAt (bytes_at m p.at) at place → IsSome (member_in m b at) → Spot m b at place
 pack_spot m b p at place is h some =
-    subst (λ c. Spot m c at place) (sym is) (at, h, get_is (texts (bytes_at m p.at)) at (subst (λ c. IsSome (member_in m c at)) is some))
+    subst (λ c. Spot m c at place) (sym is) (at, h, get_is (texts (bytes_at m p.at)) at [] (subst (λ c. IsSome (member_in m c at)) is some))
 
 pub other_spot : (m : Blocks) (b : Body) (at : ℕ) → ((p : Packed) → b ≡ Pack p → ⊥) → IsSome (member_in m b at) → Spot m b at at
 other_spot m Empty at other some = cc
 other_spot m (Numbers p) at other some =
     let list = map canonical (numbers_of (bytes_at m p.at)) in
-    (at, (refl, omega (arith, get_below list at some, length-map (numbers_of (bytes_at m p.at)) canonical)), get_is list at some)
+    (at, (refl, omega (arith, get_below list at some, length-map (numbers_of (bytes_at m p.at)) canonical)), get_is list at [] some)
 other_spot m (Pack p) at other some = absurd (other p refl)
 other_spot m (Table t) at other some =
     let e = some_of (item t at) (entry (item t at) some) in

@@ -21,7 +21,8 @@ use Rattle.zset_object.proofs.Bodies.{body_kept}
 use Rattle.collection_walk.proofs.Named.{self}
 use Rattle.zset_object.proofs.Keys.{once_len, keys_len}
 use Rattle.zset_object.proofs.Marks.{all_marked}
-use Rattle.zset_object.proofs.Listed.{pack_found, pack_has, pack_apart, pack_ranking, empty_ranking, get_below}
+use Rattle.zset_object.proofs.Listed.{pack_found, pack_has, pack_apart, pack_ranking, empty_ranking}
+use Rattle.collection_walk.proofs.Lists.{get_below}
 
 own_scores : (a b : Blocks) (body : Body) → ((r : BlockRef) → IsIn r (refs_of_body body) → b r ≡ a r) → scores_of b body ≡ scores_of a body
 own_scores a b Empty same = refl

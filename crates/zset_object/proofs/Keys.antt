@@ -15,6 +15,7 @@ use Rattle.int_text.proofs.NumberOf.{number_back}
 use Rattle.pack_pairs.specs.Pairs.{Pair, IsPairPack, IsOnce, IsFirst, FitsPair, pairs, second_of, map_of_pairs, longest}
 use Rattle.pack_pairs.proofs.Packs.{pair_fits}
 use Rattle.std.proofs.lemmas.Fmt.{length_signed_le}
+use Rattle.collection_walk.proofs.Lists.{some_none}
 use Rattle.pack_pairs.proofs.Lists.{no_pair, length_removed}
 use Rattle.pack_pairs.proofs.Maps.{tied, tied-true, tied-same, tied-other, get_pairs, maps_alike, first_inside, first_second, once_removed, once_before, map_removed, map_more}
 use Rattle.score_list.specs.Sorted.{Key}
@@ -104,9 +105,6 @@ pub no_score : (list : List Pair) (k : List ℕ) → second_of k list ≡ None �
 no_score list k none = ap scored (sym none) ∙ sym (get_keys list k)
 
 -- ---- a pair more
-
-some_none : {A : Type 0} (o : Option A) (x : A) → o ≡ Some x → o ≡ None → ⊥
-some_none o x h k = cc
 
 -- the first pair does not have it, nor the others
 none_parts : (q : List ℕ) (p : Pair) (rest : List Pair) → second_of q (p ∷ rest) ≡ None → (tied q p.0 ≡ false) × (second_of q rest ≡ None)

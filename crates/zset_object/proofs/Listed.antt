@@ -1,17 +1,15 @@
 -- The keys of a listpack's pairs, each of which stands once.
-use Rattle.std.proofs.Common.{◌≡◌, ℕ, zero, suc, ◌<◌, ℤ, List, [], ◌∷◌, length, Option, Some, None, IsSome, refl, sym, ap, ◌∙◌, arith, inl, inr}
+use Rattle.std.proofs.Common.{◌≡◌, ℕ, zero, suc, ◌<◌, ℤ, List, [], ◌∷◌, length, Some, None, IsSome, refl, sym, ap, ◌∙◌, arith, inl, inr}
 use Rattle.std.specs.Prelude.{slice_get, slice_index_or}
 use Rattle.std.specs.FinMap.{get}
 use Rattle.std.proofs.lemmas.Bool.{cases_Bool, cond-true, cond-false}
+use Rattle.collection_walk.proofs.Lists.{some_none}
 use Rattle.pack_pairs.specs.Pairs.{Pair, IsOnce, pairs, second_of}
 use Rattle.pack_pairs.proofs.Maps.{tied, tied-true, tied-same}
 use Rattle.score_list.specs.Sorted.{Key}
 use Rattle.score_table.specs.Ranking.{ScoreMap, IsRanking}
 use Rattle.zset_object.specs.Packed.{IsScorePack, score_of_text, key_of_pair, keys_of, keys_in, scores_in}
 use Rattle.zset_object.proofs.Keys.{scored, get_keys}
-
-some_none : {A : Type 0} (o : Option A) (x : A) → o ≡ Some x → o ≡ None → ⊥
-some_none o x h k = cc
 
 -- a member that has a score stands in the list
 list_found : (list : List Pair) (k : List ℕ) (v : ℤ) → scored (second_of k list) ≡ Some v → (i : ℕ) × (slice_get (keys_of list) i ≡ Some (v, k))
@@ -46,11 +44,6 @@ list_apart (p ∷ rest) zero zero k v w once h g = refl
 list_apart (p ∷ rest) zero (suc j) k v w once h g = absurd (list_there rest j k w g (ap (λ q. second_of q rest) (sym (key_same p v k h).1) ∙ once.0))
 list_apart (p ∷ rest) (suc i) zero k v w once h g = absurd (list_there rest i k v h (ap (λ q. second_of q rest) (sym (key_same p w k g).1) ∙ once.0))
 list_apart (p ∷ rest) (suc i) (suc j) k v w once h g = ap suc (list_apart rest i j k v w once.1 h g)
-
-pub get_below : {X : Type 0} (xs : List X) (i : ℕ) → IsSome (slice_get xs i) → i < length xs
-get_below [] i h = cc
-get_below (x ∷ xs) zero h = omega arith
-get_below (x ∷ xs) (suc i) h = omega (arith, get_below xs i h)
 
 pub get_within : (xs : List Key) (i : ℕ) (key : Key) → slice_get xs i ≡ Some key → i < length xs
 get_within [] i key h = cc

@@ -6,7 +6,7 @@ use Rattle.rehash_dict.specs.Table.{item}
 use Rattle.hash_object.specs.Hashed.{IsHashed, no_fields}
 use Rattle.hash_object.proofs.Tables.{new_is, new_hashed, hashed_then}
 use Rattle.collection_walk.proofs.Ending.{no_item}
-use Rattle.collection_walk.proofs.Ranks.{some_of}
+use Rattle.collection_walk.proofs.Lists.{some_of}
 use Rattle.hash_object.proofs.Copies.{pairs_before, source_keyed, source_owned, next_absent, next_put, next_entry, vacant_same, all_copied, none_before}
 use Rattle.hash_object.proofs.copying.copy_table.Goals.{then-is_entry+in_default, else-is_entry}
 use Rattle.hash_object.proofs.copying.copy_table.Goals as goal

@@ -6,7 +6,7 @@ use Rattle.set_object.specs.Hashed.{IsHashed, no_members}
 use Rattle.set_object.specs.Strings.{set_of}
 use Rattle.set_object.proofs.Hashing.{new_is, new_hashed, hashed_then}
 use Rattle.collection_walk.proofs.Ending.{no_item}
-use Rattle.collection_walk.proofs.Ranks.{some_of}
+use Rattle.collection_walk.proofs.Lists.{some_of}
 use Rattle.set_object.proofs.Copies.{keys_before, source_keyed, next_absent, next_put, vacant_same, all_copied}
 use Rattle.set_object.proofs.copying.copy_table.Goals.{then-is_entry+in_default, else-is_entry}
 use Rattle.set_object.proofs.copying.copy_table.Goals as goal

@@ -5,7 +5,7 @@ use Rattle.hash_object.specs.declared.fields.Body.{Body}
 use Rattle.hash_object.specs.Fields.{IsBody, refs_of_body}
 use Rattle.hash_object.specs.Items.{pair_in}
 use Rattle.hash_object.proofs.Tables.{value_live}
-use Rattle.hash_object.proofs.Listed.{get_is}
+use Rattle.collection_walk.proofs.Lists.{get_is}
 use Rattle.hash_object.proofs.fields.Fields.at.Goals as goal
 
 pub bytes-requires : goal.bytes-requires
