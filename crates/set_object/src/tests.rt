@@ -6,6 +6,8 @@ ghost use Rattle.blocks.specs.Plain.{plain_blocks};
 ghost use Rattle.object_codec.specs.Limits.{AreInRange};
 ghost use Rattle.set_object.specs.Members.{IsMembers};
 
+mod slabs;
+
 use crate::{Members, Memory, Moved, members_laws};
 use blocks::PlainStore;
 use itoa::Buffer;
@@ -154,6 +156,13 @@ impl Held {
         self.set.passed(&self.store, from, 32)
     }
 
+    fn add_all(&mut self, members: &[&[u8; 2]]) -> Result<(), Memory> {
+        for member in members {
+            self.add(member.as_slice())?;
+        }
+        Ok(())
+    }
+
     fn add_numbers(&mut self, from: u32, to: u32) -> Result<(), Memory> {
         for n in from..to {
             self.add(Buffer::new().format(n).as_bytes())?;
@@ -172,18 +181,20 @@ impl Held {
     }
 }
 
-// Whether so many members, numbers behind a prefix, have one form, and with one more another.
+// Whether so many members, numbers behind a prefix, have one form by these limits of numbers, and with one more another.
 fn rises_behind(
     alloc: Global,
-    limits: Limits,
+    numbers: u32,
+    entries: u32,
     prefix: &str,
     count: u32,
     forms: [Form; 2],
 ) -> Result<bool, Memory>
-    requires limits { AreInRange limits }
+    requires numbers { numbers ≤ 65536 }
+    requires entries { entries ≤ 4096 }
     requires few { count ≤ 4096 }
 {
-    let mut held = Held::new(alloc, limits);
+    let mut held = Held::new(alloc, limits(numbers, entries, 64));
     for n in 0..=count {
         let member = format!(in alloc; "{prefix}{n}")?;
         held.add(member.as_bytes())?;
@@ -206,18 +217,44 @@ fn numbers_are_an_intset(rt: HostRuntime) -> Result<(), Fail> {
     Ok(())
 }
 
-// Forms by the limits at their default, at 0 and at their most, each at the limit and one past it.
+// Whether members have their forms by these limits in their turn.
+fn rises_by(
+    alloc: Global,
+    numbers: u32,
+    entries: u32,
+    value: u32,
+    rows: &[(&[u8], Form)],
+) -> Result<bool, Memory>
+    requires numbers { numbers ≤ 65536 }
+    requires entries { entries ≤ 4096 }
+    requires value { value ≤ 4096 }
+{
+    Held::new(alloc, limits(numbers, entries, value)).rises(rows)
+}
+
+// Forms at each length that is a limit and at one more: 64, the default, 0, and 4,096, the most.
 #[test]
-fn forms_rise(rt: HostRuntime) -> Result<(), Fail> {
+fn forms_rise_by_length(rt: HostRuntime) -> Result<(), Fail> {
     let alloc = rt.alloc();
-    let words: [(&[u8], Form); 5] = [
+    let by_default: [(&[u8], Form); 5] = [
         (b"12", Form::Intset),
         (b"a", Form::Listpack),
         (&[7; 64], Form::Listpack),
         (&[7; 65], Form::Hashtable),
         (b"b", Form::Hashtable),
     ];
-    assert!(rt; Held::new(alloc, limits(512, 128, 64)).rises(&words)?);
+    assert!(rt; rises_by(alloc, 512, 128, 64, &by_default)?);
+    let none: [(&[u8], Form); 2] = [(b"", Form::Listpack), (b"a", Form::Hashtable)];
+    assert!(rt; rises_by(alloc, 512, 128, 0, &none)?);
+    let most: [(&[u8], Form); 2] = [(&[1; 4096], Form::Listpack), (&[1; 4097], Form::Hashtable)];
+    assert!(rt; rises_by(alloc, 0, 4096, 4096, &most)?);
+    Ok(())
+}
+
+// Numbers that leave the intset: by their count, by the count of a listpack, by the longest of them, and where no set fits a form.
+#[test]
+fn forms_rise(rt: HostRuntime) -> Result<(), Fail> {
+    let alloc = rt.alloc();
     let mixed: [(&[u8], Form); 5] = [
         (b"10", Form::Intset),
         (b"11", Form::Intset),
@@ -225,25 +262,33 @@ fn forms_rise(rt: HostRuntime) -> Result<(), Fail> {
         (b"-1", Form::Hashtable),
         (b"", Form::Hashtable),
     ];
-    assert!(rt; Held::new(alloc, limits(2, 3, 2)).rises(&mixed)?);
+    assert!(rt; rises_by(alloc, 2, 3, 2, &mixed)?);
+    let long: [(&[u8], Form); 2] = [(b"100", Form::Intset), (b"1", Form::Hashtable)];
+    assert!(rt; rises_by(alloc, 1, 128, 2, &long)?);
     let none: [(&[u8], Form); 1] = [(b"", Form::Hashtable)];
-    assert!(rt; Held::new(alloc, limits(0, 0, 0)).rises(&none)?);
-    let most: [(&[u8], Form); 2] = [(&[1; 4096], Form::Listpack), (&[1; 4097], Form::Hashtable)];
-    assert!(rt; Held::new(alloc, limits(0, 4096, 4096)).rises(&most)?);
+    assert!(rt; rises_by(alloc, 0, 0, 0, &none)?);
     Ok(())
 }
 
-// Numbers of members at each limit and one past it, by the limits at their default, at 0 and at 4,096.
+// Numbers at each number of them that is a limit and at one more: 512, the default, 0, and 4,096.
 #[test]
-fn forms_rise_at_each_count(rt: HostRuntime) -> Result<(), Fail> {
+fn forms_of_numbers_rise(rt: HostRuntime) -> Result<(), Fail> {
     let alloc = rt.alloc();
     let (ints, packs, tables) = (Form::Intset, Form::Listpack, Form::Hashtable);
-    assert!(rt; rises_behind(alloc, limits(512, 128, 64), "", 512, [ints, tables])?);
-    assert!(rt; rises_behind(alloc, limits(0, 128, 64), "", 0, [ints, packs])?);
-    assert!(rt; rises_behind(alloc, limits(4096, 128, 64), "", 4096, [ints, tables])?);
-    assert!(rt; rises_behind(alloc, limits(512, 128, 64), "x", 128, [packs, tables])?);
-    assert!(rt; rises_behind(alloc, limits(512, 0, 64), "x", 0, [ints, tables])?);
-    assert!(rt; rises_behind(alloc, limits(512, 4096, 64), "x", 4096, [packs, tables])?);
+    assert!(rt; rises_behind(alloc, 512, 128, "", 512, [ints, tables])?);
+    assert!(rt; rises_behind(alloc, 0, 128, "", 0, [ints, packs])?);
+    assert!(rt; rises_behind(alloc, 4096, 128, "", 4096, [ints, tables])?);
+    Ok(())
+}
+
+// Texts at each number of them that is a limit and at one more: 128, the default, 0, and 4,096, the most.
+#[test]
+fn forms_of_texts_rise(rt: HostRuntime) -> Result<(), Fail> {
+    let alloc = rt.alloc();
+    let (ints, packs, tables) = (Form::Intset, Form::Listpack, Form::Hashtable);
+    assert!(rt; rises_behind(alloc, 512, 128, "x", 128, [packs, tables])?);
+    assert!(rt; rises_behind(alloc, 512, 0, "x", 0, [ints, tables])?);
+    assert!(rt; rises_behind(alloc, 512, 4096, "x", 4096, [packs, tables])?);
     Ok(())
 }
 
@@ -370,20 +415,32 @@ fn edits_agree_with_a_plain_set(rt: HostRuntime) {
     assert!(rt; agrees_under_edits(alloc, limits(8, 20, 40), 0x3f));
 }
 
-// A set by an index of a packed form and by item numbers of a dictionary; its pages; its marks.
+impl Held {
+    // Whether one page has all of so many members, also from a place that none goes on to, and these have the item numbers below.
+    fn is_one_page(&self, alloc: Global, count: usize) -> Result<bool, Memory> {
+        let all = page(alloc, &self.set, 5, 1)?;
+        let is_all = all.next == 0 && all.items.len() == count;
+        Ok(is_all && self.set.top() == count && self.walked() == count)
+    }
+}
+
+// A packed form is one page, and its members' item numbers are their indices.
 #[test]
-fn members_have_item_numbers(rt: HostRuntime) -> Result<(), Fail> {
+fn a_packed_set_is_one_page(rt: HostRuntime) -> Result<(), Fail> {
     members_laws();
     let mut held = Held::new(rt.alloc(), limits(3, 4, 64));
     for member in [b"30", b"-1", b"7 ", b"x "] {
         held.add(member.as_slice())?;
-        let all = page(rt.alloc(), &held.set, 5, 1)?;
-        assert_eq!(rt; all.next, 0);
-        assert_eq!(rt; all.items.len(), held.set.len());
-        assert_eq!(rt; held.set.top(), held.set.len());
-        assert_eq!(rt; held.walked(), held.set.len());
+        assert!(rt; held.is_one_page(rt.alloc(), held.set.len())?);
     }
-    held.add(b"y ")?;
+    Ok(())
+}
+
+// The members of a dictionary have item numbers, and a page.
+#[test]
+fn members_have_item_numbers(rt: HostRuntime) -> Result<(), Fail> {
+    let mut held = Held::new(rt.alloc(), limits(3, 4, 64));
+    held.add_all(&[b"30", b"-1", b"7 ", b"x ", b"y "])?;
     assert_eq!(rt; held.set.form(), Form::Hashtable);
     assert_eq!(rt; page(rt.alloc(), &held.set, 0, 5)?.items.len(), 5);
     assert!(rt; held.remove(b"x ")?);
@@ -393,32 +450,33 @@ fn members_have_item_numbers(rt: HostRuntime) -> Result<(), Fail> {
     Ok(())
 }
 
-// Marks of the block of a packed set and of those of members, passed at most 32 at a time, vacant item numbers among them.
+// Whether calls from these marks on answer these, and those that only look the same.
+fn passes(held: &mut Held, rows: &[(u128, Option<u128>, u32)]) -> bool {
+    for (from, next, used) in rows {
+        let wanted = Moved {
+            next: *next,
+            used: *used,
+        };
+        if held.relocate(*from) != wanted || held.passed(*from) != Some(wanted) {
+            return false;
+        }
+    }
+    true
+}
+
+// The mark of the block of a packed set.
 #[test]
-fn blocks_are_passed_by_marks(rt: HostRuntime) -> Result<(), Fail> {
+fn a_packed_set_is_passed_by_its_mark(rt: HostRuntime) -> Result<(), Fail> {
     let mut packed = Held::new(rt.alloc(), limits(512, 128, 64));
-    assert_eq!(rt;
-        packed.relocate(0),
-        Moved {
-            next: None,
-            used: 0
-        }
-    );
-    packed.add(b"1")?;
-    assert_eq!(rt;
-        packed.relocate(0),
-        Moved {
-            next: None,
-            used: 1
-        }
-    );
-    assert_eq!(rt;
-        packed.relocate(1),
-        Moved {
-            next: None,
-            used: 0
-        }
-    );
+    assert!(rt; passes(&mut packed, &[(0, None, 0)]));
+    assert!(rt; packed.add(b"1")?);
+    assert!(rt; passes(&mut packed, &[(0, None, 1), (1, None, 0)]));
+    Ok(())
+}
+
+// The marks of the blocks of members, passed at most 32 at a time, a vacant item number among them.
+#[test]
+fn members_are_passed_by_marks(rt: HostRuntime) -> Result<(), Fail> {
     let mut hashed = Held::new(rt.alloc(), limits(0, 0, 0));
     hashed.add_numbers(0, 40)?;
     assert!(rt; hashed.remove(b"3")?);
@@ -428,10 +486,7 @@ fn blocks_are_passed_by_marks(rt: HostRuntime) -> Result<(), Fail> {
         (32, None, 8),
         (40, None, 0),
     ];
-    for (from, next, used) in rows {
-        assert_eq!(rt; hashed.relocate(from), Moved { next, used });
-        assert_eq!(rt; hashed.passed(from), Some(Moved { next, used }));
-    }
+    assert!(rt; passes(&mut hashed, &rows));
     assert_eq!(rt; hashed.walked(), 39);
     Ok(())
 }
@@ -448,9 +503,11 @@ fn copies_stand_alone(rt: HostRuntime) -> Result<(), Fail> {
         let mut held = Held::new(rt.alloc(), limits(3, 6, 64));
         held.add_numbers(0, count)?;
         held.copied()?;
-        assert_eq!(rt; held.set.form(), form);
-        assert_eq!(rt; held.count_numbers(0, 20), count as usize);
-        assert_eq!(rt; held.walked(), count as usize);
+        assert!(rt; held.set.form() == form);
+        assert_eq!(rt;
+            [held.count_numbers(0, 20), held.walked()],
+            [count as usize; 2]
+        );
     }
     Ok(())
 }
