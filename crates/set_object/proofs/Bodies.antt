@@ -6,7 +6,7 @@ use Rattle.std.specs.Ordering.{nat_cmp}
 use Rattle.std.specs.Cmp.Lexicographic.{slice_cmp}
 use Rattle.blocks.specs.declared.BlockRef.{BlockRef}
 use Rattle.blocks.specs.Blocks.{Blocks, IsIn, bytes_at, Changes}
-use Rattle.blocks.proofs.Change.{one, Changes-owned}
+use Rattle.blocks.proofs.Change.{Changes-owned}
 use Rattle.int_text.specs.Decimal.{canonical}
 use Rattle.intset.specs.Intset.{numbers_of}
 use Rattle.collection_walk.proofs.Replaced.{new_kept, replaced}

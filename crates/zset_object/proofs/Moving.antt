@@ -4,7 +4,6 @@ use Rattle.std.specs.Prelude.{nat_lt, min, if◌then◌else◌, IfSome}
 use Rattle.blocks.specs.declared.Moved.{Moved}
 use Rattle.blocks.specs.Blocks.{Blocks}
 use Rattle.blocks.specs.Slabs.{Heap}
-use Rattle.score_table.specs.Scored as table
 use Rattle.collection_walk.proofs.Passing.{passed_within, goes_on, part_passed}
 use Rattle.zset_object.specs.declared.scored.Scored.{Scored}
 use Rattle.zset_object.specs.Scored.{IsScored, refs}

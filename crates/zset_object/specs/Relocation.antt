@@ -1,10 +1,9 @@
 -- Bounded calls that move the blocks of a sorted set: the mark of each block, and what such a call passes and leaves.
-use Rattle.std.specs.Prelude.{◌≡◌, ℕ, ℤ, zero, suc, ◌+◌, List, [], ◌∷◌, ◌++◌, Option, Some, None}
+use Rattle.std.specs.Prelude.{◌≡◌, ℕ, ℤ, zero, suc, List, [], ◌∷◌, ◌++◌, Option, Some, None}
 use Rattle.blocks.specs.declared.Moved.{Moved}
 use Rattle.blocks.specs.Blocks.{Blocks, Changes}
 use Rattle.blocks.specs.Slabs.{Heap}
 use Rattle.rehash_dict.specs.Table.{Table as ItemTable, Element, item}
-use Rattle.score_table.specs.Relocation as table
 use Rattle.collection_walk.specs.Marks.{items_from, is_passed, ArePassed, IsCounted}
 use Rattle.zset_object.specs.declared.scored.Body.{Body}
 use Rattle.zset_object.specs.declared.scored.Body.TheVariants.{Empty, Pack, Table}

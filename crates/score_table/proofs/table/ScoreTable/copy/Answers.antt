@@ -1,10 +1,8 @@
 use Rattle.std.proofs.Common.{sym, subst, add-one, arith, suc}
-use Rattle.blocks.specs.Blocks.{no_step, Blocks, Changes, Served}
-use Rattle.blocks.proofs.Change.{Changes-then}
+use Rattle.blocks.specs.Blocks.{no_step, Served}
 use Rattle.blocks.proofs.Serve.{Served-then}
-use Rattle.score_table.specs.Scored.{refs}
 use Rattle.collection_walk.proofs.Ending.{no_item}
-use Rattle.score_table.proofs.Copies.{IsPart, part_new, source_sound, next_absent, part_skips, part_next, part_whole, all_same}
+use Rattle.score_table.proofs.Copies.{IsPart, part_new, source_sound, next_absent, part_skips, part_next, part_whole}
 use Rattle.score_table.proofs.table.ScoreTable.copy.Goals.{then-is_entry+in_default, else-is_entry}
 use Rattle.score_table.proofs.table.ScoreTable.copy.Goals as goal
 
