@@ -10,7 +10,6 @@ use blocks::{BlockStore, PlainStore};
 use std::alloc::Global;
 use std::marker::Model;
 use std::mem;
-use std::process::Abort;
 use std::test::Fail;
 
 // A table of scores in its store.
@@ -105,26 +104,72 @@ impl Held {
     }
 }
 
-// Whether these pairs stand in this order, and there are no others.
-fn compare(rt: &impl Abort, held: &Held, rows: &[(i64, &[u8])]) {
-    assert_eq!(rt; held.table.len(), rows.len());
-    assert!(rt; held.table.at_rank(rows.len()).is_none());
-    assert!(rt; held.table.cursor(rows.len()).is_none());
-    let mut cursor = held.table.cursor(0);
-    for (rank, (score, member)) in rows.iter().enumerate() {
-        assert!(rt; held.is_at(rank, *score, member));
-        assert_eq!(rt; held.rank(member), Some(rank));
-        assert_eq!(rt; held.score(member), Some(*score));
-        cursor = match cursor {
-            Some(at) => {
-                assert_eq!(rt; at.rank(), rank);
-                assert_eq!(rt; held.table.at_rank(rank), Some(at.get()));
-                at.next()
-            }
-            None => panic!(rt; "the walk ends too early"),
-        };
+impl Held {
+    // Whether this pair stands at the rank, by each call that looks it up.
+    fn ranks(&self, rank: usize, score: i64, member: &[u8]) -> bool {
+        self.is_at(rank, score, member)
+            && self.rank(member) == Some(rank)
+            && self.score(member) == Some(score)
     }
-    assert!(rt; cursor.is_none());
+
+    // How many ranks a walk meets in their turn, each with its pair.
+    fn walked(&self) -> usize {
+        let mut count: usize = 0;
+        let mut next = self.table.cursor(0);
+        for rank in 0..=self.table.len() {
+            match next {
+                Some(at) => {
+                    let is_there = at.rank() == rank && self.table.at_rank(rank) == Some(at.get());
+                    count = count.saturating_add(usize::from(is_there));
+                    next = at.next();
+                }
+                None => return count,
+            }
+        }
+        count
+    }
+
+    // Whether there are so many pairs, and none at that rank.
+    fn ends_at(&self, count: usize) -> bool {
+        self.table.len() == count
+            && self.table.at_rank(count).is_none()
+            && self.table.cursor(count).is_none()
+    }
+
+    // Whether these pairs stand in this order, and there are no others.
+    fn stands(&self, rows: &[(i64, &[u8])]) -> bool {
+        for (rank, (score, member)) in rows.iter().enumerate() {
+            if !self.ranks(rank, *score, member) {
+                return false;
+            }
+        }
+        self.ends_at(rows.len()) && self.walked() == rows.len()
+    }
+
+    // Puts pairs in, and tells whether each is new in its turn and there the second time.
+    fn takes(&mut self, rows: &[(i64, &[u8])]) -> Result<bool, Memory> {
+        for (score, member) in rows {
+            if !self.add(*score, member)? || self.set(*score, member)? {
+                return Ok(false);
+            }
+        }
+        Ok(true)
+    }
+
+    // Whether so many members have a lower score than each of these.
+    fn counts(&self, rows: &[(i64, usize)]) -> bool {
+        for (least, count) in rows {
+            if self.table.below(*least) != *count {
+                return false;
+            }
+        }
+        true
+    }
+
+    // Whether no call finds the member.
+    fn lacks(&self, member: &[u8]) -> bool {
+        self.score(member).is_none() && self.rank(member).is_none()
+    }
 }
 
 // Members with the same score stand by their bytes, a prefix first.
@@ -132,7 +177,7 @@ fn compare(rt: &impl Abort, held: &Held, rows: &[(i64, &[u8])]) {
 fn pairs_stand_in_order(rt: HostRuntime) -> Result<(), Fail> {
     score_table_laws();
     let mut held = Held::new(rt.alloc());
-    compare(&rt, &held, &[]);
+    assert!(rt; held.stands(&[]));
     let rows: [(i64, &[u8]); 7] = [
         (3, b"c"),
         (1, b"b"),
@@ -142,10 +187,7 @@ fn pairs_stand_in_order(rt: HostRuntime) -> Result<(), Fail> {
         (1, b"a"),
         (i64::MAX, b"0"),
     ];
-    for (score, member) in rows {
-        assert!(rt; held.add(score, member)?);
-        assert!(rt; !held.set(score, member)?);
-    }
+    assert!(rt; held.takes(&rows)?);
     let ordered: [(i64, &[u8]); 7] = [
         (-5, b"z"),
         (1, b""),
@@ -155,7 +197,7 @@ fn pairs_stand_in_order(rt: HostRuntime) -> Result<(), Fail> {
         (3, b"c"),
         (i64::MAX, b"0"),
     ];
-    compare(&rt, &held, &ordered);
+    assert!(rt; held.stands(&ordered));
     let below = [
         (i64::MIN, 0),
         (-5, 0),
@@ -166,30 +208,45 @@ fn pairs_stand_in_order(rt: HostRuntime) -> Result<(), Fail> {
         (4, 6),
         (i64::MAX, 6),
     ];
-    for (least, count) in below {
-        assert_eq!(rt; held.table.below(least), count);
-    }
+    assert!(rt; held.counts(&below));
     held.release();
     Ok(())
+}
+
+// A member, its new score or none where it is taken out, whether it is new or was there, and the pairs in their order then.
+type Step<'a> = (&'a [u8], Option<i64>, bool, &'a [(i64, &'a [u8])]);
+
+impl Held {
+    // Whether each step answers and leaves what it says.
+    fn goes(&mut self, steps: &[Step<'_>]) -> Result<bool, Memory> {
+        for (member, score, answer, order) in steps {
+            let answered = match score {
+                Some(score) => self.set(*score, member)?,
+                None => self.take_out(member).is_some(),
+            };
+            if answered != *answer || !self.stands(order) {
+                return Ok(false);
+            }
+        }
+        Ok(true)
+    }
 }
 
 // Scores that change, and members that are taken out.
 #[test]
 fn scores_change(rt: HostRuntime) -> Result<(), Fail> {
     let mut held = Held::new(rt.alloc());
-    assert!(rt; held.set(2, b"a")?);
-    assert!(rt; held.set(1, b"b")?);
-    compare(&rt, &held, &[(1, b"b"), (2, b"a")]);
-    assert!(rt; !held.set(0, b"a")?);
-    compare(&rt, &held, &[(0, b"a"), (1, b"b")]);
-    assert!(rt; !held.set(1, b"a")?);
-    compare(&rt, &held, &[(1, b"a"), (1, b"b")]);
-    assert_eq!(rt; held.take_out(b"c"), None);
+    let steps: [Step<'_>; 5] = [
+        (b"a", Some(2), true, &[(2, b"a")]),
+        (b"b", Some(1), true, &[(1, b"b"), (2, b"a")]),
+        (b"a", Some(0), false, &[(0, b"a"), (1, b"b")]),
+        (b"a", Some(1), false, &[(1, b"a"), (1, b"b")]),
+        (b"c", None, false, &[(1, b"a"), (1, b"b")]),
+    ];
+    assert!(rt; held.goes(&steps)?);
     assert_eq!(rt; held.take_out(b"a"), Some(1));
     assert_eq!(rt; held.take_out(b"a"), None);
-    assert_eq!(rt; held.score(b"a"), None);
-    assert_eq!(rt; held.rank(b"a"), None);
-    compare(&rt, &held, &[(1, b"b")]);
+    assert!(rt; held.lacks(b"a") && held.stands(&[(1, b"b")]));
     Ok(())
 }
 
@@ -197,19 +254,16 @@ fn scores_change(rt: HostRuntime) -> Result<(), Fail> {
 #[test]
 fn members_have_item_numbers(rt: HostRuntime) -> Result<(), Fail> {
     let mut held = Held::new(rt.alloc());
-    for (score, member) in [(5, b"a"), (4, b"b"), (3, b"c")] {
-        assert!(rt; held.set(score, member)?);
-    }
+    assert!(rt; held.takes(&[(5, b"a"), (4, b"b"), (3, b"c")])?);
     assert_eq!(rt; held.take_out(b"b"), Some(4));
     assert!(rt; !held.set(9, b"c")?);
-    assert_eq!(rt; held.table.top(), 3);
-    assert_eq!(rt; held.table.table().len(), 2);
+    assert_eq!(rt; (held.table.top(), held.table.table().len()), (3, 2));
     for item in 0..4 {
         held.settle_item(item);
     }
     assert!(rt; held.is_item(0, 5, b"a") && held.is_item(2, 9, b"c"));
     assert!(rt; !held.table.is_entry(1) && !held.table.is_entry(3));
-    compare(&rt, &held, &[(5, b"a"), (9, b"c")]);
+    assert!(rt; held.stands(&[(5, b"a"), (9, b"c")]));
     Ok(())
 }
 
@@ -218,45 +272,80 @@ fn members_have_item_numbers(rt: HostRuntime) -> Result<(), Fail> {
 fn copies_stand_alone(rt: HostRuntime) -> Result<(), Fail> {
     let mut held = Held::new(rt.alloc());
     held.copied(rt.alloc())?;
-    compare(&rt, &held, &[]);
-    for (score, member) in [(5, b"a"), (4, b"b"), (5, b"c")] {
-        assert!(rt; held.set(score, member)?);
-    }
+    assert!(rt; held.stands(&[]));
+    assert!(rt; held.takes(&[(5, b"a"), (4, b"b"), (5, b"c")])?);
     assert_eq!(rt; held.take_out(b"a"), Some(5));
     held.copied(rt.alloc())?;
-    compare(&rt, &held, &[(4, b"b"), (5, b"c")]);
+    assert!(rt; held.stands(&[(4, b"b"), (5, b"c")]));
     assert_eq!(rt; held.table.top(), 2);
     assert!(rt; held.is_item(0, 4, b"b") && held.is_item(1, 5, b"c"));
     Ok(())
+}
+
+impl Held {
+    // Puts a member in, and tells whether a refused call left all and one that is asked again finds it new.
+    fn takes_again(&mut self, score: i64, member: &[u8]) -> Result<bool, Memory> {
+        let count = self.table.len();
+        match self.set(score, member) {
+            Ok(is_new) => Ok(is_new),
+            Err(_) => {
+                let is_left = self.lacks(member) && self.table.len() == count;
+                Ok(self.set(score, member)? && is_left)
+            }
+        }
+    }
+
+    // Puts so many members of one byte in, and tells whether each went as it should.
+    fn fills(&mut self, count: u8) -> Result<bool, Memory> {
+        for n in 0..count {
+            let is_right = self.takes_again(i64::from(n % 7), &[n])?;
+            if !is_right || self.table.len() != n as usize + 1 {
+                return Ok(false);
+            }
+        }
+        Ok(true)
+    }
+
+    // Gives a member that is there another score, and tells whether a refused call left the old one.
+    fn rescores_again(&mut self, old: i64, new: i64, member: &[u8]) -> Result<bool, Memory> {
+        match self.set(new, member) {
+            Ok(is_new) => Ok(!is_new),
+            Err(_) => {
+                let is_left = self.score(member) == Some(old);
+                Ok(!self.set(new, member)? && is_left)
+            }
+        }
+    }
+
+    // How many of these members of one byte are taken out.
+    fn lose(&mut self, from: u8, to: u8) -> usize {
+        let mut count: usize = 0;
+        for n in from..to {
+            let was = self.take_out(&[n]).is_some();
+            count = count.saturating_add(usize::from(was));
+        }
+        count
+    }
+
+    // Whether a table that should shrink begins to, where it is refused once.
+    fn shrinks_again(&mut self) -> Result<bool, Memory> {
+        match self.shrink() {
+            Ok(began) => Ok(began),
+            Err(_) => self.shrink(),
+        }
+    }
 }
 
 // Where memory is refused a call leaves all, and goes through when it is asked again.
 #[test]
 fn a_refusal_leaves_all(rt: HostRuntime) -> Result<(), Fail> {
     let mut held = Held::new(rt.alloc());
-    for n in 0..60u8 {
-        let score = i64::from(n % 7);
-        if held.set(score, &[n]).is_err() {
-            assert_eq!(rt; held.score(&[n]), None);
-            assert_eq!(rt; held.table.len(), n as usize);
-            assert!(rt; held.set(score, &[n])?);
-        }
-        assert_eq!(rt; held.table.len(), n as usize + 1);
-    }
-    if held.set(-1, &[59]).is_err() {
-        assert_eq!(rt; held.score(&[59]), Some(3));
-        assert!(rt; !held.set(-1, &[59])?);
-    }
+    assert!(rt; held.fills(60)?);
+    assert!(rt; held.rescores_again(3, -1, &[59])?);
     assert!(rt; held.is_at(0, -1, &[59]));
-    for n in 2..60u8 {
-        assert!(rt; held.take_out(&[n]).is_some());
-    }
-    let began = match held.shrink() {
-        Ok(began) => began,
-        Err(_) => held.shrink()?,
-    };
-    assert!(rt; began);
-    compare(&rt, &held, &[(0, &[0]), (1, &[1])]);
+    assert_eq!(rt; held.lose(2, 60), 58);
+    assert!(rt; held.shrinks_again()?);
+    assert!(rt; held.stands(&[(0, &[0]), (1, &[1])]));
     Ok(())
 }
 
