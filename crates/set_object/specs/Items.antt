@@ -42,14 +42,16 @@ pub record IsArranged (blocks : Blocks) (m : Members) : Type 0 where
   pub once : IsOnce (listed blocks m)
   pub found : (x : List ℕ) → has (members blocks m) x ≡ true → (at : ℕ) × (member_at blocks m at ≡ Some x)
   pub member : (at : ℕ) (x : List ℕ) → member_at blocks m at ≡ Some x → has (members blocks m) x ≡ true
-  pub apart : (at other : ℕ) (x : List ℕ) → member_at blocks m at ≡ Some x → member_at blocks m other ≡ Some x → at ≡ other
+  pub apart : (at other : ℕ) (x : List ℕ) → member_at blocks m at ≡ Some x → member_at blocks m other ≡ Some x
+      → at ≡ other
   pub below : (at : ℕ) → IsSome (member_at blocks m at) → at < top_of m
 
--- The member at an index of the order stands at this place of the form: at the same index of an intset, at the offset of an entry of
--- a listpack, at the item number of an element of a dictionary.
+-- The member at an index of the order stands at this place of the form: at the same index of an intset, at the offset
+-- of an entry of a listpack, at the item number of an element of a dictionary.
 abbrev pub IsPlace : Blocks → Body → ℕ → ℕ → Type 0
 IsPlace blocks Empty index place = ⊥
-IsPlace blocks (Numbers packed) index place = (place ≡ index) × (index < length (numbers_of (bytes_at blocks packed.at)))
+IsPlace blocks (Numbers packed) index place =
+    (place ≡ index) × (index < length (numbers_of (bytes_at blocks packed.at)))
 IsPlace blocks (Pack packed) index place = IsAt (bytes_at blocks packed.at) index place
 IsPlace blocks (Table t) index place = IsSome (item t place) × (count_by is_some (take place t.items) ≡ index)
 

@@ -11,10 +11,13 @@ use Rattle.set_object.specs.Relocation.{marks}
 pub record MembersLaws : Type 0 where
   -- where those are the same, so are its members and its tables, and it is sound
   pub own : (a b : Blocks) (m : Members) → ((r : BlockRef) → IsIn r (refs m) → b r ≡ a r) → members b m ≡ members a m
-  pub sound : (a b : Blocks) (m : Members) → ((r : BlockRef) → IsIn r (refs m) → b r ≡ a r) → IsMembers a m → IsMembers b m × (tables b m ≡ tables a m)
+  pub sound : (a b : Blocks) (m : Members) → ((r : BlockRef) → IsIn r (refs m) → b r ≡ a r) → IsMembers a m
+      → IsMembers b m × (tables b m ≡ tables a m)
   -- what others change among their blocks leaves its members, and it is sound
-  pub others : (a b : Blocks) (m : Members) (old new : List BlockRef) → Owned (refs m ++ old) a → Changes a b old new → members b m ≡ members a m
-  pub stays : (a b : Blocks) (m : Members) (old new : List BlockRef) → Owned (refs m ++ old) a → Changes a b old new → IsMembers a m → IsMembers b m
+  pub others : (a b : Blocks) (m : Members) (old new : List BlockRef) → Owned (refs m ++ old) a → Changes a b old new
+      → members b m ≡ members a m
+  pub stays : (a b : Blocks) (m : Members) (old new : List BlockRef) → Owned (refs m ++ old) a → Changes a b old new
+      → IsMembers a m → IsMembers b m
   -- each of its references has a mark
   pub marked : (m : Members) → length (marks m) ≡ length (refs m)
   -- each member stands once in the set's own order, and has exactly one item number

@@ -73,7 +73,8 @@ form_of_body (Table t) = Hashtable
 abbrev pub form_of : Members → Form
 form_of m = form_of_body m.body
 
--- The form after a removal that left so many members: a packed set without a member is as a new one, and else the form stays.
+-- The form after a removal that left so many members: a packed set without a member is as a new one, and else the form
+-- stays.
 abbrev pub form_left : Form → ℕ → Form
 form_left Hashtable n = Hashtable
 form_left old zero = Intset

@@ -19,7 +19,8 @@ marks_in (Numbers packed) = 0 ∷ []
 marks_in (Pack packed) = 0 ∷ []
 marks_in (Table t) = items_from 0 t.items
 
--- The mark of each reference, in the same order: 0 for the block of a packed form, and for that of a member its item number.
+-- The mark of each reference, in the same order: 0 for the block of a packed form, and for that of a member its item
+-- number.
 abbrev pub marks : Members → List ℕ
 marks m = marks_in m.body
 
@@ -33,8 +34,8 @@ end_in (Table t) = t.top
 abbrev pub marks_end : Members → ℕ
 marks_end m = end_in m.body
 
--- Blocks of members moved: the dictionary means what it meant, an element stands at each item number at which one stood, and these
--- item numbers stay as they are.
+-- Blocks of members moved: the dictionary means what it meant, an element stands at each item number at which one
+-- stood, and these item numbers stay as they are.
 pub record IsSettled (before after : Blocks) (old new : DictTable (Unit {0})) (stays : ℕ → Type 0) : Type 0 where
   pub keyed : Keyed after new
   pub content_is : content after new ≡ content before old

@@ -6,7 +6,8 @@ use Rattle.collection_walk.specs.Places.{upto, HavePlaces}
 use Rattle.set_object.specs.declared.members.Body.{Body}
 use Rattle.set_object.specs.declared.members.Body.TheVariants.{Empty, Numbers, Pack, Table}
 
--- The items of a move at a cursor, and the next cursor: those of a move over the tables, and in a packed form all and 0.
+-- The items of a move at a cursor, and the next cursor: those of a move over the tables, and in a packed form all and
+-- 0.
 abbrev pub moved : Body → ℕ → List ℕ × ℕ
 moved Empty cursor = ([], 0)
 moved (Numbers packed) cursor = (upto packed.len, 0)

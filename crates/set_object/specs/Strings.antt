@@ -1,5 +1,5 @@
--- Finite sets of byte strings, and which form such a set has. (Redis command reference, data type Sets: an unordered collection
--- of unique strings.)
+-- Finite sets of byte strings, and which form such a set has. (Redis command reference, data type Sets: an unordered
+-- collection of unique strings.)
 use Rattle.std.specs.Prelude.{◌≡◌, ℕ, Bool, true, ◌&&◌, List, [], ◌∷◌, length, map, max, is_some}
 use Rattle.std.specs.Ordering.{nat_cmp}
 use Rattle.std.specs.Cmp.Lexicographic.{slice_cmp}
