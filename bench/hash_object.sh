@@ -9,7 +9,7 @@ room=$(mktemp -d)
 trap 'rm -rf "$room"' EXIT
 git init -q "$room"
 mkdir -p "$room/crates"
-for crate in blocks class_heap digests int_text listpack object_codec pack_pairs quicklist rehash_dict rev_cursor scan_cursor hash_object; do
+for crate in blocks class_heap collection_walk digests int_text listpack object_codec pack_pairs quicklist rehash_dict rev_cursor scan_cursor hash_object; do
   mkdir "$room/crates/$crate"
   for part in src specs proofs; do
     [ ! -d "crates/$crate/$part" ] || cp -r "crates/$crate/$part" "$room/crates/$crate"

@@ -10,7 +10,7 @@ room=$(mktemp -d)
 trap 'rm -rf "$room"' EXIT
 git init -q "$room"
 mkdir -p "$room/crates"
-for crate in blocks class_heap digests int_text listpack object_codec quicklist pack_pairs rehash_dict rev_cursor scan_cursor score_list score_table zset_object; do
+for crate in blocks class_heap collection_walk digests int_text listpack object_codec quicklist pack_pairs rehash_dict rev_cursor scan_cursor score_list score_table zset_object; do
   mkdir "$room/crates/$crate"
   for part in src specs proofs; do
     [ ! -d "crates/$crate/$part" ] || cp -r "crates/$crate/$part" "$room/crates/$crate"
