@@ -176,3 +176,55 @@ fn a_member_is_named_by_another_block(rt: HostRuntime) -> Result<(), Fail> {
     assert_eq!(rt; scores.at_rank(1), None);
     Ok(())
 }
+
+// No sorted vector of the pairs could take these: each score falls into the middle.
+#[test]
+fn each_score_falls_into_the_middle(rt: HostRuntime) -> Result<(), Fail> {
+    let mut held = Held::new(rt.alloc())?;
+    for n in 0..600_000u32 {
+        let from_the_end = i64::from(n);
+        assert!(rt; held.insert(1 + from_the_end)?);
+        assert!(rt; held.insert(1_200_000 - from_the_end)?);
+    }
+    assert_eq!(rt; held.scores.len(), 1_200_000);
+    assert_eq!(rt; score_at(&held, 599_999), Some(600_000));
+    assert_eq!(rt; held.scores.first_in_range(600_000), 599_999);
+    Ok(())
+}
+
+impl Held {
+    // Whether the scores are just those from one up to below another, in their order.
+    fn spans(&self, from: i64, to: i64) -> bool {
+        let mut next = from;
+        for rank in 0..self.scores.len() {
+            if score_at(self, rank) != Some(next) {
+                return false;
+            }
+            next = next.wrapping_add(1);
+        }
+        next == to
+    }
+
+    // Puts the next lower score in front of those up to below an end, and tells whether a refused call left them.
+    fn takes_again(&mut self, score: i64, end: i64) -> Result<bool, Memory> {
+        match self.insert(score) {
+            Ok(is_new) => Ok(is_new),
+            Err(_) => {
+                let is_left = self.spans(score.wrapping_add(1), end);
+                Ok(self.insert(score)? && is_left)
+            }
+        }
+    }
+}
+
+// Where memory is refused, an insert leaves the list, and goes through when it is asked again.
+#[test]
+fn a_refusal_leaves_the_list(rt: HostRuntime) -> Result<(), Fail> {
+    let mut held = Held::new(rt.alloc())?;
+    for n in 0..40u32 {
+        let score = 40 - i64::from(n);
+        assert!(rt; held.takes_again(score, 41)?);
+        assert!(rt; held.spans(score, 41));
+    }
+    Ok(())
+}
