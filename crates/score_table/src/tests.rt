@@ -432,3 +432,59 @@ fn edits_agree_with_plain_scores(rt: HostRuntime) {
         }
     }
 }
+
+// The member m000 to m999 of a number below 1,000.
+fn numbered(n: u32) -> [u8; 4] {
+    [
+        b'm',
+        b'0' + (n / 100 % 10) as u8,
+        b'0' + (n / 10 % 10) as u8,
+        b'0' + (n % 10) as u8,
+    ]
+}
+
+impl Held {
+    // Puts m000 to m999 in, each with its last digit as its score, and tells whether each is new.
+    fn takes_thousand(&mut self) -> Result<bool, Memory> {
+        for n in 0..1000u32 {
+            if !self.set(i64::from(n % 10), &numbered(n))? {
+                return Ok(false);
+            }
+        }
+        Ok(true)
+    }
+
+    // Whether each of them stands behind those of lower digits, and among those of its own by its bytes.
+    fn ranks_thousand(&self) -> bool {
+        for n in 0..1000u32 {
+            let rank = (n % 10 * 100 + n / 10) as usize;
+            if !self.ranks(rank, i64::from(n % 10), &numbered(n)) {
+                return false;
+            }
+        }
+        self.ends_at(1000) && self.walked() == 1000
+    }
+
+    // How many of those with the last digit 1 are taken out.
+    fn lose_ones(&mut self) -> usize {
+        let mut count: usize = 0;
+        for n in 0..100u32 {
+            let was = self.take_out(&numbered(n * 10 + 1)) == Some(1);
+            count = count.saturating_add(usize::from(was));
+        }
+        count
+    }
+}
+
+#[test]
+fn a_thousand_members_have_ten_scores(rt: HostRuntime) -> Result<(), Fail> {
+    let mut held = Held::new(rt.alloc());
+    assert!(rt; held.takes_thousand()? && held.ranks_thousand());
+    assert_eq!(rt; held.rank(b"m500"), Some(50));
+    assert_eq!(rt; held.rank(b"m001"), Some(100));
+    assert_eq!(rt; held.rank(b"m999"), Some(999));
+    assert_eq!(rt; (held.table.below(3), held.table.below(5)), (300, 500));
+    assert_eq!(rt; held.lose_ones(), 100);
+    assert_eq!(rt; held.rank(b"m002"), Some(100));
+    Ok(())
+}
