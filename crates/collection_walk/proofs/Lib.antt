@@ -7,3 +7,4 @@ pub mod Named
 pub mod Renamed
 pub mod Ending
 pub mod Replaced
+pub mod Counted

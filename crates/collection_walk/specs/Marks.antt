@@ -1,5 +1,5 @@
 -- The marks of a collection's blocks, and which of them a bounded call passes.
-use Rattle.std.specs.Prelude.{◌≡◌, ℕ, suc, ◌+◌, ◌<◌, ◌≤◌, Bool, true, false, ◌&&◌, nat_le, nat_lt, List, [], ◌∷◌, count_by, Option, Some, None, IfSome, slice_get}
+use Rattle.std.specs.Prelude.{◌≡◌, ℕ, zero, suc, ◌+◌, ◌<◌, ◌≤◌, Bool, true, false, ◌&&◌, nat_le, nat_lt, List, [], ◌∷◌, ◌++◌, count_by, Option, Some, None, IfSome, slice_get}
 use Rattle.blocks.specs.declared.BlockRef.{BlockRef}
 use Rattle.blocks.specs.declared.Moved.{Moved}
 use Rattle.blocks.specs.Slabs.{Heap, wants}
@@ -11,6 +11,16 @@ module _ {V : Type 0} where
   items_from n [] = []
   items_from n (None ∷ items) = items_from (suc n) items
   items_from n (Some e ∷ items) = n ∷ items_from (suc n) items
+
+  -- an item number where it is vacant
+  abbrev pub vacant_mark : ℕ → Option (Element V) → List ℕ
+  vacant_mark n None = n ∷ []
+  vacant_mark n (Some e) = []
+
+  -- the vacant item numbers below a number
+  abbrev pub vacant_below : Table V → ℕ → List ℕ
+  vacant_below t zero = []
+  vacant_below t (suc n) = vacant_mark n (item t n) ++ vacant_below t n
 
   -- the blocks of the keys of these item numbers want no move
   abbrev pub IsCalm : Heap → Table V → ℕ → ℕ → Type 0

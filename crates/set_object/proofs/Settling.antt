@@ -12,10 +12,10 @@ use Rattle.rehash_dict.proofs.MapOf.{map_of-renames, key_refs-owned}
 use Rattle.set_object.specs.declared.members.Packed.{Packed}
 use Rattle.set_object.specs.declared.members.Body.TheVariants.{Numbers, Pack}
 use Rattle.set_object.specs.Members.{IsBody, IsNumbers, IsMemberPack, members_of}
-use Rattle.set_object.specs.Relocation.{IsSettled}
+use Rattle.set_object.specs.Relocation.{IsRelocatedTable}
 use Rattle.set_object.proofs.Hashing.{Dict}
 
-pub settled_same : (m : Blocks) (t : Dict) (stays : ℕ → Type 0) → Keyed m t → IsSettled m m t t stays
+pub settled_same : (m : Blocks) (t : Dict) (stays : ℕ → Type 0) → Keyed m t → IsRelocatedTable m m t t stays
 settled_same m t stays k = record {
   keyed = k;
   content_is = refl;
@@ -30,7 +30,7 @@ settled_same m t stays k = record {
 -- ---- one member's block
 
 module _ (m n : Blocks) (old new : Dict) (at : ℕ) (key ref : BlockRef) (k : Keyed m old) (h : Holds old at key tt) (same : n ref ≡ m key) (p : Changes m n (key ∷ []) (ref ∷ [])) (r : Renames old new at ref) where
-  pub item_settled : IsSettled m n old new (λ i. i ≢ at)
+  pub item_settled : IsRelocatedTable m n old new (λ i. i ≢ at)
   item_settled =
       let moved = moved_keyed m n old new at key ref tt k h same p r in
       record {
@@ -46,7 +46,7 @@ module _ (m n : Blocks) (old new : Dict) (at : ℕ) (key ref : BlockRef) (k : Ke
 
 -- ---- one after the other
 
-pub settled_more : (a b c : Blocks) (t u v : Dict) (start k : ℕ) → start ≤ k → IsSettled a b t u (λ i. (i < start) ⊎ (k ≤ i)) → IsSettled b c u v (λ i. i ≢ k) → IsSettled a c t v (λ i. (i < start) ⊎ (k + 1 ≤ i))
+pub settled_more : (a b c : Blocks) (t u v : Dict) (start k : ℕ) → start ≤ k → IsRelocatedTable a b t u (λ i. (i < start) ⊎ (k ≤ i)) → IsRelocatedTable b c u v (λ i. i ≢ k) → IsRelocatedTable a c t v (λ i. (i < start) ⊎ (k + 1 ≤ i))
 settled_more a b c t u v start k low p q = record {
   keyed = q.keyed;
   content_is = q.content_is ∙ p.content_is;
@@ -80,7 +80,7 @@ module _ (m n : Blocks) (limits : Limits) (seed : ℕ) (old new : Packed) (same 
   pub pack_mean : members_of n (Pack new) ≡ members_of m (Pack old)
   pack_mean = ap (λ o. members_of (λ _. o) (Pack old)) same
 
-pub settled_weaker : (a b : Blocks) (t u : Dict) (stays fewer : ℕ → Type 0) → ((i : ℕ) → fewer i → stays i) → IsSettled a b t u stays → IsSettled a b t u fewer
+pub settled_weaker : (a b : Blocks) (t u : Dict) (stays fewer : ℕ → Type 0) → ((i : ℕ) → fewer i → stays i) → IsRelocatedTable a b t u stays → IsRelocatedTable a b t u fewer
 settled_weaker a b t u stays fewer weaker p = record {
   keyed = p.keyed;
   content_is = p.content_is;

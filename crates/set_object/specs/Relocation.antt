@@ -1,5 +1,5 @@
 -- Bounded calls that move the blocks of a set: the mark of each block, and what such a call passes and leaves.
-use Rattle.std.specs.Prelude.{◌≡◌, ℕ, ◌+◌, ◌-◌, ◌<◌, ◌≤◌, true, List, [], ◌∷◌, count_by, is_some, Some, IfSome, unwrap_or, slice_get}
+use Rattle.std.specs.Prelude.{◌≡◌, ℕ, ◌<◌, ◌≤◌, true, List, [], ◌∷◌, is_some, Some, slice_get}
 use Rattle.blocks.specs.declared.BlockRef.{BlockRef}
 use Rattle.blocks.specs.declared.Moved.{Moved}
 use Rattle.blocks.specs.Blocks.{Blocks, Changes}
@@ -7,7 +7,7 @@ use Rattle.blocks.specs.Slabs.{Heap, wants}
 use Rattle.rehash_dict.specs.Table.{Table as DictTable, Element, item}
 use Rattle.rehash_dict.specs.Keyed.{Keyed, key_tables}
 use Rattle.rehash_dict.specs.MapOf.{content, key_refs}
-use Rattle.collection_walk.specs.Marks.{items_from, is_passed, ArePassed}
+use Rattle.collection_walk.specs.Marks.{items_from, vacant_below, is_passed, ArePassed, IsCounted}
 use Rattle.set_object.specs.declared.members.Body.{Body}
 use Rattle.set_object.specs.declared.members.Body.TheVariants.{Empty, Numbers, Pack, Table}
 use Rattle.set_object.specs.declared.members.Members.{Members}
@@ -34,9 +34,19 @@ end_in (Table t) = t.top
 abbrev pub marks_end : Members → ℕ
 marks_end m = end_in m.body
 
+abbrev pub vacant_in : Body → List ℕ
+vacant_in Empty = []
+vacant_in (Numbers packed) = []
+vacant_in (Pack packed) = []
+vacant_in (Table t) = vacant_below t t.top
+
+-- the vacant item numbers
+abbrev pub vacant_marks : Members → List ℕ
+vacant_marks m = vacant_in m.body
+
 -- Blocks of members moved: the dictionary means what it meant, an element stands at each item number at which one
 -- stood, and these item numbers stay as they are.
-pub record IsSettled (before after : Blocks) (old new : DictTable (Unit {0})) (stays : ℕ → Type 0) : Type 0 where
+pub record IsRelocatedTable (before after : Blocks) (old new : DictTable (Unit {0})) (stays : ℕ → Type 0) : Type 0 where
   pub keyed : Keyed after new
   pub content_is : content after new ≡ content before old
   pub tables_are : key_tables after new ≡ key_tables before old
@@ -75,15 +85,8 @@ pub record IsRelocated (before after : Blocks) (old new : Members) : Type 0 wher
   pub changes : Changes before after (refs old) (refs new)
   pub settings : KeepsSettings old new
 
--- The answer says what was passed: no more than there was room for, and where some is left, all of that but 17 at most.
-pub record IsCounted (marks : List ℕ) (end from room : ℕ) (answer : Moved) : Type 0 where
-  pub blocks : count_by (is_passed from answer.next) marks ≤ answer.used
-  pub used : answer.used ≡ unwrap_or answer.next end - from
-  pub within : answer.used ≤ room
-  pub on : IfSome answer.next (λ next. (from < next) × (next < end) × (room ≤ answer.used + 17))
-
 -- A part of the blocks was passed.
 pub record PassesPart (heap : Heap) (old new : Members) (from room : ℕ) (answer : Moved) : Type 0 where
   pub same_marks : marks new ≡ marks old
   pub passed : ArePassed heap (is_passed from answer.next) (marks new) (refs old) (refs new)
-  pub counted : IsCounted (marks new) (marks_end new) from room answer
+  pub counted : IsCounted (marks old) (vacant_marks old) (marks_end old) from room answer

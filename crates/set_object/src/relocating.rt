@@ -4,7 +4,7 @@ ghost use Rattle.std.specs.Prelude.{◌≡◌, ◌≢◌, ◌+◌, ◌-◌, ◌<
 ghost use Rattle.blocks.specs.Slabs.{wants, Calmer};
 ghost use Rattle.rehash_dict.specs.Keyed.{Keyed};
 ghost use Rattle.set_object.specs.Members.{IsMembers, refs};
-ghost use Rattle.set_object.specs.Relocation.{IsRelocated, PassesPart, IsSettled, WantsMove, ItemWaits, marks, marks_end};
+ghost use Rattle.set_object.specs.Relocation.{IsRelocated, PassesPart, IsRelocatedTable, WantsMove, ItemWaits, marks, marks_end};
 ghost use Rattle.collection_walk.specs.Marks.{ArePassed, IsCalm, is_within};
 
 use crate::Members;
@@ -16,7 +16,7 @@ use rehash_dict::Dict;
 // Moves the block of the member of an item number where it wants that.
 fn settle_item<B: BlockStore>(store: &mut B, table: &mut Dict<()>, at: usize)
     requires { Keyed (B.blocks store.old) table.old }
-    ensures settled { IsSettled (B.blocks store.old) (B.blocks store.new) table.old table.new (λ i. i ≢ at) }
+    ensures settled { IsRelocatedTable (B.blocks store.old) (B.blocks store.new) table.old table.new (λ i. i ≢ at) }
     ensures calm { IsCalm (B.heap store.new) table.new at (at + 1) }
     ensures calmer { Calmer (B.heap store.old) (B.heap store.new) }
 {
@@ -30,7 +30,7 @@ fn settle_item<B: BlockStore>(store: &mut B, table: &mut Dict<()>, at: usize)
 fn settle_items<B: BlockStore>(store: &mut B, table: &mut Dict<()>, part: Part)
     requires keyed { Keyed (B.blocks store.old) table.old }
     requires order { part.start ≤ part.end }
-    ensures settled { IsSettled (B.blocks store.old) (B.blocks store.new) table.old table.new (λ i. (i < part.start) ⊎ (part.end ≤ i)) }
+    ensures settled { IsRelocatedTable (B.blocks store.old) (B.blocks store.new) table.old table.new (λ i. (i < part.start) ⊎ (part.end ≤ i)) }
     ensures calm { IsCalm (B.heap store.new) table.new part.start part.end }
     ensures calmer { Calmer (B.heap store.old) (B.heap store.new) }
 {
