@@ -1,11 +1,11 @@
 // Sets whose blocks move.
 
-ghost use Rattle.std.specs.Prelude.{◌≡◌, ◌≢◌, ◌+◌, ◌-◌, ◌<◌, ◌≤◌, ◌⊎◌, ◌&&◌, IfSome, IfNone, IsSome, Some, None, true, false, MatchBool};
+ghost use Rattle.std.specs.Prelude.{◌≡◌, ◌≢◌, ◌+◌, ◌-◌, ◌^◌, ◌<◌, ◌≤◌, ◌⊎◌, ◌&&◌, min, length, IfSome, IfNone, IsSome, Some, None, true, false, MatchBool};
 ghost use Rattle.blocks.specs.Slabs.{wants, Calmer};
 ghost use Rattle.rehash_dict.specs.Keyed.{Keyed};
 ghost use Rattle.set_object.specs.Members.{IsMembers, refs};
-ghost use Rattle.set_object.specs.Relocation.{IsRelocated, PassesPart, IsRelocatedTable, WantsMove, ItemWaits, marks, marks_end};
-ghost use Rattle.collection_walk.specs.Marks.{ArePassed, IsCalm, is_within};
+ghost use Rattle.set_object.specs.Relocation.{IsRelocated, PassesPart, IsRelocatedTable, WantsMove, ItemWaits, marks, marks_end, vacant_marks};
+ghost use Rattle.collection_walk.specs.Marks.{ArePassed, IsCalm, is_within, items_from, vacant_below};
 
 use crate::Members;
 use crate::members::{Body, Packed};
@@ -58,6 +58,14 @@ fn packed_waits<B: BlockStore>(store: &B, packed: Packed, part: Part) -> bool
     ensures { result ≡ (is_within part.start part.end 0 && wants (B.heap store.now) packed.at) }
 {
     part.start == 0 && part.end > 0 && store.wants_move(packed.at)
+}
+
+// How many item numbers a dictionary has given, or the greatest number where they are more: each is that of a member's block, or
+// vacant.
+fn table_units(table: &Dict<()>) -> u32
+    ensures { result ≡ min (length (items_from 0 table.now.items) + length (vacant_below table.now table.now.top)) (2 ^ 32 - 1) }
+{
+    (table.top() as u128).min(u32::MAX as u128) as u32
 }
 
 impl Members {
@@ -137,5 +145,17 @@ impl Members {
             return None;
         }
         Some(answer_for(part, count))
+    }
+    /// How many blocks and vacant item numbers there are: what calls of `relocate_part` pass in all that begin at the mark 0 and go on
+    /// to the end. The greatest number stands for all above it too. It looks at no block.
+    pub fn units(&self) -> u32
+        ensures { result ≡ min (length (marks self.now) + length (vacant_marks self.now)) (2 ^ 32 - 1) }
+    {
+        match &self.body {
+            Body::Empty => 0,
+            Body::Numbers(_) => 1,
+            Body::Pack(_) => 1,
+            Body::Table(table) => table_units(table),
+        }
     }
 }

@@ -150,6 +150,7 @@ fn a_pass_leaves_the_members(rt: HostRuntime) -> Result<(), Fail> {
     assert_eq!(rt; (both.alike(), both.stored.set.len()), (256, 128));
     assert_eq!(rt; both.stored.slabs(), 4);
     assert_eq!(rt; both.stored.pass(), Some(256));
+    assert_eq!(rt; both.stored.set.units(), 256);
     assert_eq!(rt; both.stored.passed(), Some(32));
     assert_eq!(rt; (both.alike(), both.stored.set.len()), (256, 128));
     assert_eq!(rt; both.stored.slabs(), 2);
