@@ -14,6 +14,8 @@ mod relocating;
 mod removing;
 mod scanning;
 #[cfg(test)]
+mod scarce;
+#[cfg(test)]
 mod tests;
 
 pub use blocks::{Memory, Moved};

@@ -8,8 +8,8 @@ ghost use Rattle.set_object.specs.Members.{IsMembers};
 
 mod slabs;
 
+use crate::scarce::Scarce;
 use crate::{Members, Memory, Moved, members_laws};
-use blocks::PlainStore;
 use itoa::Buffer;
 use listpack::Element;
 use object_codec::{Form, Limits};
@@ -22,7 +22,7 @@ use std::test::Fail;
 // A set in its store.
 #[derive(Drop)]
 struct Held {
-    store: PlainStore,
+    store: Scarce,
     set: Members,
 }
 
@@ -35,7 +35,7 @@ impl Model for Held {
 
     ghost view = { λ held. 0 };
 
-    ghost invariant = { λ held. IsMembers (plain_blocks held.store) held.set };
+    ghost invariant = { λ held. IsMembers (plain_blocks held.store.plain) held.set };
 }
 
 fn limits(set_intset: u32, set_entries: u32, set_value: u32) -> Limits
@@ -56,8 +56,8 @@ fn limits(set_intset: u32, set_entries: u32, set_value: u32) -> Limits
 }
 
 // How many members of a set a walk meets, each of which it has.
-fn walked(set: &Members, store: &PlainStore) -> usize
-    requires { IsMembers (plain_blocks store.now) set.now }
+fn walked(set: &Members, store: &Scarce) -> usize
+    requires { IsMembers (plain_blocks store.now.plain) set.now }
 {
     let mut count: usize = 0;
     let mut next = set.first(store);
@@ -82,7 +82,7 @@ impl Held {
         requires { AreInRange limits }
     {
         Held {
-            store: PlainStore::new(alloc),
+            store: Scarce::new(alloc),
             set: Members::new(alloc, limits, 7),
         }
     }
@@ -508,6 +508,87 @@ fn copies_stand_alone(rt: HostRuntime) -> Result<(), Fail> {
             [held.count_numbers(0, 20), held.walked()],
             [count as usize; 2]
         );
+    }
+    Ok(())
+}
+
+// A call that can want memory.
+#[derive(Clone, Copy)]
+enum Call {
+    Add(&'static [u8]),
+    Remove(&'static [u8]),
+    Copy,
+}
+
+impl Held {
+    // Whether the set has the numbers below one and no other member, in this form.
+    fn is_whole(&self, count: u32, form: Form) -> bool {
+        let there = [self.count_numbers(0, count), self.set.len(), self.walked()];
+        self.set.form() == form && there == [count as usize; 3]
+    }
+
+    // Whether a copy, which takes the place of the set, has its form and as many members.
+    fn is_copied(&mut self) -> Result<bool, Memory> {
+        let (form, count) = (self.set.form(), self.set.len());
+        self.copied()?;
+        Ok(self.set.form() == form && self.walked() == count)
+    }
+
+    fn call(&mut self, call: Call) -> Result<bool, Memory> {
+        match call {
+            Call::Add(member) => self.add(member),
+            Call::Remove(member) => self.remove(member),
+            Call::Copy => self.is_copied(),
+        }
+    }
+
+    // How many placings a call takes on a set of the numbers below one, which is whole each time that the store refuses the next one.
+    fn placings(&mut self, count: u32, call: Call) -> Option<usize> {
+        let form = self.set.form();
+        for left in 0..64usize {
+            self.store.left = left;
+            let answer = self.call(call);
+            self.store.left = usize::MAX;
+            if let Ok(is_right) = answer {
+                return if is_right { Some(left) } else { None };
+            }
+            if !self.is_whole(count, form) {
+                return None;
+            }
+        }
+        None
+    }
+}
+
+// Calls by the number of their placings, each of which is refused in its turn: a packed form takes one, a conversion to a dictionary
+// one for each member and one for the new one, and a dictionary one. The answer is whether the member is new or was there.
+#[test]
+fn refused_calls_leave_all(rt: HostRuntime) -> Result<(), Fail> {
+    let rows = [
+        (0, Call::Add(b"9".as_slice()), 1),
+        (0, Call::Add(b"x"), 1),
+        (0, Call::Add(&[b'x'; 65]), 1),
+        (1, Call::Add(b"9"), 1),
+        (2, Call::Add(b"9"), 1),
+        (2, Call::Add(b"x"), 1),
+        (2, Call::Add(&[b'x'; 65]), 3),
+        (3, Call::Add(b"x"), 1),
+        (3, Call::Add(&[b'x'; 65]), 4),
+        (4, Call::Add(b"9"), 5),
+        (5, Call::Add(b"9"), 1),
+        (1, Call::Remove(b"0"), 0),
+        (2, Call::Remove(b"0"), 1),
+        (3, Call::Remove(b"0"), 1),
+        (5, Call::Remove(b"0"), 0),
+        (0, Call::Copy, 0),
+        (2, Call::Copy, 1),
+        (3, Call::Copy, 1),
+        (5, Call::Copy, 5),
+    ];
+    for (count, call, placings) in rows {
+        let mut held = Held::new(rt.alloc(), limits(2, 4, 64));
+        held.add_numbers(0, count)?;
+        assert_eq!(rt; held.placings(count, call), Some(placings));
     }
     Ok(())
 }

@@ -4,4 +4,4 @@ use Rattle.set_object.specs.Items.{IsCursor}
 use Rattle.set_object.proofs.tests.walked.Given as goal
 
 abbrev pub invariant-loop : goal.invariant-loop
-invariant-loop l = IfSome l.next (λ cursor. IsCursor (plain_blocks l.store) l.set cursor)
+invariant-loop l = IfSome l.next (λ cursor. IsCursor (plain_blocks l.store.plain) l.set cursor)

@@ -8,9 +8,9 @@ use Rattle.set_object.proofs.tests.Held.copied.Goals as goal
 
 pub invariant_of-self-2 : goal.invariant_of-self-2
 invariant_of-self-2 c =
-    let m = plain_blocks c.self.inside.store in
-    let mid = plain_blocks c.copy.new.store in
-    let n = plain_blocks c.release.new.store in
+    let m = plain_blocks c.self.inside.store.plain in
+    let mid = plain_blocks c.copy.new.store.plain in
+    let n = plain_blocks c.release.new.store.plain in
     let old = c.self.inside.set in
     let copy = c.in_ok-copy.copy in
     let released : Changes mid n (refs old) [] = subst (λ s. Changes mid n (refs s) []) c.replace.ensures.value c.release.ensures.changes in
