@@ -6,6 +6,7 @@ use Rattle.blocks.specs.Blocks.{ref_eq, Blocks, with_block, live, times, IsIn, I
 use Rattle.blocks.proofs.Refs.{ref_eq-refl, ref_eq-sym, cases_ref, with_block-same, with_block-other}
 use Rattle.blocks.proofs.Times.{times-append}
 
+-- 1 where the test holds, else 0
 abbrev pub one_if : Bool → ℕ
 one_if b = cond b 1 0
 
@@ -25,18 +26,23 @@ cases_live m r = by_option (m r)
     by_option None = inl (refl, refl)
     by_option (Some x) = inr (refl, refl)
 
+-- a reference without a block has the live count 0
 pub live-None : (m : Blocks) (r : BlockRef) → m r ≡ None → live m r ≡ 0
 live-None m r h = ap (λ o. cond (is_some o) 1 0) h
 
+-- a reference with a block has the live count 1
 pub live-Some : (m : Blocks) (r : BlockRef) → IsSome (m r) → live m r ≡ 1
 live-Some m r h = cond-true _ _ _ h
 
+-- no reference is live more than once
 pub live-once : (m : Blocks) (r : BlockRef) → live m r ≤ 1
 live-once m r = elim (cases_live m r) [ inl d ↦ omega (arith, d.0) | inr d ↦ omega (arith, d.0) ]
 
+-- a reference whose live count is above 0 has a block
 pub live-is : (m : Blocks) (r : BlockRef) → 0 < live m r → IsSome (m r)
 live-is m r h = elim (cases_live m r) [ inl d ↦ absurd (omega (arith, d.0)) | inr d ↦ d.1 ]
 
+-- a reference whose live count is 0 has no block
 pub dead-is : (m : Blocks) (r : BlockRef) → live m r ≡ 0 → m r ≡ None
 dead-is m r h = elim (cases_live m r) [ inl d ↦ d.1 | inr d ↦ absurd (omega (arith, d.0)) ]
 
@@ -107,6 +113,7 @@ pub record Counts (before after : Blocks) (old new : List BlockRef) : Type 0 whe
   pub balance : (r : BlockRef) → live after r + times r old ≡ live before r + times r new
   pub kept : (r : BlockRef) → IsOut r old → IsOut r new → after r ≡ before r
 
+-- a store that stays counts from one list to another in which each reference stands as often
 pub Counts-same : (m : Blocks) (old new : List BlockRef) → ((r : BlockRef) → times r new ≡ times r old) → Counts m m old new
 Counts-same m old new same = record { balance = λ r. omega (arith, same r); kept = λ r a b. refl }
 
@@ -141,6 +148,7 @@ Counts-ended m after at old new was is less =
       kept = λ r a b. with_block-other m at r None (other_than r at (omega (arith, less r, a)));
     })
 
+-- the bytes of a block that is there
 some_of : (o : Option (List ℕ)) → IsSome o → (bytes : List ℕ) × (o ≡ Some bytes)
 some_of None h = cc
 some_of (Some bytes) h = (bytes, refl)
