@@ -24,23 +24,29 @@ use Rattle.class_heap.specs.Placing.{takes}
 
 -- ---- the same entries, in a list that may be longer
 
+-- each number has the same entry in both lists, and a number beyond the end of one has nothing
 abbrev pub SameEntries : List Entry → List Entry → Type 0
 SameEntries old new = (n : ℕ) → entry_at new n ≡ entry_at old n
 
+-- lists with the same entries have the same blocks
 pub blocks_same : (old new : List Entry) → SameEntries old new → blocks_of new ≡ blocks_of old
 blocks_same old new same = λ i r. block_in (same r.slab i) r.slot
 
+-- lists with the same entries have the same slab at each number
 pub slab_same : (passing : Bool) (old new : List Entry) → SameEntries old new → (n : ℕ) → slab_at (heap_of passing new) n ≡ slab_at (heap_of passing old) n
 slab_same passing old new same n = slab_read passing new n ∙ (ap use_in (same n) ∙ sym (slab_read passing old n))
 
+-- lists with the same entries have as many waiting blocks of each class
 pub waiting_same : (passing : Bool) (old new : List Entry) → SameEntries old new → (class : ℕ) → waiting_of (heap_of passing new) class ≡ waiting_of (heap_of passing old) class
 waiting_same passing old new same class = sum_same (waiting_in class) refl (map use_in old) (map use_in new) (slab_same passing old new same)
 
+-- lists with the same entries have as many free places in the kept slabs of each class
 pub spare_same : (passing : Bool) (old new : List Entry) → SameEntries old new → (class : ℕ) → spare_of (heap_of passing new) class ≡ spare_of (heap_of passing old) class
 spare_same passing old new same class = sum_same (spare_in class) refl (map use_in old) (map use_in new) (slab_same passing old new same)
 
 -- ---- labels
 
+-- 1 where the test holds, else 0
 abbrev one_if : Bool → ℕ
 one_if b = cond b 1 0
 
@@ -76,9 +82,11 @@ vacant_labels passing (Classed slab) h = absurd (let b = by_room (has_room passi
     none : (b t : Bool) → t ≡ false → one_if (t && b) ≡ 1 → ⊥
     none b t e k = absurd (omega (arith, sym (ap (λ x. one_if (x && b)) e) ∙ k))
 
+-- a number with nothing has the label of a vacant one
 pub labels_vacant : (passing : Bool) (e : Entry) → e ≡ Vacant → bit_at (labels_of passing e) 36 ≡ 1
 labels_vacant passing e is = ap (λ x. bit_at (labels_of passing x) 36) is ∙ bit_at-pow_same 36
 
+-- a slab has label 37 exactly where a pass is open and it isn't kept, whether or not it has room
 by_wait : (p k r : Bool) (class : ℕ) → class < 36 → bit_at (cond (r && (not p || k)) (2 ^ class) (cond (p && not k) (2 ^ 37) 0)) 37 ≡ one_if (p && not k)
 by_wait true false true class lt = bit_at-pow_same 37
 by_wait true false false class lt = bit_at-pow_same 37
@@ -103,6 +111,7 @@ pub record IsTaking (passing : Bool) (class : ℕ) (o : Option SlabUse) : Type 0
   pub room : slab.used < per_slab slab.class
   pub kept : passing ≡ true → slab.kept ≡ true
 
+-- a slab that takes blocks of a class is of the class, has room, and is kept while a pass is open
 pub taking : (passing : Bool) (class : ℕ) (o : Option SlabUse) → takes passing class o ≡ true → IsTaking passing class o
 taking passing class None h = cc
 taking passing class (Some s) h =
@@ -113,17 +122,21 @@ taking passing class (Some s) h =
     by_pass true k e open' = e
     by_pass false k e open' = cc
 
+-- a test that counts as 1 holds
 one_true : (b : Bool) → one_if b ≡ 1 → b ≡ true
 one_true true h = refl
 one_true false h = absurd (omega (arith, h))
 
+-- false isn't true
 false_true : false ≡ true → ⊥
 false_true e = cc
 
+-- a test whose negation holds is false
 not_true : (b : Bool) → not b ≡ true → b ≡ false
 not_true true h = cc
 not_true false h = refl
 
+-- a test that counts as 0 is false
 one_false : (b : Bool) → one_if b ≡ 0 → b ≡ false
 one_false true h = absurd (omega (arith, h))
 one_false false h = refl
@@ -138,6 +151,7 @@ module _ {passing : Bool} {entries : List Entry} {directory : Directory} {margin
       past (x ∷ rest) zero h = absurd (omega arith)
       past (x ∷ rest) (suc i) h = past rest i (omega arith)
 
+  -- the least number with the label of a class is that of the first slab that takes blocks of the class
   pub first_takes : (class n : ℕ) → class < 36 → IsLeastWith directory.bound directory.nodes.items class n → (n < length entries) × (takes passing class (use_in (entry_at entries n)) ≡ true) × ((m : ℕ) → m < n → takes passing class (use_in (entry_at entries m)) ≡ false)
   first_takes class n lt f =
       let b = sound.bound in let w = f.within in
@@ -147,12 +161,14 @@ module _ {passing : Bool} {entries : List Entry} {directory : Directory} {margin
         λ m less. one_false _ (sym (labels_take passing (entry_at entries m) class lt) ∙ (ap (λ l. bit_at l class) (sym (sound.labelled m (omega (arith, less, there)))) ∙ f.least m less)),
       )
 
+  -- where no number has the label of a class, no slab takes blocks of the class
   pub none_takes : (class : ℕ) → class < 36 → ((n : ℕ) → n < directory.bound → bit_at (labels_at directory n) class ≡ 0) → (n : ℕ) → takes passing class (use_in (entry_at entries n)) ≡ false
   none_takes class lt none n = elim (cases_lt n (length entries)) [
     | inl there ↦ (let b = sound.bound in one_false _ (sym (labels_take passing (entry_at entries n) class lt) ∙ (ap (λ l. bit_at l class) (sym (sound.labelled n there)) ∙ none n (omega (arith, there, b)))))
     | inr past ↦ ap (λ e. takes passing class (use_in e)) (beyond n past)
   ]
 
+  -- the least number with the label of a vacant one is the least number with nothing
   pub first_vacant : (n : ℕ) → IsLeastWith directory.bound directory.nodes.items 36 n → IsLeastVacant entries n
   first_vacant n f =
       let b = sound.bound in let w = f.within in
@@ -163,6 +179,7 @@ module _ {passing : Bool} {entries : List Entry} {directory : Directory} {margin
         least = λ m less is. absurd (let one = labels_vacant passing (entry_at entries m) is in let zero' = ap (λ l. bit_at l 36) (sym (sound.labelled m (omega (arith, less, there)))) ∙ f.least m less in omega (arith, one, zero'));
       }
 
+  -- where no number has the label of a vacant one, every number of the list has something
   pub none_vacant : ((n : ℕ) → n < directory.bound → bit_at (labels_at directory n) 36 ≡ 0) → (n : ℕ) → n < length entries → entry_at entries n ≢ Vacant
   none_vacant none n there is = absurd (let b = sound.bound in let one = labels_vacant passing (entry_at entries n) is in let zero' = ap (λ l. bit_at l 36) (sym (sound.labelled n there)) ∙ none n (omega (arith, there, b)) in omega (arith, one, zero'))
 
@@ -197,6 +214,7 @@ module _ {passing : Bool} {entries : List Entry} {directory : Directory} {margin
             waits = ap (λ k. passing && is_other (slab_at (heap_of passing entries) k)) alive.place ∙ (ap (λ o. passing && is_other o) stands ∙ and_from _ _ p other);
           }
 
+  -- the look for the label of blocks that want to move tells whether any does
   pub calm_told : (first : Option ℕ) (calm : Bool) → is_some first ≡ not calm → IfSome first (IsLeastWith directory.bound directory.nodes.items 37)
       → IfNone first ((n : ℕ) → n < directory.bound → bit_at (labels_at directory n) 37 ≡ 0)
       → MatchBool calm ((r : BlockRef) → wants (heap_of passing entries) r ≡ false) (IsWaiting (blocks_of entries) (heap_of passing entries))
@@ -216,10 +234,12 @@ none_spare class (x ∷ rest) h = (let r = none_spare class rest (λ n. h (suc n
 
 -- ---- one number changes
 
+-- this entry stands at the number now, and all other numbers have what they had
 pub record IsChange (old new : List Entry) (n : ℕ) (e : Entry) : Type 0 where
   pub here : entry_at new n ≡ e
   pub others : (m : ℕ) → m ≢ n → entry_at new m ≡ entry_at old m
 
+-- where an entry changes in one slot, the blocks change under that one reference
 pub blocks_changed : (old new : List Entry) (e : Entry) (at : BlockRef) (content : Option (List ℕ)) → IsChange old new at.slab e → ((slot : ℕ) → block_in e slot ≡ with_slot (block_in (entry_at old at.slab)) at.slot content slot) → blocks_of new ≡ with_block (blocks_of old) at content
 blocks_changed old new e at content c slots = λ i r. one r i
   where
@@ -231,12 +251,15 @@ blocks_changed old new e at content c slots = λ i r. one r i
       | inr other ↦ ap (λ x. block_in x r.slot) (c.others r.slab other) ∙ sym (grind (arith, common_steps, other))
     ]
 
+-- where the entry at one number changes, every other number keeps its slab
 changed_slabs : (passing : Bool) (old new : List Entry) (n : ℕ) (e : Entry) → IsChange old new n e → (m : ℕ) → m ≢ n → slab_at (heap_of passing new) m ≡ slab_at (heap_of passing old) m
 changed_slabs passing old new n e c m ne = slab_read passing new m ∙ (ap use_in (c.others m ne) ∙ sym (slab_read passing old m))
 
+-- where one number changes, the slab at any other one stays
 pub others_stay : (passing : Bool) (old new : List Entry) (n : ℕ) (e : Entry) → IsChange old new n e → (m : ℕ) → m ≢ n → slab_at (heap_of passing new) m ≡ slab_at (heap_of passing old) m
 others_stay = changed_slabs
 
+-- the slab at the changed number is that of its new entry
 pub changed_here : (passing : Bool) (old new : List Entry) (n : ℕ) (e : Entry) → IsChange old new n e → slab_at (heap_of passing new) n ≡ use_in e
 changed_here passing old new n e c = slab_read passing new n ∙ ap use_in c.here
 
@@ -251,6 +274,7 @@ pub record IsEntry (passing : Bool) (e : Entry) : Type 0 where
   pub marked : (s : SlabUse) → use_in e ≡ Some s → s.kept ≡ true → passing ≡ true
   pub filled : (s : SlabUse) → use_in e ≡ Some s → s.kept ≡ false → 0 < s.used
 
+-- a heap stays sound where one entry, its labels and the margins change in accord
 pub sound_changed : {passing : Bool} {old : List Entry} {directory : Directory} {margins : List ℕ} (sound : IsHeap passing old directory margins) (new : List Entry) (later : Directory) (other_margins : List ℕ) (n : ℕ) (e : Entry)
     → length new ≡ length old → IsChange old new n e → later.bound ≡ directory.bound → ((m : ℕ) → m < later.bound → labels_at later m ≡ cond (eqb m n) (labels_of passing e) (labels_at directory m))
     → IsEntry passing e → length other_margins ≡ 36

@@ -39,6 +39,7 @@ pub record IsMoving (passing : Bool) (entries : List Entry) (a n class : ℕ) : 
   pub apart : a ≢ n
   pub there : n < length entries
 
+-- a pass is open, and this is a slab of the class that isn't kept
 record IsFrom (passing : Bool) (o : Option SlabUse) (class : ℕ) : Type 0 where
   pub open' : passing ≡ true
   pub slab : SlabUse
@@ -46,6 +47,7 @@ record IsFrom (passing : Bool) (o : Option SlabUse) (class : ℕ) : Type 0 where
   pub one_class : slab.class ≡ class
   pub other : slab.kept ≡ false
 
+-- where the blocks of a slab want to move, a pass is open and the slab isn't kept
 from_slab : (passing : Bool) (o : Option SlabUse) (class : ℕ) → (passing && is_other o) ≡ true → class_in o ≡ Some class → IsFrom passing o class
 from_slab passing None class h c = cc
 from_slab passing (Some s) class h c = (let p = and_parts passing (not s.kept) h in record { open' = p.0; slab = s; is = refl; one_class = (let q : s.class ≡ class = cc in q); other = off s.kept p.1 })
@@ -55,6 +57,7 @@ from_slab passing (Some s) class h c = (let p = and_parts passing (not s.kept) h
     off false e = refl
 
 module _ {passing : Bool} {entries : List Entry} {directory : Directory} {margins : List ℕ} (sound : IsHeap passing entries directory margins) (at : BlockRef) (class : ℕ) (wants' : wants (heap_of passing entries) at ≡ true) (is : class_in (use_in (entry_at entries at.slab)) ≡ Some class) (lt : class < 36) where
+  -- the block that wants to move stands in a slab of the class that isn't kept
   start : IsFrom passing (use_in (entry_at entries at.slab)) class
   start = from_slab passing (use_in (entry_at entries at.slab)) class (ap (λ o. passing && is_other o) (sym (slab_read passing entries at.slab)) ∙ wants') is
 
@@ -72,6 +75,7 @@ module _ {passing : Bool} {entries : List Entry} {directory : Directory} {margin
       waits_all : (c : ℕ) (s : SlabUse) → s.class ≡ c → s.kept ≡ false → waiting_in c (Some s) ≡ s.used
       waits_all c s e k = grind (arith, nat_tests, e, k)
 
+  -- the block can move to the slab at the least number with the label of its class
   pub moving : (n : ℕ) → IsLeastWith directory.bound directory.nodes.items class n → IsMoving passing entries at.slab n class
   moving n first =
       let s = start in let f = first_takes sound class n lt first in let t = taking passing class (use_in (entry_at entries n)) f.1 in
@@ -97,12 +101,14 @@ module _ {passing : Bool} {entries : List Entry} {directory : Directory} {margin
 
 -- ---- two numbers change
 
+-- these entries stand at two numbers now, and all other numbers have what they had
 pub record IsChangedTwice (old new : List Entry) (a b : ℕ) (source target : Entry) : Type 0 where
   pub long : length new ≡ length old
   pub at_a : entry_at new a ≡ source
   pub at_b : entry_at new b ≡ target
   pub others : (m : ℕ) → m ≢ a → m ≢ b → entry_at new m ≡ entry_at old m
 
+-- where one number is written over, then another and then the first again, these two have changed
 pub changed_twice : (old : List Entry) (a b : ℕ) (gap source target : Entry) → a ≢ b → a < length old → b < length old → IsChangedTwice old (slice_set (slice_set (slice_set old a gap) b target) a source) a b source target
 changed_twice old a b gap source target apart a_in b_in =
     let one = slice_set old a gap in let two = slice_set one b target in
@@ -118,23 +124,29 @@ changed_twice old a b gap source target apart a_in b_in =
 pub target_stays : (old : List Entry) (a b : ℕ) (gap : Entry) → a ≢ b → entry_at (slice_set old a gap) b ≡ entry_at old b
 target_stays old a b gap apart = get_or-set_other old a b gap Vacant (λ e. apart (sym e))
 
+-- for a slab that isn't kept the test of its last block alone tells whether it goes
 last_off : (t kept : Bool) (o : Option SlabUse) → kept ≡ false → cond (t && not kept) None o ≡ cond t None o
 last_off true kept o k = ap (λ q. cond (not q) None o) k
 last_off false kept o k = refl
 
+-- what a return leaves of a slab that isn't kept is the slab with one block fewer, or nothing
 fewer_is : (s : SlabUse) → s.kept ≡ false → returned (Some s) ≡ one_fewer s
 fewer_is s k = last_off (eqb s.used 1) s.kept _ k
 
 module _ {passing : Bool} {entries : List Entry} {directory : Directory} {margins : List ℕ} (sound : IsHeap passing entries directory margins) (a n class : ℕ) (m : IsMoving passing entries a n class) (lt : class < 36) (new : List Entry) (source target : Entry) (two : IsChangedTwice entries new a n source target) (left : use_in source ≡ returned (use_in (entry_at entries a))) (more : use_in target ≡ fuller (use_in (entry_at entries n))) where
+  -- the slab that the block left has one block fewer, or has gone
   left_is : use_in source ≡ one_fewer m.from
   left_is = left ∙ (ap returned m.from_is ∙ fewer_is m.from m.from_other)
 
+  -- the slab that the block came to has one block more
   more_is : use_in target ≡ Some (one_more_in m.to)
   more_is = more ∙ ap fuller m.to_is
 
+  -- the slabs at all other numbers stay
   slabs_others : (i : ℕ) → i ≢ a → i ≢ n → slab_at (heap_of passing new) i ≡ slab_at (heap_of passing entries) i
   slabs_others i not_a not_n = slab_read passing new i ∙ (ap use_in (two.others i not_a not_n) ∙ sym (slab_read passing entries i))
 
+  -- the slabs changed as by the move of a block from the one number to the other
   pub moved_slabs : (at to' : BlockRef) → at.slab ≡ a → to'.slab ≡ n → Moves (heap_of passing entries) (heap_of passing new) at to'
   moved_slabs at to' e_at e_to = record {
     from = m.from;
@@ -155,6 +167,7 @@ module _ {passing : Bool} {entries : List Entry} {directory : Directory} {margin
       full : (s : SlabUse) → s.class ≡ class → s.kept ≡ true → takes true class (Some s) ≡ false → per_slab s.class ≤ s.used
       full s c k t = grind (arith, nat_tests, c, k, t)
 
+  -- a slab that remains where the block left isn't kept
   source_entry : (s : SlabUse) → use_in source ≡ Some s → s.kept ≡ false
   source_entry s is = by_last (eqb m.from.used 1) (sym left_is ∙ is)
     where
@@ -162,6 +175,7 @@ module _ {passing : Bool} {entries : List Entry} {directory : Directory} {margin
       by_last true e = cc
       by_last false e = (let q : record { class = m.from.class; used = m.from.used - 1; kept = m.from.kept } ≡ s = cc in ap (λ x. x.kept) (sym q) ∙ m.from_other)
 
+  -- a slab that remains where the block left has a block
   source_used : (s : SlabUse) → use_in source ≡ Some s → 0 < s.used
   source_used s is = by_last (cases_eq m.from.used 1)
     where
@@ -182,6 +196,7 @@ module _ {passing : Bool} {entries : List Entry} {directory : Directory} {margin
       one : (s : SlabUse) → s.class ≡ class → s.kept ≡ false → 0 < s.used → waiting_in c (one_fewer s) + cond (eqb class c) 1 0 ≡ waiting_in c (Some s)
       one s e k u = grind (arith, nat_tests, e, k, u)
 
+  -- the slab that the block came to has one free place fewer of its class, and as many of any other
   spares : (c : ℕ) → spare_in c (use_in target) + cond (eqb class c) 1 0 ≡ spare_in c (Some m.to)
   spares c = ap (λ o. spare_in c o + cond (eqb class c) 1 0) more_is ∙ (elim (cases_eq class c) [
     | inl same ↦ one m.to (m.to_class ∙ same) m.to_kept m.to_room same
@@ -194,12 +209,15 @@ module _ {passing : Bool} {entries : List Entry} {directory : Directory} {margin
       none : (s : SlabUse) → s.class ≢ c → class ≢ c → spare_in c (Some (one_more_in s)) + cond (eqb class c) 1 0 ≡ spare_in c (Some s)
       none s ne other = grind (arith, nat_tests, ne, other)
 
+  -- no block of a kept slab waits
   kept_waits : (c : ℕ) (s : SlabUse) → s.kept ≡ true → waiting_in c (Some s) ≡ 0
   kept_waits c s k = grind (arith, nat_tests, k)
 
+  -- a slab that isn't kept counts no free places
   other_spares : (c : ℕ) (s : SlabUse) → s.kept ≡ false → spare_in c (Some s) ≡ 0
   other_spares c s k = grind (arith, nat_tests, k)
 
+  -- the slab that the block left counts no free places
   source_spares : (c : ℕ) → spare_in c (use_in source) ≡ 0
   source_spares c = ap (spare_in c) left_is ∙ by_last (eqb m.from.used 1)
     where
@@ -207,15 +225,18 @@ module _ {passing : Bool} {entries : List Entry} {directory : Directory} {margin
       by_last true = refl
       by_last false = other_spares c (record { class = m.from.class; used = m.from.used - 1; kept = m.from.kept }) m.from_other
 
+  -- where the block came to no block waits
   target_waits : (c : ℕ) → waiting_in c (use_in target) ≡ 0
   target_waits c = ap (waiting_in c) more_is ∙ kept_waits c (one_more_in m.to) m.to_kept
 
+  -- a sum over all slabs changes by what its values at these two numbers change
   sums : (f : Option SlabUse → ℕ) → f None ≡ 0 → sum_by f (map use_in new) + f (Some m.from) + f (Some m.to) ≡ sum_by f (map use_in entries) + f (use_in source) + f (use_in target)
   sums f none =
       let there = m.there in let long = two.long in
       let s : sum_by f (map use_in new) + f (slab_at (heap_of passing entries) a) + f (slab_at (heap_of passing entries) n) ≡ sum_by f (map use_in entries) + f (slab_at (heap_of passing new) a) + f (slab_at (heap_of passing new) n) = sum_two f none (map use_in entries) (map use_in new) a n m.apart (omega (arith, length-map new use_in, long, there)) slabs_others in
       omega (arith, s, ap f (slab_read passing entries a ∙ m.from_is), ap f (slab_read passing entries n ∙ m.to_is), ap f (slab_read passing new a ∙ ap use_in two.at_a), ap f (slab_read passing new n ∙ ap use_in two.at_b))
 
+  -- the heap is sound after the move, with the labels of its entries and the same margins
   pub sound_moved : (later : Directory) → later.bound ≡ directory.bound → ((i : ℕ) → i < later.bound → labels_at later i ≡ labels_of passing (entry_at new i)) → IsHeap passing new later margins
   sound_moved later bound labels = record {
     bound = two.long ∙ (sound.bound ∙ sym bound);
@@ -234,6 +255,7 @@ module _ {passing : Bool} {entries : List Entry} {directory : Directory} {margin
 
 -- ---- the blocks
 
+-- the block's bytes stand under the new reference and no longer under the old one, and all others stay
 pub moved_blocks : (old new : List Entry) (at to : BlockRef) (source target : Entry) → at.slab ≢ to.slab → IsChangedTwice old new at.slab to.slab source target → ((slot : ℕ) → block_in source slot ≡ with_slot (block_in (entry_at old at.slab)) at.slot None slot) → ((slot : ℕ) → block_in target slot ≡ with_slot (block_in (entry_at old to.slab)) to.slot (blocks_of old at) slot) → blocks_of new ≡ with_block (with_block (blocks_of old) at None) to (blocks_of old at)
 moved_blocks old new at to source target apart two ended entered = λ i r. one r (cases_eq r.slab at.slab) (cases_eq r.slab to.slab) i
   where

@@ -20,6 +20,7 @@ use Rattle.class_heap.specs.Placing.{takes, is_taken, IsLeastFree, GoesTo, into_
 use Rattle.class_heap.specs.Laws.{slab_read}
 use Rattle.class_heap.proofs.Heaps.{SameEntries, blocks_same, slab_same, waiting_same, spare_same, beyond, taking, first_takes, IsChange, IsEntry, blocks_changed, others_stay, changed_here, sound_changed}
 
+-- an entry written over at a number within the list is a change of that number
 pub change_set : (old : List Entry) (n : ℕ) (e : Entry) → n < length old → IsChange old (slice_set old n e) n e
 change_set old n e lt = record { here = get_or-set_same old n e Vacant lt; others = λ m ne. get_or-set_other old n m e Vacant ne }
 
@@ -33,6 +34,7 @@ sound_set {old = old} {directory = directory} sound n e labels later other_margi
 
 -- ---- a list with further numbers
 
+-- a heap stays sound where its list gets further numbers with nothing, and their labels
 pub sound_wider : {passing : Bool} {old : List Entry} {directory : Directory} {margins : List ℕ} (sound : IsHeap passing old directory margins) (new : List Entry) (later : Directory) (labels : ℕ) → SameEntries old new → length new ≡ later.bound → labels ≡ 2 ^ 36 → ((n : ℕ) → n < later.bound → labels_at later n ≡ cond (nat_lt n directory.bound) (labels_at directory n) labels) → IsHeap passing new later margins
 sound_wider {passing = passing} {old = old} {directory = directory} {margins = margins} sound new later labels same long is wide = record {
   bound = long;
@@ -69,6 +71,7 @@ least_free passing entries n v = record {
     taken (Large bytes) o is ne = ap (λ x. is_some x || true) is
     taken (Classed slab) o is ne = ap (λ x. is_some x || is_some (block_in (Classed slab) 0)) is
 
+-- a block of zeros that was put into a free slot of one entry, by the rule, was placed
 pub placing : {passing later : Bool} (old mid new : List Entry) (e : Entry) (at : BlockRef) (len : ℕ) → later ≡ passing → SameEntries old mid → IsChange mid new at.slab e → block_in (entry_at mid at.slab) at.slot ≡ None → ((slot : ℕ) → block_in e slot ≡ with_slot (block_in (entry_at mid at.slab)) at.slot (Some (replicate len 0)) slot)
     → GoesTo (blocks_of old) (heap_of passing old) (heap_of later new) len at → IsPlacing (blocks_of old) (heap_of passing old) (blocks_of new) (heap_of later new) len at
 placing {passing = passing} {later = later} old mid new e at len kept same c fresh slots goes = record {
@@ -93,14 +96,17 @@ least_vacant_same passing old mid n same v =
 
 -- ---- a large block
 
+-- in place of a vacant entry, a block that stands alone is one put into slot 0
 pub large_slots : (bytes : List ℕ) (old : Entry) (slot : ℕ) → old ≡ Vacant → cond (eqb slot 0) (Some bytes) None ≡ with_slot (block_in old) 0 (Some bytes) slot
 large_slots bytes old slot is = ap (λ e. cond (eqb slot 0) (Some bytes) (block_in e slot)) (sym is)
 
+-- a block that no class holds stands alone at the least vacant number, as the rule says
 pub goes_alone : {passing later : Bool} (old mid new : List Entry) (e : Entry) (len n : ℕ) → 14336 < len → SameEntries old mid → IsLeastVacant mid n → IsChange mid new n e → use_in e ≡ None → GoesTo (blocks_of old) (heap_of passing old) (heap_of later new) len (record { slab = n; slot = 0 })
 goes_alone {passing = passing} {later = later} old mid new e len n large same v c none = alone (record { large = large; free = least_vacant_same passing old mid n same v; first = refl; none = changed_here later mid new n e c ∙ none })
 
 -- ---- into a slab
 
+-- a block goes by the rule into the slab at the least number with the label of its class
 pub goes_in : {passing : Bool} {old : List Entry} {directory : Directory} {margins : List ℕ} (sound : IsHeap passing old directory margins) (new : List Entry) (e : Entry) (class len n slot : ℕ) → class < 36 → IsClassOf len class → IsLeastWith directory.bound directory.nodes.items class n → (passing ≡ true → 0 < slice_index_or margins class 0) → IsChange old new n e → use_in e ≡ fuller (use_in (entry_at old n)) → GoesTo (blocks_of old) (heap_of passing old) (heap_of passing new) len (record { slab = n; slot = slot })
 goes_in {passing = passing} {old = old} {margins = margins} sound new e class len n slot lt holds first room c more =
     let f = first_takes sound class n lt first in let t = taking passing class (use_in (entry_at old n)) f.1 in
@@ -143,9 +149,11 @@ one_class_in c u p s kept room is = (grind (arith, common_steps, kept), grind (a
     spare : (q u c : ℕ) → s.kept ≡ true → s.class ≡ c → s.used < per_slab s.class → spare_in c (Some (one_more_in s)) + 1 ≡ spare_in c (Some s)
     spare q u c kept is room = (let r : s.used < per_slab c = subst (λ k. s.used < per_slab k) is room in grind (arith, common_steps, kept, is, r))
 
+-- a slab of another class has no waiting block and no free place of this class
 pub other_class : (c : ℕ) (s : SlabUse) → s.class ≢ c → (waiting_in c (Some s) ≡ 0) × (spare_in c (Some s) ≡ 0)
 other_class c s ne = (grind (arith, common_steps, ne), grind (arith, common_steps, ne))
 
+-- when a block goes into a slab of an open pass, the margins balance with that of its class less by one
 pub margin_in : {passing : Bool} {old : List Entry} {directory : Directory} {margins : List ℕ} (sound : IsHeap passing old directory margins) (class n : ℕ) (e : Entry) → class < 36 → IsLeastWith directory.bound directory.nodes.items class n → (passing ≡ true → 0 < slice_index_or margins class 0) → use_in e ≡ fuller (use_in (entry_at old n)) → passing ≡ true → (c : ℕ) → c < 36
     → waiting_in c (use_in e) + spare_in c (use_in (entry_at old n)) + slice_index_or (slice_set margins class (slice_index_or margins class 0 - 1)) c 0 ≡ waiting_in c (use_in (entry_at old n)) + spare_in c (use_in e) + slice_index_or margins c 0
 margin_in {passing = passing} {old = old} {margins = margins} sound class n e lt first room more open' c within =
@@ -163,6 +171,7 @@ margin_in {passing = passing} {old = old} {margins = margins} sound class n e lt
 
 -- ---- into a new slab
 
+-- a block goes by the rule into a new slab, where no slab takes it or an open pass has no place to spare
 pub goes_anew : {passing later : Bool} (old mid new : List Entry) (e : Entry) (class len n slot : ℕ) → class < 36 → IsClassOf len class → (passing ≡ false → (m : ℕ) → takes false class (use_in (entry_at old m)) ≡ false) → (passing ≡ true → spare_of (heap_of passing old) class ≤ waiting_of (heap_of passing old) class)
     → SameEntries old mid → IsLeastVacant mid n → IsChange mid new n e → use_in e ≡ Some (record { class = class; used = 1; kept = passing }) → GoesTo (blocks_of old) (heap_of passing old) (heap_of later new) len (record { slab = n; slot = slot })
 goes_anew {passing = passing} {later = later} old mid new e class len n slot lt holds none full same v c is =
@@ -176,6 +185,7 @@ goes_anew {passing = passing} {later = later} old mid new e class len n slot lt 
       stands = changed_here later mid new n e c ∙ is;
     })
 
+-- a new slab with one block, kept where a pass is open, is as an entry should be
 pub entry_anew : (passing : Bool) (class : ℕ) (e : Entry) → use_in e ≡ Some (record { class = class; used = 1; kept = passing }) → IsEntry passing e
 entry_anew passing class e is = record {
   marked = λ s at kept. of_some (record { class = class; used = 1; kept = passing }) s (sym is ∙ at) kept;
@@ -188,6 +198,7 @@ entry_anew passing class e is = record {
     some_used : (a s : SlabUse) → Some a ≡ Some s → 0 < a.used → 0 < s.used
     some_used a s e more = (let q : a ≡ s = cc in subst (λ x. 0 < x.used) q more)
 
+-- when a block goes into a new slab of an open pass, the margins balance with the places left added
 pub margin_anew : (margins : List ℕ) (class per : ℕ) (old e : Entry) → length margins ≡ 36 → class < 36 → per ≡ per_slab class → old ≡ Vacant → use_in e ≡ Some (record { class = class; used = 1; kept = true }) → (c : ℕ) → c < 36
     → waiting_in c (use_in e) + spare_in c (use_in old) + slice_index_or (slice_set margins class (slice_index_or margins class 0 + (per - 1))) c 0 ≡ waiting_in c (use_in old) + spare_in c (use_in e) + slice_index_or margins c 0
 margin_anew margins class per old e few lt full none is c within =
@@ -208,14 +219,17 @@ margin_anew margins class per old e few lt full none is c within =
 pub fresh_room : (slab : Slab) (class len : ℕ) (kept : Bool) → use_of slab ≡ record { class = class; used = 0; kept = kept } → class < 36 → IsClassOf len class → IsRoomFor len (Some (use_of slab))
 fresh_room slab class len kept made lt holds = subst (λ u. IsRoomFor len (Some u)) (sym made) ((slots_bounds class lt).0, holds)
 
+-- an empty slab with one block more has one block
 pub made_one : (slab : Slab) (class : ℕ) (kept : Bool) → use_of slab ≡ record { class = class; used = 0; kept = kept } → fuller (use_in (Classed slab)) ≡ Some (record { class = class; used = 1; kept = kept })
 made_one slab class kept made = ap (λ u. Some (one_more_in u)) made
 
+-- a block put into a slab without a block leaves the same slots as one put into a vacant entry
 pub fresh_slots : (slab : Slab) (old : Entry) (at slot : ℕ) (content : Option (List ℕ)) → ((s : ℕ) → block_in (Classed slab) s ≡ None) → old ≡ Vacant → with_slot (block_in (Classed slab)) at content slot ≡ with_slot (block_in old) at content slot
 fresh_slots slab old at slot content empty is = ap (λ o. cond (eqb slot at) content o) (empty slot ∙ ap (λ e. block_in e slot) (sym is))
 
 -- ---- a placed block wants no move
 
+-- a block that was just placed wants no move
 pub calm_placed : {before after : Blocks} {h later : Heap} {len : ℕ} {at : BlockRef} → IsPlacing before h after later len at → wants later at ≡ false
 calm_placed {before = before} {h = h} {later = later} {len = len} {at = at} p = by_goes p.goes
   where
