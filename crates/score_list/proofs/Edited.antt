@@ -10,12 +10,6 @@ module _ (tall : ℕ → Bool) (next span next' span' : ℕ → ℕ) where
       let e = others (suc k) (λ q. lo.0 (sym q)) (λ q. lx.0 (sym q)) in
       (refl, e.0, e.1, same_behind x o left ks others lo.1 lx.1)
 
-  -- the owner that was reached lacks what stands behind
-  pub last_lacks : (front back : List ℕ) (o d last left : ℕ) → Reaches tall front o d last left → Lacks o (front ++ back) → IsDistinct (front ++ back) → Lacks last back
-  last_lacks [] back o d last left r lacks dist = subst (λ n. Lacks n back) (sym r.0) lacks
-  last_lacks (k ∷ ks) back o d last left (inl r) lacks dist = last_lacks ks back (suc k) 0 last left r.1 dist.0 dist.1
-  last_lacks (k ∷ ks) back o d last left (inr r) lacks dist = last_lacks ks back o (suc d) last left r.1 lacks.1 dist.1
-
   pub joined : (x : ℕ) (front back : List ℕ) (o d last left : ℕ) → Hung tall x last left next span next' span' → IsRow tall next span o d (front ++ back) → Reaches tall front o d last left → suc x ≢ o → Lacks (suc x) (front ++ back) → Lacks o (front ++ back) → IsDistinct (front ++ back) → IsRow tall next' span' o d (front ++ x ∷ back)
   joined x [] back o d last left h row r new lx lo dist =
       let same = same_behind x o left back (λ p a b. h.others p (λ q. a (q ∙ r.0)) b) lo lx in

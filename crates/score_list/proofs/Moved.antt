@@ -22,14 +22,6 @@ module _ (tall : ℕ → Bool) (next span : ℕ → ℕ) (tall' : ℕ → Bool) 
   moved o d o' d' (k ∷ ks) (inl r) n s same = inl (same.0 ∙ r.0, n ∙ r.1, omega arith, moved (suc k) 0 (suc k) 0 ks r.3 same.1 (omega arith) same.3)
   moved o d o' d' (k ∷ ks) (inr r) n s same = inr (same.0 ∙ r.0, moved o (suc d) o' (suc d') ks r.1 n (omega arith) same.3)
 
-pub lacks_back : (p : ℕ) (front back : List ℕ) → Lacks p (front ++ back) → Lacks p back
-lacks_back p [] back l = l
-lacks_back p (k ∷ ks) back l = lacks_back p ks back l.1
-
-pub distinct_back : (front back : List ℕ) → IsDistinct (front ++ back) → IsDistinct back
-distinct_back [] back l = l
-distinct_back (k ∷ ks) back l = distinct_back ks back l.1
-
 module _ (tall : ℕ → Bool) where
   -- the last owner of a level is one of the elements, with so many behind it
   pub record Late (ks : List ℕ) (last left : ℕ) : Type 0 where

@@ -179,11 +179,6 @@ module _ (t : Towers) (linked : IsLinked t) (rank owner after : ℕ) (a : Arrive
 pub descended : (t : Towers) (rank level owner after : ℕ) → Descent t rank level owner after → level ≤ 0 → Arrives t 0 rank owner after
 descended t rank level owner after d le = (let is : level ≡ 0 = omega arith in subst (λ n. Arrives t n rank owner after) is (d.came (omega arith)))
 
-pub lowest_reaches : (t : Towers) (rank owner after : ℕ) → IsLinked t → Arrives t 0 rank owner after → 0 < length (links_at t owner)
-lowest_reaches t rank owner after linked a =
-    let s = reach_stands (tall t 0) (take rank (order t)) owner a.0 a.1 in
-    reaches_of t 0 (take rank (order t)) owner s.0 s.1 (omega (arith, linked.full_head))
-
 pub length_of_map : (at : ℕ → Element) (ks : List ℕ) → length (map at ks) ≡ length ks
 length_of_map at [] = refl
 length_of_map at (k ∷ ks) = ap suc (length_of_map at ks)

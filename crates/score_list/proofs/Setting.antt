@@ -10,23 +10,6 @@ use Rattle.score_list.specs.declared.towers.Towers.{Towers}
 use Rattle.score_list.specs.Linked.{no_link, links_of, link_at, element_of, SetsLink}
 use Rattle.score_list.proofs.Places.{apart, there}
 
-other_head : (t : Towers) (level : ℕ) (link : Link) (l o : ℕ) → l ≢ level → link_at (record t { head = set t.head level link }) l o ≡ link_at t l o
-other_head t level link l zero ne = get_or-set_other t.head level l link no_link ne
-other_head t level link l (suc k) ne = refl
-
-not_head : (t : Towers) (level : ℕ) (link : Link) (l o : ℕ) → o ≢ 0 → link_at (record t { head = set t.head level link }) l o ≡ link_at t l o
-not_head t level link l zero ne = absurd (ne refl)
-not_head t level link l (suc k) ne = refl
-
--- the head's link is set
-pub sets_head : (t : Towers) (level : ℕ) (link : Link) → level < length t.head → SetsLink t (record t { head = set t.head level link }) level 0 link
-sets_head t level link lt = record {
-  set_here = get_or-set_same t.head level link no_link lt;
-  other_levels = λ l o ne. other_head t level link l o ne;
-  other_owners = λ l o ne. not_head t level link l o ne;
-  keeps = record { heights = refl; elements = refl; len = refl; head = length-set t.head level link };
-}
-
 module _ (t : Towers) (key level : ℕ) (tower : Tower) (link : Link) (found : get t.slab key ≡ Some tower) where
   abbrev pub changed : Tower
   changed = record tower { links = with_item tower.links level link }
