@@ -22,9 +22,6 @@ module _ {V : Type 0} where
     pub inside : k < length now.older
     pub table : 0 < length now.newer
 
-  pub part_way_start : (h : Held V) (k : ℕ) → k < length h.older → 0 < length h.newer → IsPartWay h h k
-  part_way_start h k lt some = record { older = refl; newer = λ hash agrees. refl; items = refl; capacity = refl; inside = lt; table = some }
-
   pub part_way_more : (old now next : Held V) (k : ℕ) → IsPartWay old now k → MovesOne now next k → IsPartWay old next k
   part_way_more old now next k w m =
       let row : bucket next.older k ≡ m.rest = ap (λ t. bucket t k) m.older ∙ bucket-set_same now.older k m.rest w.inside in
@@ -38,15 +35,3 @@ module _ {V : Type 0} where
         inside = omega (arith, w.inside, ap length m.older, length-set now.older k m.rest);
         table = omega (arith, w.table, m.many);
       }
-
-  pub part_way_falls : (old now next : Held V) (k : ℕ) → IsPartWay old now k → MovesOne now next k → length (bucket next.older k) < length (bucket now.older k)
-  part_way_falls old now next k w m = omega (arith, ap length m.first, ap length (ap (λ t. bucket t k) m.older ∙ bucket-set_same now.older k m.rest w.inside))
-
-  pub part_way_end : (old now : Held V) (k : ℕ) → IsPartWay old now k → bucket now.older k ≡ [] → Stand now.items now.older now.newer → MovesRow old now k
-  part_way_end old now k w none stand = record {
-    older = sym (set-get_or now.older k []) ∙ ap (set now.older k) none ∙ w.older;
-    newer = λ hash agrees. ap (put_all hash now.newer) (sym none) ∙ w.newer hash agrees;
-    items = w.items;
-    capacity = w.capacity;
-    stand = stand;
-  }

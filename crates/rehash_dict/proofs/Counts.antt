@@ -23,13 +23,6 @@ pub none_in : (row : List ℕ) → ((i : ℕ) → times i row ≡ 0) → row ≡
 none_in [] h = refl
 none_in (x ∷ xs) h = absurd (omega (arith, h x, times-here x xs))
 
-pub times-le-length : (i : ℕ) (row : List ℕ) → times i row ≤ length row
-times-le-length i [] = omega arith
-times-le-length i (x ∷ xs) = elim (cases_eq x i) [
-  | inl e ↦ omega (arith, times-le-length i xs, subst (λ n. times i (n ∷ xs) ≡ suc (times i xs)) (sym e) (times-here i xs))
-  | inr h ↦ omega (arith, times-le-length i xs, times-past i x xs h)
-]
-
 -- ---- a bucket without a number
 
 filter-keep : (p : ℕ → Bool) (x : ℕ) (xs : List ℕ) → p x ≡ true → filter p (x ∷ xs) ≡ x ∷ filter p xs

@@ -19,21 +19,25 @@ use Rattle.rehash_dict.proofs.Counts.{without-none}
 use Rattle.rehash_dict.proofs.Stands.{one_bucket, one_table, flip}
 use Rattle.rehash_dict.proofs.Keys.{keyed_from, key_tables-same, key-same, keyed_added, key_tables_added, key_tables_removed}
 
+-- taking out an item number that stands in no bucket leaves all buckets
 rows_kept : (at : ℕ) (rows : List (List ℕ)) → ((j : ℕ) → times at (bucket rows j) ≡ 0) → map (without eqb at) rows ≡ rows
 rows_kept at [] out = refl
 rows_kept at (r ∷ rest) out = λ i. without-none at r (out 0) i ∷ rows_kept at rest (λ j. out (suc j)) i
 
+-- taking out an item number that stands in no other bucket than this one changes this one only
 rows_without : (at : ℕ) (rows : List (List ℕ)) (k : ℕ) → ((j : ℕ) → j ≢ k → times at (bucket rows j) ≡ 0) → map (without eqb at) rows ≡ set rows k (without eqb at (bucket rows k))
 rows_without at [] k out = refl
 rows_without at (r ∷ rest) zero out = ap (λ t. without eqb at r ∷ t) (rows_kept at rest (λ j. out (suc j) (λ e. omega arith)))
 rows_without at (r ∷ rest) (suc k) out = λ i. without-none at r (out 0 (λ e. omega arith)) i ∷ rows_without at rest k (λ j ne. out (suc j) (λ e. ne (omega arith))) i
 
 module _ {V : Type 0} where
+  -- the dictionary of these elements and buckets
   abbrev pub table_of : Held V → ℕ → ℕ → ℕ → Table V
   table_of h position seed top = record { items = h.items; older = h.older; newer = h.newer; position = position; seed = seed; top = top }
 
   -- ---- a look at one element
 
+  -- the comparison of a block's bytes with the key tells whether the item number is that of the key
   pub key_answer : (blocks : Blocks) (t : Table V) (at hash : ℕ) (key bytes : List ℕ) (e : Element V) (b : Bool) → item t at ≡ Some e → blocks e.key ≡ Some bytes → (b ≡ true → bytes ≡ key) → (bytes ≡ key → b ≡ true) → MatchBool b (Stands blocks t at key) (IsOther blocks t hash key at)
   key_answer blocks t at hash key bytes e true found live is back = record { element = e; found = found; bytes = live ∙ ap Some (is refl) }
   key_answer blocks t at hash key bytes e false found live is back = λ f h same bad.
@@ -45,12 +49,14 @@ module _ {V : Type 0} where
   -- ---- a key is named by another block
 
   module _ (h later : Held V) (position seed top at : ℕ) (ref : BlockRef) (p : IsPlaced (table_of h position seed top)) (s : SwapsIn h later at (λ e. at_item later.items at ≡ Some (record e { key = ref }))) where
+    -- an item number that has an element afterwards had one before
     was_there : (i : ℕ) → IsSome (at_item later.items i) → IsSome (at_item h.items i)
     was_there i there = elim (cases_eq i at) [
       | inl here ↦ ap (λ n. is_some (at_item h.items n)) here ∙ ap is_some s.found
       | inr other ↦ ap is_some (sym (s.others i other)) ∙ there
     ]
 
+    -- with the key named by another block, what holds of a dictionary's tables at every moment still holds
     placed_renamed : IsPlaced (table_of later position seed top)
     placed_renamed = record {
       kept = record {
@@ -62,6 +68,7 @@ module _ {V : Type 0} where
       below = λ i there. p.below i (was_there i there);
     }
 
+    -- only the element's key block changes, and where all keys keep their bytes the dictionary means what it meant
     pub renames : Renames (table_of h position seed top) (table_of later position seed top) at ref
     renames = record {
       element = s.element;
@@ -91,9 +98,11 @@ module _ {V : Type 0} where
   -- ---- an element leaves
 
   module _ (h mid last : Held V) (position later seed top number at : ℕ) (key : BlockRef) (value : V) (p : IsPlaced (table_of h position seed top)) (b : Rebuilds mid last later) (e : held_tables last later ≡ ended (held_tables mid position)) where
+    -- the tables with the item number taken out of all buckets
     abbrev without_all : Tables ℕ
     without_all = record { older = map (without eqb at) h.older; newer = map (without eqb at) h.newer; position = position }
 
+    -- where an element left its bucket and the tables are those without its item number, it is taken out
     finish : {side : Side} → LeavesFrom side h mid number at key value → held_tables mid position ≡ without_all → Takes (table_of h position seed top) (table_of last later seed top) at key value
     unfolding removed
     finish l same =
@@ -116,6 +125,7 @@ module _ {V : Type 0} where
           };
         }
 
+    -- an element that leaves the bucket of the older table in which it stands is taken out of the dictionary
     pub takes_older : LeavesFrom Older h mid number at key value → 0 < times at (bucket h.older number) → Takes (table_of h position seed top) (table_of last later seed top) at key value
     takes_older l inside = finish l (λ i. record {
       older = (l.rows.0 ∙ sym (rows_without at h.older number (λ j ne. one_bucket h.items h.older h.newer number j at p.kept.stand inside ne))) i;
@@ -123,6 +133,7 @@ module _ {V : Type 0} where
       position = position;
     })
 
+    -- an element that leaves the bucket of the newer table in which it stands is taken out of the dictionary
     pub takes_newer : LeavesFrom Newer h mid number at key value → 0 < times at (bucket h.newer number) → Takes (table_of h position seed top) (table_of last later seed top) at key value
     takes_newer l inside = finish l (λ i. record {
       older = (l.rows.1 ∙ sym (rows_kept at h.older (λ j. one_table h.items h.newer h.older number j at (flip h.items h.older h.newer p.kept.stand) inside))) i;
@@ -130,6 +141,7 @@ module _ {V : Type 0} where
       position = position;
     })
 
+    -- an element that leaves the bucket in which it stands, in either table, is taken out of the dictionary
     pub takes : (side : Side) → LeavesFrom side h mid number at key value → 0 < times at (bucket (side_rows side h) number) → Takes (table_of h position seed top) (table_of last later seed top) at key value
     takes Older l inside = takes_older l inside
     takes Newer l inside = takes_newer l inside
@@ -140,21 +152,26 @@ module _ {V : Type 0} where
       (room_items : room.items ≡ h.items) (room_tables : held_tables room position ≡ with_room (held_tables h position))
       (b : Rebuilds room mid later) (stepped : (names : ℕ → ℕ) → Agrees names room.items → held_tables mid later ≡ rehashed names (held_tables room position) 1)
       (side_is : side ≡ (cond (is_rehashing (held_tables mid 0)) Newer Older)) (a : AddsTo side mid last at element) where
+    -- making room and the rehash step before the insert leave all elements as they were
     same_items : mid.items ≡ h.items
     same_items = b.items ∙ room_items
 
+    -- the item number of the new element was vacant before the insert
     vacant : at_item h.items at ≡ None
     vacant = ap (λ xs. at_item xs at) (sym same_items) ∙ a.vacant
 
+    -- the insert puts the new element at its item number and changes no other item number
     updates : Updates h.items last.items at (Some element)
     updates = record { changed = a.updates.changed; others = λ i ne. a.updates.others i ne ∙ ap (λ xs. at_item xs i) same_items }
 
+    -- hashes that agree with the elements after the insert agree with those before the rehash step
     agrees_before : (names : ℕ → ℕ) → Agrees names last.items → Agrees names room.items
     agrees_before names agrees i e found = elim (cases_eq i at) [
       | inl here ↦ (let q : Some e ≡ None = sym found ∙ ap (at_item room.items) here ∙ ap (λ xs. at_item xs at) (sym b.items) ∙ a.vacant in cc)
       | inr other ↦ agrees i e (a.updates.others i other ∙ ap (λ xs. at_item xs i) b.items ∙ found)
     ]
 
+    -- during a rehash the element's side is the newer table, else the older, and equal tables tell the same of a rehash
     by_side : (going : Bool) → is_rehashing (held_tables mid 0) ≡ going → (side ≡ cond going Newer Older) × ((names : ℕ → ℕ) (u : Tables ℕ) → held_tables mid later ≡ u → is_rehashing u ≡ going)
     by_side going is = (side_is ∙ ap (λ c. cond c Newer Older) is, λ names u same. ap is_rehashing (sym same) ∙ is)
 
@@ -163,6 +180,7 @@ module _ {V : Type 0} where
       tables_joined : (names : ℕ → ℕ) → Agrees names last.items → held_tables last later ≡ joined names (held_tables mid later) at
       kept_joined : IsKept last.items last.older last.newer later
 
+    -- whether or not a rehash is going on, the item number joins the tables, and what holds of them still holds
     at_side : (going : Bool) → is_rehashing (held_tables mid 0) ≡ going → Joined
     at_side true is =
         let newer : side ≡ Newer = side_is ∙ ap (λ c. cond c Newer Older) is in
@@ -197,15 +215,18 @@ module _ {V : Type 0} where
           };
         }
 
+    -- the item number joins the tables that the rehash step left, and what holds of them still holds
     all_joined : Joined
     all_joined = at_side (is_rehashing (held_tables mid 0)) refl
 
+    -- by hashes that agree with the elements, the tables are the old ones with the item number inserted
     tables_inserted : (names : ℕ → ℕ) → Agrees names last.items → held_tables last later ≡ inserted names (held_tables h position) at
     unfolding inserted
     tables_inserted names agrees =
         all_joined.tables_joined names agrees
         ∙ ap (λ u. joined names u at) (stepped names (agrees_before names agrees) ∙ ap (λ u. rehashed names u 1) room_tables)
 
+    -- with the new element and a top above it, what holds of a dictionary's tables at every moment still holds
     placed_added : IsPlaced (table_of last later seed (max top (at + 1)))
     placed_added = record {
       kept = all_joined.kept_joined;
@@ -215,6 +236,7 @@ module _ {V : Type 0} where
       ];
     }
 
+    -- the element joins the dictionary, and over a store where its key is live and new that is an insert of this key
     pub adds : Adds (table_of h position seed top) (table_of last later seed (max top (at + 1))) at element
     adds = record {
       vacant = vacant;
@@ -230,10 +252,12 @@ module _ {V : Type 0} where
 
   -- ---- sides
 
+  -- the buckets of a side are those of the dictionary's table on that side
   pub side_table : (side : Side) (h : Held V) (position seed top : ℕ) (t : Table V) → table_of h position seed top ≡ t → side_rows side h ≡ table_rows side t
   side_table Older h position seed top t same = ap (λ x. x.older) same
   side_table Newer h position seed top t same = ap (λ x. x.newer) same
 
+  -- either side has no bucket, or as many as a power of two of at least 4
   pub side_size : (side : Side) (h : Held V) → Stand h.items h.older h.newer → IsSize (length (side_rows side h))
   side_size Older h s = s.older_size
   side_size Newer h s = s.newer_size
@@ -259,6 +283,7 @@ module _ {V : Type 0} where
 
   -- ---- removal, by its key
 
+  -- where the element of a key was taken out, the tables by key bytes are those with the key removed
   pub removed_tables : (blocks : Blocks) (old new : Table V) (at : ℕ) (key : List ℕ) (ref : BlockRef) (value : V) → Keyed blocks old → Stands blocks old at key → Takes old new at ref value → key_tables blocks new ≡ removed same_key (key_tables blocks old) key
   removed_tables blocks old new at key ref value k s t =
       let one : s.element ≡ record { key = ref; hash = t.hash; value = value } = (let q : Some s.element ≡ Some (record { key = ref; hash = t.hash; value = value }) = sym s.found ∙ t.found in cc) in
@@ -266,10 +291,12 @@ module _ {V : Type 0} where
 
 -- ---- shrinking
 
+-- where no shrinking is wanted, a call of `shrink` changes nothing
 pub shrinks_not : (t : Tables ℕ) → wants_shrink t ≡ false → shrunk t ≡ t
 unfolding shrunk
 shrinks_not t no' = cond-false (wants_shrink t) _ _ no'
 
+-- where shrinking is wanted, a rehash begins to the least power of two not below the count, and at least 4
 pub shrinks : (t : Tables ℕ) → wants_shrink t ≡ true → shrunk t ≡ begun t (max 4 (least_power (count t.older)))
 unfolding shrunk
 shrinks t yes' = cond-true (wants_shrink t) _ _ yes'

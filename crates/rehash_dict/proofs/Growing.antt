@@ -39,12 +39,6 @@ module _ {V : Type 0} where
   pub Grown-insert : (blocks : Blocks) (old new : Table V) (key : List ℕ) → Keyed blocks old → Lacks blocks old key → key_tables blocks new ≡ inserted (hash_of old.seed) (key_tables blocks old) key → Grown (hash_of old.seed) (key_tables blocks old) (key_tables blocks new)
   Grown-insert blocks old new key k l is = Served-once (key_tables blocks old) (key_tables blocks new) (joins key (Lacks-absent blocks old key k l) is)
 
-  -- `insert`, where it may want memory
-  pub Grown-adds : {E : Type 0} (blocks : Blocks) (old new : Table V) (e : Element V) (result : Result ℕ E) → IfOk result (λ at. Adds old new at e) → OnErr result (new ≡ old)
-      → Keyed blocks old → IsSome (blocks e.key) → e.hash ≡ hash_of old.seed (bytes_at blocks e.key) → Lacks blocks old (bytes_at blocks e.key) → Grown (hash_of old.seed) (key_tables blocks old) (key_tables blocks new)
-  Grown-adds blocks old new e (Ok at) a same k live hashed lacks = Grown-insert blocks old new (bytes_at blocks e.key) k lacks (a.keyed blocks k live hashed lacks).1
-  Grown-adds blocks old new e (Err x) a same k live hashed lacks = Served-same _ _ (ap (key_tables blocks) same)
-
 -- the tables after `remove`, by its clause `tables`
 pub Grown-remove : (hash : List ℕ → ℕ) (old new : Tables (List ℕ)) (key : List ℕ) → new ≡ removed same_key old key → Grown hash old new
 Grown-remove hash old new key is = Served-once old new (leaves key is)

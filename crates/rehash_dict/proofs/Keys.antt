@@ -138,9 +138,6 @@ module _ {V : Type 0} where
       ∙ ap (named (λ i. key_of blocks (item old i))) is
       ∙ shrunk-named (λ i. key_of blocks (item old i)) (tables old)
 
-  pub keyed_same_items : (blocks : Blocks) (old new : Table V) → Keyed blocks old → IsPlaced new → new.seed ≡ old.seed → new.items ≡ old.items → Keyed blocks new
-  keyed_same_items blocks old new k placed seed same = keyed_from blocks blocks old new k placed seed (λ at f h. (f, ap (λ items. at_item items at) (sym same) ∙ h, refl, refl))
-
   -- ---- an element leaves
 
   module _ (blocks : Blocks) (old new : Table V) (at : ℕ) (e : Element V) (key : List ℕ) (k : Keyed blocks old) (found : item old at ≡ Some e) (bytes : blocks e.key ≡ Some key) (u : Updates old.items new.items at None) (seed : new.seed ≡ old.seed) (placed : IsPlaced new) where

@@ -26,6 +26,7 @@ use Rattle.rehash_dict.proofs.Keys.{live_bytes, keyed_removed}
 abbrev tied : List ℕ → List ℕ → Bool
 tied q k = eq_by_cmp (slice_cmp nat_cmp) q k
 
+-- keys that are tied have the same bytes
 tied-true : (q k : List ℕ) → tied q k ≡ true → q ≡ k
 tied-true q k h = slice_cmp-IsAntisymmetric nat_cmp-IsAntisymmetric q k (equal (slice_cmp nat_cmp q k) h)
   where
@@ -34,12 +35,15 @@ tied-true q k h = slice_cmp-IsAntisymmetric nat_cmp-IsAntisymmetric q k (equal (
     equal Equal h = refl
     equal Greater h = cc
 
+-- a key is tied with itself
 tied-refl : (q : List ℕ) → tied q q ≡ true
 tied-refl q = (eq_by_cmp_equiv nat_list_cmp_total).refl q
 
+-- keys with the same bytes are tied
 tied-same : (q k : List ℕ) → q ≡ k → tied q k ≡ true
 tied-same q k is = ap (tied q) (sym is) ∙ tied-refl q
 
+-- keys with other bytes aren't tied
 tied-other : (q k : List ℕ) → q ≢ k → tied q k ≡ false
 tied-other q k h = elim (cases_Bool (tied q k)) [ inl t ↦ absurd (h (tied-true q k t)) | inr f ↦ f ]
 
@@ -47,12 +51,15 @@ tied-other q k h = elim (cases_Bool (tied q k)) [ inl t ↦ absurd (h (tied-true
 read : (m : Blocks) (e : Option (List ℕ)) (q : List ℕ) → e ≡ Some q → unwrap_or e [] ≡ q
 read m e q h = ap (λ o. unwrap_or o []) h
 
+-- no option is both something and nothing
 some_none : {A : Type 0} (o : Option A) (x : A) → o ≡ Some x → o ≡ None → ⊥
 some_none o x h k = cc
 
+-- two answers of one option are the same
 some_same : {A : Type 0} (o : Option A) (x y : A) → o ≡ Some x → o ≡ Some y → x ≡ y
 some_same o x y h k = cc
 
+-- maps that have the same at each key are the same
 maps_alike : {X : Type 0} (m n : FinMap (slice_cmp nat_cmp) X) → ((q : List ℕ) → get m q ≡ get n q) → m ≡ n
 maps_alike = same_map nat_list_cmp_total (slice_cmp-IsAntisymmetric nat_cmp-IsAntisymmetric)
 
@@ -68,11 +75,13 @@ module _ {V : Type 0} where
   -- ---- one look
 
   module _ {X : Type 0} (m : Blocks) (meaning : V → X) where
+    -- a look through the pairs of a list of elements finds nothing for a key that none of them has
     found_none : (items : List (Option (Element V))) (q : List ℕ) → ((at : ℕ) (e : Element V) → at_item items at ≡ Some e → q ≢ bytes_at m e.key) → find (slice_cmp nat_cmp) q (flat_map (pair_of m meaning) items) ≡ None
     found_none [] q h = refl
     found_none (None ∷ rest) q h = found_none rest q (λ at e f. h (suc at) e f)
     found_none (Some e ∷ rest) q h = cond-false _ _ _ (tied-other q (bytes_at m e.key) (h 0 e refl)) ∙ found_none rest q (λ at f g. h (suc at) f g)
 
+    -- for a key that one element of a list alone has, a look through the pairs finds what its value means
     found_some : (items : List (Option (Element V))) (q : List ℕ) (at : ℕ) (e : Element V) → at_item items at ≡ Some e → bytes_at m e.key ≡ q
         → ((other : ℕ) (f : Element V) → at_item items other ≡ Some f → bytes_at m f.key ≡ q → other ≡ at) → find (slice_cmp nat_cmp) q (flat_map (pair_of m meaning) items) ≡ Some (meaning e.value)
     found_some [] q at e h is one = cc
@@ -100,10 +109,12 @@ module _ {V : Type 0} where
         get-from_entries nat_list_cmp_total (flat_map (pair_of m meaning) t.items) q
         ∙ found_none t.items q (λ at e there same. lacks.each at e there (live_bytes m e.key (k.live at e there) ∙ ap Some (sym same)))
 
+    -- a dictionary whose list of elements is empty has the empty map
     pub map_of-empty : (t : Table V) → t.items ≡ [] → map_of m meaning t ≡ empty
     unfolding map_of
     map_of-empty t none = ap (λ xs. from_entries {R = slice_cmp nat_cmp} (flat_map (pair_of m meaning) xs)) none
 
+    -- the map of a list of elements has as many keys as there are elements, where all keys are live and differ
     len-pairs : (items : List (Option (Element V))) → ((at : ℕ) (e : Element V) → at_item items at ≡ Some e → IsSome (m e.key))
         → ((at other : ℕ) (e f : Element V) → at_item items at ≡ Some e → at_item items other ≡ Some f → m e.key ≡ m f.key → at ≡ other) → len (from_entries {R = slice_cmp nat_cmp} (flat_map (pair_of m meaning) items)) ≡ count_by is_some items
     len-pairs [] alive apart = len-empty (slice_cmp nat_cmp) X
@@ -132,9 +143,11 @@ module _ {V : Type 0} where
     pub found : item t at ≡ Some element
     pub bytes : m element.key ≡ Some q
 
+  -- some element of the list has these key bytes
   abbrev Seen : Blocks → List ℕ → List (Option (Element V)) → Type 0
   Seen m q items = (at : ℕ) × (e : Element V) × (at_item items at ≡ Some e) × (bytes_at m e.key ≡ q)
 
+  -- no element of the list has these key bytes
   abbrev Out : Blocks → List ℕ → List (Option (Element V)) → Type 0
   Out m q items = (at : ℕ) (e : Element V) → at_item items at ≡ Some e → bytes_at m e.key ≢ q
 
@@ -267,6 +280,7 @@ module _ {V : Type 0} where
       pub map_of-removes : (key : List ℕ) (ref : BlockRef) (value : V) → Keyed m new → Removes m old new key ref value → map_of m meaning new ≡ remove (map_of m meaning old) key
       map_of-removes key ref value l r = map_of-taken m meaning old new r.at _ key k l r.updates r.found r.bytes
 
+      -- before a `remove` the map has the meaning of the removed value at the key
       pub map_of-had : (key : List ℕ) (ref : BlockRef) (value : V) → Removes m old new key ref value → get (map_of m meaning old) key ≡ Some (meaning value)
       map_of-had key ref value r = map_of-stands m meaning old r.at _ key k r.found r.bytes
 
@@ -281,6 +295,7 @@ module _ {V : Type 0} where
           map_of-put m meaning old new at (record { key = s.key; hash = s.hash; value = value }) (key_of m (item old at)) k l s.updates bytes
           (λ f there. (let one : f ≡ record { key = s.key; hash = s.hash; value = was } = some_same (item old at) _ _ there s.found in ap (λ (x : Element V). m x.key) one ∙ bytes))
 
+      -- before a `swap_value` the map has the meaning of the old value at the element's key
       pub map_of-was : (at : ℕ) (was value : V) → Swaps old new at was value → get (map_of m meaning old) (key_of m (item old at)) ≡ Some (meaning was)
       map_of-was at was value s = map_of-stands m meaning old at _ (key_of m (item old at)) k s.found (live_bytes m s.key (k.live at _ s.found) ∙ ap (λ o. Some (key_of m o)) (sym s.found))
 
@@ -310,12 +325,15 @@ module _ {V : Type 0} where
 
   -- an element of the key was taken out
   module _ (m : Blocks) (old new : Table V) (at : ℕ) (key : List ℕ) (ref : BlockRef) (value : V) (k : Keyed m old) (s : Stands m old at key) (t : Takes old new at ref value) where
+    -- without the element each key is still a live block with the bytes of its hash, and no two elements have one key
     left : Keyed m new
     left = keyed_removed m old new at s.element key k s.found s.bytes t.updates t.seed t.placed
 
+    -- the content is the old one with the key removed
     pub content-takes : content m new ≡ remove (content m old) key
     content-takes = map_of-taken m (λ v. v) old new at s.element key k left t.updates s.found s.bytes
 
+    -- the old content has, at the key, the value that was taken out
     pub content-took : get (content m old) key ≡ Some value
     content-took = map_of-stands m (λ v. v) old at s.element key k s.found s.bytes ∙ ap (λ o. value_of o) (sym s.found ∙ t.found)
 
@@ -329,9 +347,11 @@ module _ {V : Type 0} where
   pub refs_changed : (own : V → List BlockRef) (old new : Table V) (at : ℕ) (o : Option (Element V)) → Updates old.items new.items at o → (r : BlockRef) → times r (refs_of own new) + times r (own_of own (item old at)) ≡ times r (refs_of own old) + times r (own_of own o)
   refs_changed own old new at o u r = times_changed (own_of own) None refl r old.items new.items at u.others ∙ ap (λ x. times r (refs_of own old) + times r (own_of own x)) u.changed
 
+  -- the key block of each element of a list
   abbrev key_list : List (Option (Element V)) → List BlockRef
   key_list items = flat_map (own_of (λ (_ : V). [])) items
 
+  -- a reference among the key blocks is the key block of some element
   named_by : (items : List (Option (Element V))) (r : BlockRef) → 0 < times r (key_list items) → (at : ℕ) × (e : Element V) × (at_item items at ≡ Some e) × (e.key ≡ r)
   named_by [] r h = absurd (omega arith)
   named_by (None ∷ rest) r h = (let p = named_by rest r h in (suc p.0, p.1, p.2, p.3))
@@ -340,6 +360,7 @@ module _ {V : Type 0} where
     | inr other ↦ (let p = named_by rest r (omega (arith, ap one_if other)) in (suc p.0, p.1, p.2, p.3))
   ]
 
+  -- where no two elements have one key block, no reference stands twice among the key blocks
   named_once : (items : List (Option (Element V))) (r : BlockRef) → ((at other : ℕ) (e f : Element V) → at_item items at ≡ Some e → at_item items other ≡ Some f → e.key ≡ f.key → at ≡ other) → times r (key_list items) ≤ 1
   named_once [] r one = omega arith
   named_once (None ∷ rest) r one = named_once rest r (λ at other e f h k same. omega (arith, one (suc at) (suc other) e f h k same))

@@ -25,6 +25,7 @@ use Rattle.rehash_dict.proofs.Moved.{Weighs, Given, by_turns, given_turn, given_
 
 -- ---- bits
 
+-- counting up from no more than b, and far enough, 2 ^ b buckets are told apart by b bits
 bits_are : (more k b : ℕ) → k ≤ b → b ≤ k + more → bits_from more k (2 ^ b) ≡ b
 unfolding bits_from
 bits_are zero k b from to = omega arith
@@ -43,6 +44,7 @@ bits_are (suc more) k b from to = elim (cases_eq k b) [
     is_not : (x y : ℕ) → y < x → nat_le x y ≡ false
     is_not x y h = grind (arith, nat_tests)
 
+-- 2 ^ b buckets are told apart by b bits, for b below 64
 pub bits_of-power : (b n : ℕ) → n ≡ 2 ^ b → b < 64 → bits_of n ≡ b
 unfolding bits_of
 bits_of-power b n e lt = ap (bits_from 64 0) e ∙ bits_are 64 0 b (omega arith) (omega arith)
@@ -54,12 +56,14 @@ pub record IsWidth (n bits : ℕ) : Type 0 where
   pub few : bits < 64
   pub is : bits_of n ≡ bits
 
+-- the size of a table with buckets is a power of two, of at least 2 and fewer than 64 bits
 pub width_of : (n : ℕ) → IsSize n → 0 < n → IsWidth n (bits_of n)
 width_of n (no_table e) some = absurd (omega arith)
 width_of n (power bits e low high) some =
     let is : bits_of n ≡ bits = bits_of-power bits n e high in
     record { power = e ∙ ap (λ b. 2 ^ b) (sym is); many = omega arith; few = omega arith; is = refl }
 
+-- the binary logarithm of a table's size, rounded down, is the number of its bits
 pub log_is : (n r : ℕ) → IsSize n → 2 ^ r ≤ n → n < 2 * 2 ^ r → r ≡ bits_of n
 log_is n r (no_table e) low high = absurd (omega (arith, pow_pos r))
 log_is n r (power bits e a b) low high =
@@ -74,12 +78,14 @@ log_is n r (power bits e a b) low high =
 
 -- ---- the smaller and the larger table
 
+-- the smaller table has buckets, no more than the larger one, and both sizes are those of tables
 pub record IsOrdered (older newer : List (List ℕ)) : Type 0 where
   pub some : 0 < length (smaller_of older newer)
   pub order : length (smaller_of older newer) ≤ length (larger_of older newer)
   pub small_size : IsSize (length (smaller_of older newer))
   pub large_size : IsSize (length (larger_of older newer))
 
+-- two tables with buckets are in order: the smaller one has no more buckets than the larger one
 pub ordered : {V : Type 0} (items : List (Option (Element V))) (older newer : List (List ℕ)) → Stand items older newer → 0 < length older → 0 < length newer → IsOrdered older newer
 ordered items older newer s a b = elim (cases_lt (length newer) (length older)) [
   | inl less ↦
@@ -110,6 +116,7 @@ ordered items older newer s a b = elim (cases_lt (length newer) (length older)) 
     not_lt : (x y : ℕ) → y ≤ x → nat_lt x y ≡ false
     not_lt x y h = grind (arith, nat_tests)
 
+-- where there is no newer table, the smaller one is the older one
 pub smaller_one : (older newer : List (List ℕ)) → length newer ≤ 0 → smaller_of older newer ≡ older
 smaller_one older newer h = (let test : nat_lt 0 (length newer) ≡ false = no_lt (length newer) h in cond-false _ _ _ (and_left _ _ test))
   where
@@ -119,6 +126,7 @@ smaller_one older newer h = (let test : nat_lt 0 (length newer) ≡ false = no_l
 -- ---- how often an element stands
 
 module _ {V : Type 0} where
+  -- an element stands in a table only in the bucket of its hash, as often as that bucket names it
   pub weighs : (items : List (Option (Element V))) (a b : List (List ℕ)) (bits i : ℕ) (e : Element V) → Stand items a b → at_item items i ≡ Some e → length a ≡ 2 ^ bits → Weighs a bits i e.hash (times i (bucket a (e.hash % length a)))
   weighs items a b bits i e s found size = record {
     here = λ v same. ap (λ k. times i (bucket a k)) (sym same ∙ ap (λ n. e.hash % n) (sym size));
@@ -132,6 +140,7 @@ module _ {V : Type 0} where
           let one : p.0 ≡ e = (let q : Some p.0 ≡ Some e = sym p.1 ∙ found in cc) in
           absurd (other (ap (λ m. e.hash % m) (sym size) ∙ ap (λ x. x.hash % length a) (sym one) ∙ p.2))
 
+  -- a vacant item number stands in no bucket of a table
   pub weighs_none : (items : List (Option (Element V))) (a b : List (List ℕ)) (bits i : ℕ) → Stand items a b → at_item items i ≡ None → Weighs a bits i 0 0
   weighs_none items a b bits i s none = record { here = λ v same. vacant_out items a i (v % 2 ^ bits) s.of_older none; away = λ v other. vacant_out items a i (v % 2 ^ bits) s.of_older none }
 
@@ -143,6 +152,7 @@ pub record WeighBoth (older newer : List (List ℕ)) (i hash often : ℕ) : Type
   pub large : Weighs (larger_of older newer) (bits_of (length (larger_of older newer))) i hash b
   pub sum : a + b ≡ often
 
+-- the counts of an item in two tables are those in the smaller and the larger one, with the same sum
 pub weigh_both : (older newer : List (List ℕ)) (i hash a b : ℕ) → Weighs older (bits_of (length older)) i hash a → Weighs newer (bits_of (length newer)) i hash b → WeighBoth older newer i hash (a + b)
 weigh_both older newer i hash a b wa wb = go (nat_lt 0 (length newer) && nat_lt (length newer) (length older)) refl
   where
@@ -165,12 +175,15 @@ weigh_both older newer i hash a b wa wb = go (nat_lt 0 (length newer) && nat_lt 
 -- ---- the move by turns
 
 module _ (older newer : List (List ℕ)) (v : ℕ) where
+  -- the bits of the smaller table
   abbrev small : ℕ
   small = bits_of (length (smaller_of older newer))
 
+  -- the bits of the larger table
   abbrev large : ℕ
   large = bits_of (length (larger_of older newer))
 
+  -- the turns behind the first give consecutive buckets of the larger table, by their reversed numbers
   turns_are : (count k : ℕ) → turns_from older newer v count (suc k) ≡ blocks_from (larger_of older newer) large count (first_block large v + k)
   unfolding turns_from blocks_from
   turns_are zero k = refl
@@ -182,6 +195,7 @@ module _ (older newer : List (List ℕ)) (v : ℕ) where
       let tail : turns_from older newer v count (suc (suc k)) ≡ blocks_from (larger_of older newer) large count (suc (first_block large v + k)) = turns_are count (suc k) ∙ ap (blocks_from (larger_of older newer) large count) (sym on) in
       λ i. head i ++ tail i
 
+  -- all turns give the cursor's bucket of the smaller table, and then consecutive ones of the larger table
   pub turns_two : (count : ℕ) → turns_from older newer v (suc count) 0 ≡ turn (smaller_of older newer) small v ++ blocks_from (larger_of older newer) large count (first_block large v)
   unfolding turns_from
   turns_two count = ap (λ r. turn (smaller_of older newer) small v ++ r) (turns_are count 0 ∙ ap (blocks_from (larger_of older newer) large count) (omega arith))
@@ -193,12 +207,15 @@ pub record IsMove (older newer : List (List ℕ)) (v small : ℕ) : Type 0 where
   pub next : (scanned older newer v).1 ≡ next_of v small
   pub given : (i hash often : ℕ) → WeighBoth older newer i hash often → Weighs older (bits_of (length older)) i hash often ⊎ (0 < length newer) → Given (scanned older newer v).0 i hash v small often
 
+-- a number below another passes the test for less
 is_lt : (x y : ℕ) → x < y → nat_lt x y ≡ true
 is_lt x y h = grind (arith, nat_tests)
 
+-- a number not below another fails the test for less
 not_lt : (x y : ℕ) → y ≤ x → nat_lt x y ≡ false
 not_lt x y h = grind (arith, nat_tests)
 
+-- where both tables have buckets, a scan at a cursor is a move by turns
 pub move_two : {V : Type 0} (items : List (Option (Element V))) (older newer : List (List ℕ)) (v : ℕ) → Stand items older newer → 0 < length older → 0 < length newer → IsMove older newer v (bits_of (length (smaller_of older newer)))
 unfolding scanned
 move_two items older newer v s a b =
@@ -234,6 +251,7 @@ move_two items older newer v s a b =
     le_bits : (i j : ℕ) → 2 ^ i ≤ 2 ^ j → i ≤ j
     le_bits i j h = elim (cases_lt j i) [ inl over ↦ absurd (omega (arith, pow_below j i over)) | inr fine ↦ fine ]
 
+-- where only the older table has buckets, a scan at a cursor is a move by turns
 pub move_one : {V : Type 0} (items : List (Option (Element V))) (older newer : List (List ℕ)) (v : ℕ) → Stand items older newer → 0 < length older → length newer ≤ 0 → IsMove older newer v (bits_of (length (smaller_of older newer)))
 unfolding scanned turns_from
 move_one items older newer v s a b =
@@ -258,6 +276,7 @@ move_one items older newer v s a b =
 
 -- ---- the laws of a scan
 
+-- without a table a scan gives nothing and cursor 0
 pub no_move : (older newer : List (List ℕ)) (v : ℕ) → length older ≤ 0 → scanned older newer v ≡ ([], 0)
 unfolding scanned
 no_move older newer v none = (let test : (length older == 0) ≡ true = eq-eqb (length older) 0 (omega arith) in cond-true _ _ _ test)
@@ -281,12 +300,14 @@ module _ {V : Type 0} where
             (weigh_both older newer i e.hash 1 0 only nowhere, inl only))
       ]
 
+  -- a vacant item number stands in neither table
   both_none : (items : List (Option (Element V))) (older newer : List (List ℕ)) (i : ℕ) → Stand items older newer → at_item items i ≡ None → WeighBoth older newer i 0 0 × (Weighs older (bits_of (length older)) i 0 0 ⊎ (0 < length newer))
   both_none items older newer i s none = (
     weigh_both older newer i 0 0 0 (weighs_none items older newer (bits_of (length older)) i s none) (weighs_none items newer older (bits_of (length newer)) i (flip items older newer s) none),
     inl (weighs_none items older newer (bits_of (length older)) i s none),
   )
 
+  -- where the older table has buckets, a scan at a cursor is a move by turns
   pub is_move : (items : List (Option (Element V))) (older newer : List (List ℕ)) (v : ℕ) → Stand items older newer → 0 < length older → IsMove older newer v (bits_of (length (smaller_of older newer)))
   is_move items older newer v s some = elim (cases_lt 0 (length newer)) [
     | inl two ↦ move_two items older newer v s some two
@@ -307,10 +328,12 @@ module _ {V : Type 0} where
   placed_element t i at None h q = cc
   placed_element t i at (Some e) h q = (e, h, cc)
 
+  -- an item number without a place has no element
   no_element : (t : Table V) (i : ℕ) (o : Option (Element V)) → item t i ≡ o → place_in o ≡ None → item t i ≡ None
   no_element t i None h q = h
   no_element t i (Some e) h q = cc
 
+  -- a scan gives each element from its cursor to the next one once, none from there on, and no vacant number
   pub move_spans : (t : Table V) (place_of : ℕ → Option ℕ) (v : ℕ) → CanStand t place_of → Span place_of v (scanned t.older t.newer v).1 (scanned t.older t.newer v).0
   move_spans t place_of v c = elim (cases_lt 0 (length t.older)) [
     | inl some ↦
@@ -354,6 +377,7 @@ module _ {V : Type 0} where
         | inr none ↦ omega (arith, ap (times i) (ap (λ p. p.0) (no_move t.older t.newer v none)))
       ]
 
+  -- a scan at the next cursor gives no element whose place is before that cursor
   pub move_starts : (t : Table V) (place_of : ℕ → Option ℕ) (v : ℕ) → CanStand t place_of → StartsAt place_of (scanned t.older t.newer v).1 (scanned t.older t.newer (scanned t.older t.newer v).1).0
   move_starts t place_of v c i at h under = elim (cases_lt 0 (length t.older)) [
     | inl some ↦

@@ -10,6 +10,7 @@ use Rattle.rehash_dict.specs.Placed.IsSize.{no_table}
 use Rattle.rehash_dict.proofs.Counts.{times-here, times-past, times-without_same, times-without_other, length-without, bucket-set_same, bucket-set_other, count-set, bucket-none, bucket-no_elements, count-no_elements}
 
 module _ {V : Type 0} where
+  -- elements that stand in an older and a newer table stand in these the other way round too
   pub flip : (items : List (Option (Element V))) (a b : List (List ℕ)) → Stand items a b → Stand items b a
   flip items a b s = record {
     of_older = s.of_newer;
@@ -20,6 +21,7 @@ module _ {V : Type 0} where
     newer_size = s.older_size;
   }
 
+  -- two answers of one option are the same
   same_element : (o : Option (Element V)) (e f : Element V) → o ≡ Some e → o ≡ Some f → e ≡ f
   same_element o e f h k = let q : Some e ≡ Some f = sym h ∙ k in cc
 
@@ -41,6 +43,7 @@ module _ {V : Type 0} where
           let p = s.of_older k at (omega arith) in
           omega (arith, s.once at p.0 p.1, ap (λ j. times at (bucket a j)) p.2)
 
+  -- an item number that stands in one bucket of a table stands in no other one of it
   pub one_bucket : (items : List (Option (Element V))) (a b : List (List ℕ)) (k j at : ℕ) → Stand items a b → 0 < times at (bucket a k) → j ≢ k → times at (bucket a j) ≡ 0
   one_bucket items a b k j at s here other = go (times at (bucket a j)) refl
     where
@@ -52,6 +55,7 @@ module _ {V : Type 0} where
           let one : p.0 ≡ q.0 = same_element (at_item items at) p.0 q.0 p.1 q.1 in
           absurd (other (sym q.2 ∙ ap (λ e. e.hash % length a) (sym one) ∙ p.2))
 
+  -- an item number that stands in one table stands in no bucket of the other one
   pub one_table : (items : List (Option (Element V))) (a b : List (List ℕ)) (k j at : ℕ) → Stand items a b → 0 < times at (bucket a k) → times at (bucket b j) ≡ 0
   one_table items a b k j at s here = go (times at (bucket b j)) refl
     where
@@ -65,15 +69,19 @@ module _ {V : Type 0} where
 
   -- an element joins at the head of its bucket
   module _ (items later : List (Option (Element V))) (a b : List (List ℕ)) (at k : ℕ) (e : Element V) (s : Stand items a b) (vacant : at_item items at ≡ None) (u : Updates items later at (Some e)) (here : e.hash % length a ≡ k) (lt : k < length a) where
+    -- the table with the new item number at the head of its bucket
     abbrev grown : List (List ℕ)
     grown = set a k (at ∷ bucket a k)
 
+    -- an item number that stands in a bucket before the element joins is another one than the element's
     there : (i : ℕ) (rows : List (List ℕ)) (j : ℕ) → Names items rows → 0 < times i (bucket rows j) → i ≢ at
     there i rows j names h same = absurd (omega (arith, ap (λ n. times n (bucket rows j)) same, vacant_out items rows at j names vacant))
 
+    -- a table that names only elements, each in the bucket of its hash, does so too after the element joins
     still : (rows : List (List ℕ)) → Names items rows → Names later rows
     still rows names j i h = (let p = names j i h in (p.0, u.others i (there i rows j names h) ∙ p.1, p.2))
 
+    -- the table with the new item number names only elements, each in the bucket of its hash
     older_names : Names later grown
     older_names j i h = elim (cases_eq j k) [
       | inl same ↦
@@ -92,12 +100,14 @@ module _ {V : Type 0} where
           (p.0, u.others i (there i a j s.of_older n) ∙ p.1, ap (λ m. p.0.hash % m) (length-set a k (at ∷ bucket a k)) ∙ p.2))
     ]
 
+    -- every other item number stands as often in each bucket of the table with the new one as before
     older_times : (i j : ℕ) → i ≢ at → times i (bucket grown j) ≡ times i (bucket a j)
     older_times i j other = elim (cases_eq j k) [
       | inl same ↦ ap (times i) (ap (bucket grown) same ∙ bucket-set_same a k (at ∷ bucket a k) lt) ∙ times-past i at (bucket a k) (λ q. other (sym q)) ∙ ap (λ n. times i (bucket a n)) (sym same)
       | inr apart ↦ ap (times i) (bucket-set_other a k j (at ∷ bucket a k) apart)
     ]
 
+    -- with the new item number, each element stands once, in the bucket of its hash in one of the two tables
     once_all : (i : ℕ) (f : Element V) → at_item later i ≡ Some f → times i (bucket grown (f.hash % length grown)) + times i (bucket b (f.hash % length b)) ≡ 1
     once_all i f h = elim (cases_eq i at) [
       | inl mine ↦
@@ -113,6 +123,7 @@ module _ {V : Type 0} where
           omega (arith, s.once i f was))
     ]
 
+    -- with one element more, whose item number is at the head of its bucket, each element stands once in the tables
     pub joins : count_by is_some later ≡ count_by is_some items + 1 → Stand later (set a k (at ∷ bucket a k)) b
     joins more = record {
       of_older = older_names;
@@ -125,33 +136,39 @@ module _ {V : Type 0} where
 
   -- an element leaves its bucket
   module _ (items later : List (Option (Element V))) (a b : List (List ℕ)) (at k : ℕ) (s : Stand items a b) (inside : 0 < times at (bucket a k)) (u : Updates items later at None) (lt : k < length a) where
+    -- the table with the item number taken out of its bucket
     abbrev left : List (List ℕ)
     left = set a k (without eqb at (bucket a k))
 
+    -- the item number that was taken out stands in no bucket of the table
     gone : (j : ℕ) → times at (bucket left j) ≡ 0
     gone j = elim (cases_eq j k) [
       | inl same ↦ ap (times at) (ap (bucket left) same ∙ bucket-set_same a k (without eqb at (bucket a k)) lt) ∙ times-without_same at (bucket a k)
       | inr apart ↦ ap (times at) (bucket-set_other a k j (without eqb at (bucket a k)) apart) ∙ one_bucket items a b k j at s inside apart
     ]
 
+    -- every other item number stands as often in each bucket of the table without the one taken out as before
     rest_times : (i j : ℕ) → i ≢ at → times i (bucket left j) ≡ times i (bucket a j)
     rest_times i j other = elim (cases_eq j k) [
       | inl same ↦ ap (times i) (ap (bucket left) same ∙ bucket-set_same a k (without eqb at (bucket a k)) lt) ∙ times-without_other at i (bucket a k) other ∙ ap (λ n. times i (bucket a n)) (sym same)
       | inr apart ↦ ap (times i) (bucket-set_other a k j (without eqb at (bucket a k)) apart)
     ]
 
+    -- the table without the item number names only elements that are left, each in the bucket of its hash
     left_names : Names later left
     left_names j i h = elim (cases_eq i at) [
       | inl mine ↦ absurd (omega (arith, ap (λ n. times n (bucket left j)) mine, gone j))
       | inr other ↦ (let p = s.of_older j i (omega (arith, rest_times i j other)) in (p.0, u.others i other ∙ p.1, ap (λ n. p.0.hash % n) (length-set a k (without eqb at (bucket a k))) ∙ p.2))
     ]
 
+    -- the other table names only elements that are left, each in the bucket of its hash
     other_names : Names later b
     other_names j i h = elim (cases_eq i at) [
       | inl mine ↦ absurd (omega (arith, ap (λ n. times n (bucket b j)) mine, one_table items a b k j at s inside))
       | inr other ↦ (let p = s.of_newer j i h in (p.0, u.others i other ∙ p.1, p.2))
     ]
 
+    -- with one element less, whose item number left its bucket, each that is left stands once in the tables
     pub leaves : count_by is_some later + 1 ≡ count_by is_some items → Stand later (set a k (without eqb at (bucket a k))) b
     leaves fewer = record {
       of_older = left_names;

@@ -17,6 +17,7 @@ use Rattle.rehash_dict.proofs.Powers.{pow_le}
 use Rattle.rehash_dict.proofs.BlockPlaces.{block-fits, last-whole, last-le, first_below_last, place_high}
 use Rattle.rehash_dict.proofs.Scans.{ordered, width_of, smaller_one}
 
+-- the blocks of a move from this place are at least one, lie within the larger table, and are 64-bit numbers
 pub record IsWide (start s l : ℕ) : Type 0 where
   pub block_fits : start / 2 ^ (64 - s) + 1 < 2 ^ 64
   pub whole : (start / 2 ^ (64 - s) + 1) * 2 ^ (l - s) % 2 ^ 64 ≡ (start / 2 ^ (64 - s) + 1) * 2 ^ (l - s)
@@ -24,6 +25,7 @@ pub record IsWide (start s l : ℕ) : Type 0 where
   pub within : (start / 2 ^ (64 - s) + 1) * 2 ^ (l - s) ≤ 2 ^ l
   pub below : 2 ^ l ≤ 2 ^ 63
 
+-- at any cursor the blocks of a move are so, where the larger table has as many bits or more, below 64
 pub wide : (v start s l : ℕ) → start ≡ place v → s ≤ l → l < 64 → IsWide start s l
 wide v start s l is order few = subst (λ x. IsWide x s l) (sym is) (record {
   block_fits = block-fits s v (omega arith);
@@ -33,38 +35,45 @@ wide v start s l is order few = subst (λ x. IsWide x s l) (sym is) (record {
   below = pow_le l 63 (omega arith);
 })
 
+-- where a power of two is no greater than another, so is its exponent
 pub le_bits : (i j : ℕ) → 2 ^ i ≤ 2 ^ j → i ≤ j
 le_bits i j h = elim (cases_lt j i) [ inl over ↦ absurd (omega (arith, pow_below j i over)) | inr fine ↦ fine ]
 
+-- a number above 0 passes the test for that
 pub is_lt : (n : ℕ) → 0 < n → nat_lt 0 n ≡ true
 is_lt n h = grind (arith, nat_tests)
 
+-- a number that isn't above 0 fails the test for that
 pub not_lt : (n : ℕ) → n ≤ 0 → nat_lt 0 n ≡ false
 not_lt n h = grind (arith, nat_tests)
 
 module _ (older newer : List (List ℕ)) (v : ℕ) where
+  -- without a table there is no turn
   pub turns_none : length older ≤ 0 → turns_of older newer v ≡ 0
   turns_none h = cond-true _ _ _ (eq-eqb (length older) 0 (omega arith))
 
+  -- with one table there is one turn
   pub turns_one : 0 < length older → length newer ≤ 0 → turns_of older newer v ≡ 1
   turns_one a b = cond-false _ _ _ (ne_eqb (length older) 0 (λ h. omega arith)) ∙ cond-false _ _ _ (not_lt (length newer) b)
 
+  -- with two tables there is one turn for the smaller, and one for each block of the larger in the interval
   pub turns_both : 0 < length older → 0 < length newer → turns_of older newer v ≡ 1 + (last_block (bits_of (length (smaller_of older newer))) (bits_of (length (larger_of older newer))) v - first_block (bits_of (length (larger_of older newer))) v)
   turns_both a b = cond-false _ _ _ (ne_eqb (length older) 0 (λ h. omega arith)) ∙ cond-true _ _ _ (is_lt (length newer) b)
 
+  -- where there is a turn, the older table has buckets
   pub some_turn : (n : ℕ) → n < turns_of older newer v → 0 < length older
   some_turn n h = elim (cases_lt 0 (length older)) [ inl some ↦ some | inr none ↦ absurd (omega (arith, turns_none none)) ]
 
+  -- where there is a turn behind the first, the newer table has buckets
   pub later_turn : (n : ℕ) → n < turns_of older newer v → 0 < n → 0 < length newer
   later_turn n h pos = elim (cases_lt 0 (length newer)) [ inl some ↦ some | inr none ↦ absurd (omega (arith, turns_one (some_turn n h) none)) ]
 
-  pub turn_first : turn_at older newer v 0 ≡ turn (smaller_of older newer) (bits_of (length (smaller_of older newer))) v
-  turn_first = refl
-
+  -- each later turn gives the bucket of the larger table whose reversed number is the block of that turn
   pub turn_later : (n : ℕ) → 0 < n → turn_at older newer v n ≡ turn (larger_of older newer) (bits_of (length (larger_of older newer))) (reversed (bits_of (length (larger_of older newer))) (first_block (bits_of (length (larger_of older newer))) v + (n - 1)))
   turn_later n pos = cond-false _ _ _ (ne_eqb n 0 (λ h. omega arith))
 
 module _ {V : Type 0} (items : List (Option (Element V))) (older newer : List (List ℕ)) (v : ℕ) (s : Stand items older newer) where
+  -- where the older table has buckets, so has the smaller one
   pub small_some : 0 < length older → 0 < length (smaller_of older newer)
   small_some some = elim (cases_lt 0 (length newer)) [
     | inl two ↦ (ordered items older newer s some two).some
@@ -83,6 +92,7 @@ module _ {V : Type 0} (items : List (Option (Element V))) (older newer : List (L
     pub power : length (larger_of older newer) ≡ 2 ^ large
     pub block : first_block large v + (n - 1) < 2 ^ large
 
+  -- a turn behind the first has its block within the larger table, which has fewer than 64 bits
   pub later : (n : ℕ) → n < turns_of older newer v → 0 < n → IsLater n
   later n lt pos =
       let a = some_turn older newer v n lt in
@@ -106,6 +116,7 @@ module _ {V : Type 0} (items : List (Option (Element V))) (older newer : List (L
     pub wide : IsWide start small large
     pub turns : turns_of older newer v ≡ 1 + ((start / 2 ^ (64 - small) + 1) * 2 ^ (large - small) - start / 2 ^ (64 - large))
 
+  -- the bits of both tables and the place of the cursor give the number of turns, in numbers that fit
   pub measured : (rs rl : List (List ℕ)) (small large start : ℕ) → 0 < length older → 0 < length newer → rs ≡ smaller_of older newer → rl ≡ larger_of older newer → small ≡ bits_of (length rs) → large ≡ bits_of (length rl) → start ≡ place v → IsMeasured small large start
   measured rs rl small large start a b is_s is_l small_is large_is start_is =
       let o = ordered items older newer s a b in
@@ -122,6 +133,7 @@ module _ {V : Type 0} (items : List (Option (Element V))) (older newer : List (L
 
 -- ---- from turn to turn
 
+-- from a turn on there is what it gives, and then what the turns from the next one on give
 pub turns_step : (older newer : List (List ℕ)) (v last n : ℕ) → n < last → turns_from older newer v (last - n) n ≡ turn_at older newer v n ++ turns_from older newer v (last - (n + 1)) (n + 1)
 unfolding turns_from
 turns_step older newer v last n lt =
@@ -129,10 +141,12 @@ turns_step older newer v last n lt =
     let next : n + 1 ≡ suc n = omega arith in
     ap (λ c. turns_from older newer v c n) one ∙ ap (λ m. turn_at older newer v n ++ turns_from older newer v (last - (n + 1)) m) (sym next)
 
+-- where no turns are left, nothing is given
 pub turns_end : (older newer : List (List ℕ)) (v last n : ℕ) → last ≤ n → turns_from older newer v (last - n) n ≡ []
 unfolding turns_from
 turns_end older newer v last n over = (let none : last - n ≡ 0 = omega arith in ap (λ c. turns_from older newer v c n) none)
 
+-- the first of a list that has one stays the first when another list is appended
 pub first_of-append : (xs ys : List ℕ) (x : ℕ) (rest : List ℕ) → xs ≡ x ∷ rest → first_of (xs ++ ys) ≡ Some x
 first_of-append [] ys x rest h = cc
 first_of-append (z ∷ zs) ys x rest h = (let q : z ≡ x = cc in ap Some q)
@@ -144,6 +158,7 @@ pub record InTurn (older newer : List (List ℕ)) (v at first count : ℕ) : Typ
   pub to : number < first + count
   pub there : 0 < times at (turn_at older newer v number)
 
+-- a number that the turns give stands in the bucket of one of them
 pub in_turn : (older newer : List (List ℕ)) (v at count first : ℕ) → 0 < times at (turns_from older newer v count first) → InTurn older newer v at first count
 unfolding turns_from
 in_turn older newer v at zero first h = absurd (omega arith)
@@ -154,13 +169,11 @@ in_turn older newer v at (suc count) first h = elim (cases_lt 0 (times at (turn_
       record { number = r.number; from = omega (arith, r.from); to = omega (arith, r.to); there = r.there })
 ]
 
--- what stands behind a number
-after_here : (at : ℕ) (xs : List ℕ) → after_in at (at ∷ xs) ≡ xs
-after_here at xs = cond-true _ _ _ (eq-eqb at at refl)
-
+-- behind a number there stands the same whether or not another number stands in front
 after_past : (at x : ℕ) (xs : List ℕ) → (x ≡ at → ⊥) → after_in at (x ∷ xs) ≡ after_in at xs
 after_past at x xs h = cond-false _ _ _ (ne_eqb x at h)
 
+-- where a number isn't in the first list, what stands behind it is that of the second list
 pub after_in-none : (at : ℕ) (xs ys : List ℕ) → times at xs ≡ 0 → after_in at (xs ++ ys) ≡ after_in at ys
 after_in-none at [] ys h = refl
 after_in-none at (x ∷ xs) ys h = elim (cases_eq x at) [
@@ -168,6 +181,7 @@ after_in-none at (x ∷ xs) ys h = elim (cases_eq x at) [
   | inr other ↦ after_past at x (xs ++ ys) other ∙ after_in-none at xs ys (omega (arith, times-past at x xs other))
 ]
 
+-- where a number is in the first list, what stands behind it goes on with the whole second list
 pub after_in-some : (at : ℕ) (xs ys : List ℕ) → 0 < times at xs → after_in at (xs ++ ys) ≡ after_in at xs ++ ys
 after_in-some at [] ys h = absurd (omega arith)
 after_in-some at (x ∷ xs) ys h = elim (cases_eq x at) [
@@ -175,9 +189,11 @@ after_in-some at (x ∷ xs) ys h = elim (cases_eq x at) [
   | inr other ↦ after_past at x (xs ++ ys) other ∙ after_in-some at xs ys (omega (arith, times-past at x xs other)) ∙ ap (λ r. r ++ ys) (sym (after_past at x xs other))
 ]
 
+-- behind a number there stands the rest if it is the first, and else what stands behind it in the rest
 pub after_step : (at x : ℕ) (row rest : List ℕ) → row ≡ x ∷ rest → ((x ≡ at → after_in at row ≡ rest) × ((x ≡ at → ⊥) → after_in at row ≡ after_in at rest))
 after_step at x row rest is = (λ here. ap (after_in at) is ∙ cond-true _ _ _ (eq-eqb x at here), λ other. ap (after_in at) is ∙ after_past at x rest other)
 
+-- a number in the bucket of one of the turns is among what the turns give
 some_in : (older newer : List (List ℕ)) (v at n count first : ℕ) → first ≤ n → n < first + count → 0 < times at (turn_at older newer v n) → 0 < times at (turns_from older newer v count first)
 unfolding turns_from
 some_in older newer v at n zero first from to here = absurd (omega arith)
@@ -217,6 +233,7 @@ module _ {V : Type 0} (items : List (Option (Element V))) (older newer : List (L
     pub from : (e : Element V) → at_item items at ≡ Some e → first_block (bits_of (length (larger_of older newer))) v ≤ place e.hash / 2 ^ (64 - bits_of (length (larger_of older newer)))
     pub is_there : IsSome (at_item items at)
 
+  -- the larger table names only elements, each in the bucket of its hash
   names_larger : Names items (larger_of older newer)
   names_larger = go (nat_lt 0 (length newer) && nat_lt (length newer) (length older)) refl
     where
@@ -224,6 +241,7 @@ module _ {V : Type 0} (items : List (Option (Element V))) (older newer : List (L
       go true h = subst (Names items) (sym (cond-true _ older newer h)) s.of_older
       go false h = subst (Names items) (sym (cond-false _ older newer h)) s.of_newer
 
+  -- an element that a move gives, but not in its first turn, is given by the turn that its hash tells
   pub told_turn : (at : ℕ) → 0 < times at (turns_from older newer v (turns_of older newer v) 0) → (0 < times at (turn_at older newer v 0) → ⊥) → IsTold at
   told_turn at there other =
       let t = in_turn older newer v at (turns_of older newer v) 0 there in
@@ -252,18 +270,14 @@ module _ {V : Type 0} (items : List (Option (Element V))) (older newer : List (L
 
 -- ---- what was found stays
 
+-- a list extends itself
 pub extends_same : (old new : List ℕ) → new ≡ old → Extends old new
 extends_same old new same = record { more = []; is = same ∙ sym (append-nil old) }
 
+-- an extension with more appended is an extension
 pub extends_more : (old mid new more : List ℕ) → Extends old mid → new ≡ mid ++ more → Extends old new
 extends_more old mid new more e is = record { more = e.more ++ more; is = is ∙ ap (λ r. r ++ more) e.is ∙ append_assoc old e.more more }
 
+-- an extension of an extension is an extension
 pub extends_on : (old mid new : List ℕ) → Extends old mid → Extends mid new → Extends old new
 extends_on old mid new a b = extends_more old mid new b.more a b.is
-
-pub extends_taken : (old new : List ℕ) → Extends old new → take (length old) new ≡ old
-extends_taken old new e = ap (take (length old)) e.is ∙ front old e.more
-  where
-    front : (xs ys : List ℕ) → take (length xs) (xs ++ ys) ≡ xs
-    front [] ys = refl
-    front (x ∷ xs) ys = ap (λ r. x ∷ r) (front xs ys)
