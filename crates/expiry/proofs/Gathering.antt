@@ -113,9 +113,6 @@ module _ (t : Table ℕ) (moment : ℕ) (xs : List ℕ) where
   pub whole_found : (next : Option ℕ) (found : List BlockRef) → Gathers t moment xs next found → next ≡ None → found ≡ take 16 (gone_of t moment xs)
   whole_found next found g none = sym (take_few found 16 g.few) ∙ ap (take 16) (sym (all_met next found g none))
 
-  pub whole_few : (next : Option ℕ) (found : List BlockRef) → Gathers t moment xs next found → next ≡ None → length (gone_of t moment xs) ≤ 16
-  whole_few next found g none = omega (arith, ap length (all_met next found g none), g.few)
-
   -- one more is gone than the list has room for
   over : (at : ℕ) (found : List BlockRef) (key : BlockRef) (value : ℕ) → Gathers t moment xs (Some at) found → Holds t at key value → value < moment → gone_of t moment xs ≡ found ++ key ∷ gone_of t moment (after_in at xs)
   over at found key value g h lt =
