@@ -12,6 +12,7 @@ use Rattle.listpack.specs.Pack.{entries, region, Begins, IsRegionFault, IsPack, 
 use Rattle.listpack.proofs.Spellings.{spelling-pos, needed-append}
 use Rattle.listpack.proofs.Regions.{length-entry, one_stop, at_end, at_fault, fault_there}
 
+-- bytes have as many texts as spellings
 pub length-texts : (bytes : List ℕ) → length (texts bytes) ≡ length (spellings_of bytes)
 length-texts bytes = length-map (spellings_of bytes) text_of
 
@@ -26,6 +27,7 @@ whole bytes p =
     ∙ ap (λ (x : List ℕ). take 6 bytes ++ (x ++ drop n bytes)) p.all_entries
     ∙ ap (λ (x : List ℕ). take 6 bytes ++ (entries (spellings_of bytes) ++ x)) last
 
+-- the entries of spellings are those of the first i, then those of the others
 pub entries_split : (i : ℕ) (ss : List (List ℕ)) → entries ss ≡ entries (take i ss) ++ entries (drop i ss)
 entries_split i ss = ap entries (sym (take-append-drop i ss)) ∙ flat_map-append entry_of (take i ss) (drop i ss)
 
@@ -42,17 +44,20 @@ cut_at bytes i p =
     ∙ ap (λ (x : List ℕ). take 6 bytes ++ x) (append_assoc a b end)
     ∙ sym (append_assoc (take 6 bytes) a (b ++ end))
 
+-- the header and the entries before entry i are as long as its offset says
 pub length-front : (bytes : List ℕ) (i : ℕ) → IsPack bytes → length (take 6 bytes ++ entries (take i (spellings_of bytes))) ≡ offset_of bytes i
 length-front bytes i p =
     let header : 7 ≤ length bytes = p.header in
     let six = length-take-le 6 bytes (omega arith) in
     omega (arith, six, length-append (take 6 bytes) (entries (take i (spellings_of bytes))))
 
+-- the bytes before the offset of an entry are the header and the entries before it
 pub take-offset : (bytes : List ℕ) (i : ℕ) → IsPack bytes → take (offset_of bytes i) bytes ≡ take 6 bytes ++ entries (take i (spellings_of bytes))
 take-offset bytes i p =
     ap (take (offset_of bytes i)) (cut_at bytes i p)
     ∙ take_at (take 6 bytes ++ entries (take i (spellings_of bytes))) (entries (drop i (spellings_of bytes)) ++ 0xFF ∷ []) (offset_of bytes i) (length-front bytes i p)
 
+-- the bytes from the offset of an entry on are the entries from it on and the last byte
 pub drop-offset : (bytes : List ℕ) (i : ℕ) → IsPack bytes → drop (offset_of bytes i) bytes ≡ entries (drop i (spellings_of bytes)) ++ 0xFF ∷ []
 drop-offset bytes i p =
     ap (drop (offset_of bytes i)) (cut_at bytes i p)
@@ -69,24 +74,29 @@ length-offset bytes i p =
       length-append (entries (drop i (spellings_of bytes))) (0xFF ∷ []),
     )
 
+-- the entries from one on are that entry, then those behind it
 pub entries_from : (i : ℕ) (ss : List (List ℕ)) → i < length ss → entries (drop i ss) ≡ entry_of (get_or ss i []) ++ entries (drop (i + 1) ss)
 entries_from i ss h = ap entries (drop_more ss i [] h)
 
+-- the entries up to one, with it, are those before it, then that entry
 pub entries_upto : (i : ℕ) (ss : List (List ℕ)) → i < length ss → entries (take (i + 1) ss) ≡ entries (take i ss) ++ entry_of (get_or ss i [])
 entries_upto i ss h =
     ap entries (take_more ss i [] h)
     ∙ flat_map-append entry_of (take i ss) (get_or ss i [] ∷ [])
     ∙ ap (λ (x : List ℕ). entries (take i ss) ++ x) (append-nil (entry_of (get_or ss i [])))
 
+-- what is read for an entry of a listpack is a spelling, the whole of its encoding and content
 pub spelled : (bytes : List ℕ) (i : ℕ) → IsPack bytes → i < length (spellings_of bytes) → IsSpelling (get_or (spellings_of bytes) i [])
 spelled bytes i p h = All-get_or IsSpelling (spellings_of bytes) i [] h p.each
 
+-- the next entry's offset is this one's plus the lengths of its spelling and its back length
 pub offset_next : (bytes : List ℕ) (i : ℕ) → i < length (spellings_of bytes)
     → offset_of bytes (i + 1) ≡ offset_of bytes i + (length (get_or (spellings_of bytes) i []) + length (back_length (length (get_or (spellings_of bytes) i []))))
 offset_next bytes i h =
     let s = get_or (spellings_of bytes) i [] in
     omega (arith, ap length (entries_upto i (spellings_of bytes) h), length-append (entries (take i (spellings_of bytes))) (entry_of s), length-append s (back_length (length s)))
 
+-- a later entry has no smaller offset
 pub offset_rises : (bytes : List ℕ) (i j : ℕ) → i ≤ j → offset_of bytes i ≤ offset_of bytes j
 offset_rises bytes i j h =
     let ss = spellings_of bytes in
@@ -94,11 +104,13 @@ offset_rises bytes i j h =
     let front : take i (take j ss) ≡ take i ss = grind (arith, common_steps) in
     omega (arith, ap length both, length-append (entries (take i (take j ss))) (entries (drop i (take j ss))), ap (λ (x : List (List ℕ)). length (entries x)) front)
 
+-- each entry of a listpack begins before the last byte
 pub offset_inside : (bytes : List ℕ) (i : ℕ) → IsPack bytes → i < length (spellings_of bytes) → offset_of bytes i + 1 < length bytes
 offset_inside bytes i p h =
     let longer = length-entry (get_or (spellings_of bytes) i []) (entries (drop (i + 1) (spellings_of bytes))) (spelled bytes i p h) in
     omega (arith, length-offset bytes i p, ap length (entries_from i (spellings_of bytes) h), longer)
 
+-- the offset behind the last entry is that of the last byte
 pub offset_end : (bytes : List ℕ) (i : ℕ) → IsPack bytes → length (spellings_of bytes) ≤ i → offset_of bytes i + 1 ≡ length bytes
 offset_end bytes i p h =
     let none = ap entries (drop_all i (spellings_of bytes) h) in
@@ -131,6 +143,7 @@ found_at bytes s more i at p h e found own =
     ∙ append_assoc t (back_length (length t)) (entries (drop (i + 1) (spellings_of bytes))) in
     front_same s t more (back_length (length t) ++ entries (drop (i + 1) (spellings_of bytes))) own (spelled bytes i p inside) there
 
+-- from the offset of an entry on there are as many bytes before the last one as its spelling needs
 pub not_missing : (bytes : List ℕ) (i at : ℕ) → IsPack bytes → i < length (texts bytes) → at ≡ offset_of bytes i
     → length (take (length bytes - 1 - at) (drop at bytes)) < needed (take (length bytes - 1 - at) (drop at bytes)) → ⊥
 not_missing bytes i at p h e short =
@@ -177,6 +190,7 @@ counted bytes spellings p b =
     let same = one_stop spellings (spellings_of bytes) (region bytes) [] [] b (p.all_entries ∙ sym (append-nil (entries (spellings_of bytes))), p.each) (at_end refl) (at_end refl) in
     ap length same.0 ∙ sym (length-texts bytes)
 
+-- no entry of a listpack has a fault
 pub no_region_fault : (bytes : List ℕ) (fault : PackFault) → IsPack bytes → IsRegionFault (region bytes) fault → ⊥
 no_region_fault bytes fault p f =
     let same = one_stop (spellings_of bytes) f.0 (region bytes) [] f.1 (p.all_entries ∙ sym (append-nil (entries (spellings_of bytes))), p.each) f.2 (at_end refl) (at_fault fault f.3) in
@@ -191,6 +205,7 @@ step_at bytes s i at p h e same =
     let far = offset_next bytes i inside in
     (omega (arith, far, e, ap length same, ap (λ (x : List ℕ). length (back_length (length x))) same), omega (arith, length-offset bytes (i + 1) p))
 
+-- the offset of each entry but the first, and that of the last byte behind entries, is above 6
 pub offset_above : (bytes : List ℕ) (i : ℕ) → IsPack bytes → 0 < i → i ≤ length (texts bytes) → 6 < offset_of bytes i
 offset_above bytes i p some h =
     let j : ℕ = i - 1 in
@@ -198,6 +213,7 @@ offset_above bytes i p some h =
     let back : i ≡ j + 1 = omega arith in
     omega (arith, ap (offset_of bytes) back, offset_next bytes j inside, spelling-pos (get_or (spellings_of bytes) j []) (spelled bytes j p inside))
 
+-- a listpack has seven bytes exactly where it has no element
 pub empty : (bytes : List ℕ) → IsPack bytes → (length bytes ≡ 7 → length (texts bytes) ≡ 0) × (length (texts bytes) ≡ 0 → length bytes ≡ 7)
 empty bytes p = (
   λ seven. elim (cases_lt 0 (length (spellings_of bytes))) [
@@ -207,6 +223,7 @@ empty bytes p = (
   λ none. let far = offset_end bytes 0 p (omega (arith, length-texts bytes)) in omega (arith, far),
 )
 
+-- a number that fails a test which holds for zero is above zero
 pub is_some : (b : Bool) (n : ℕ) → (n ≡ 0 → b ≡ true) → b ≡ false → 0 < n
 is_some b zero says no_more = let t = says refl in cc
 is_some b (suc n) says no_more = omega arith

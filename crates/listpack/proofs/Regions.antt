@@ -43,15 +43,18 @@ scanned_more s bytes more own e t = elim t [
   | inr bad ↦ inr (bad.0, (s ∷ bad.1.0, bad.1.1, begins_more s bad.1.0 bytes bad.1.1 more own e bad.1.2, bad.1.3))
 ]
 
+-- bytes are their first n, then what the others begin with, then the rest
 parted : (w s back after : List ℕ) (n : ℕ) → s ≡ take n w → drop n w ≡ back ++ after → w ≡ (s ++ back) ++ after
 parted w s back after n front e =
     sym (take-append-drop n w) ∙ ap (λ (x : List ℕ). x ++ drop n w) (sym front) ∙ ap (λ (x : List ℕ). s ++ x) e ∙ sym (append_assoc s back after)
 
+-- bytes with an entry in front of them are longer by at least one
 pub length-entry : (s after : List ℕ) → IsSpelling s → length after + 1 ≤ length (entry_of s ++ after)
 length-entry s after own =
     let p = spelling-pos s own in
     omega (arith, p, length-append (entry_of s) after, length-append s (back_length (length s)))
 
+-- bytes that begin with a spelling are filled by entries or have a fault, where this holds of all shorter bytes
 first_scanned : (w s : List ℕ) (n : ℕ) → s ≡ take (needed w) w → IsSpelling s → 0 < length w → length w ≤ suc n → ((after : List ℕ) → length after ≤ n → Scanned after)
     → ((after : List ℕ) × (drop (needed w) w ≡ back_length (length s) ++ after)) ⊎ ((after : List ℕ) → drop (needed w) w ≢ back_length (length s) ++ after) → Scanned w
 first_scanned w s n front own some h ih t = elim t [
@@ -62,6 +65,7 @@ first_scanned w s n front own some h ih t = elim t [
   | inr lacks ↦ inr (faults.BackLength, ([], w, (refl, All-nil IsSpelling), (s, drop (needed w) w, sym (take-append-drop (needed w) w) ∙ ap (λ (x : List ℕ). x ++ drop (needed w) w) (sym front), own, lacks)))
 ]
 
+-- any bytes are filled by whole entries, or one entry has a fault
 pub scan : (n : ℕ) (bytes : List ℕ) → length bytes ≤ n → Scanned bytes
 scan n [] h = inl ([], (refl, All-nil IsSpelling))
 scan zero (b ∷ more) h = absurd (omega arith)
@@ -82,6 +86,7 @@ pub data Stop (rest : List ℕ) : Type 0 where
 front_needed : (s rest more : List ℕ) → IsSpelling s → rest ≡ s ++ more → needed rest ≡ length s
 front_needed s rest more own e = ap needed e ∙ needed-append s more own
 
+-- where bytes begin with a whole entry, that entry has no fault
 no_fault : (fault : PackFault) (s rest more : List ℕ) → IsSpelling s → rest ≡ entry_of s ++ more → IsEntryFault rest fault → ⊥
 no_fault faults.Short s rest more own e f = f
 no_fault faults.Total s rest more own e f = f
@@ -140,6 +145,7 @@ stripped rest s more p after e back same_bytes tail =
     sym (take-append-drop (length p) more) ∙ ap (λ (x : List ℕ). x ++ drop (length p) more) (front ∙ back) ∙ ap (λ (x : List ℕ). back_length (length s) ++ x) (sym tail) in
     e ∙ ap (λ (x : List ℕ). s ++ x) whole ∙ sym (append_assoc s (back_length (length s)) after)
 
+-- where the bytes behind a spelling differ from its back length, the entry lacks its back length
 pub not_stripped : (rest s more p : List ℕ) → rest ≡ s ++ more → IsSpelling s → p ≡ back_length (length s) → bytes_eq (take (length p) more) p ≡ false → LacksBackLength rest
 not_stripped rest s more p e own back differ = (
   s,
@@ -178,6 +184,7 @@ unfolding cut
 cut_cons n [] h = absurd (omega arith)
 cut_cons n (b ∷ more) h = refl
 
+-- no bytes read as no spellings
 cut_nil : (n : ℕ) → cut n [] ≡ []
 unfolding cut
 cut_nil zero = refl

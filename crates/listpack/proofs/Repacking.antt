@@ -22,6 +22,7 @@ use Rattle.listpack.proofs.ReadBack.{spelled}
 abbrev pub packed : ℕ → ℕ → List (List ℕ) → List ℕ
 packed n count spellings = little_bytes 4 n ++ (little_bytes 2 count ++ (entries spellings ++ 0xFF ∷ []))
 
+-- header, entries and last byte put together have these spellings, and tell this count
 made : (n count : ℕ) (ys : List (List ℕ)) → All IsSpelling ys → n ≡ 7 + length (entries ys) → n < 2 ^ 32 → count < 65536 → (count ≢ 65535 → count ≡ length ys)
     → HasSpellings (packed n count ys) ys × (told (packed n count ys) ≡ count)
 made n count ys each size small fits known =
@@ -53,6 +54,7 @@ made n count ys each size small fits known =
       told_is,
     )
 
+-- header, entries and last byte put together are a listpack of these spellings and this count
 pub edited_as : (bytes : List ℕ) (n count : ℕ) (ys : List (List ℕ)) → bytes ≡ packed n count ys → All IsSpelling ys → n ≡ 7 + length (entries ys) → n < 2 ^ 32
     → count < 65536 → (count ≢ 65535 → count ≡ length ys) → IsEdited bytes ys count
 edited_as bytes n count ys e each size small fits known =
@@ -64,9 +66,11 @@ edited_as bytes n count ys e each size small fits known =
 abbrev spliced : List (List ℕ) → ℕ → ℕ → List (List ℕ) → List (List ℕ)
 spliced ss i j xs = take i ss ++ (xs ++ drop j ss)
 
+-- spliced entries are those before i, then those put in, then those from j on
 entries_spliced : (ss xs : List (List ℕ)) (i j : ℕ) → entries (spliced ss i j xs) ≡ entries (take i ss) ++ (entries xs ++ entries (drop j ss))
 entries_spliced ss xs i j = flat_map-append entry_of (take i ss) (xs ++ drop j ss) ∙ ap (λ (x : List ℕ). entries (take i ss) ++ x) (flat_map-append entry_of xs (drop j ss))
 
+-- bytes with other entries between two offsets, and a new header, are a listpack of the spliced spellings
 edited : (old inner new : List ℕ) (xs : List (List ℕ)) (i j count : ℕ) → IsPack old → All IsSpelling xs
     → inner ≡ take (offset_of old i) old ++ (entries xs ++ drop (offset_of old j) old)
     → new ≡ little_bytes 4 (length inner) ++ (little_bytes 2 count ++ drop 6 inner)
@@ -92,9 +96,11 @@ edited old inner new xs i j count p each cut_as put_as small fits known =
     All-append IsSpelling (take i ss) (xs ++ drop j ss) (All-take IsSpelling i ss p.each) (All-append IsSpelling xs (drop j ss) each (All-drop IsSpelling j ss p.each)) in
     edited_as new (length inner) count (spliced ss i j xs) (put_as ∙ ap (λ (x : List ℕ). little_bytes 4 (length inner) ++ (little_bytes 2 count ++ x)) behind) made_of size small fits known
 
+-- the writer's spelling of a text shorter than 2^32 bytes is a spelling, as a list of one
 one_spelled : (text : List ℕ) → length text < 2 ^ 32 → All IsSpelling (spelling text ∷ [])
 one_spelled text h = All-cons IsSpelling (spelling text) [] (spelled text h).0 (All-nil IsSpelling)
 
+-- a count that is told after one element more is the number of entries before and one
 more_known : (old : List ℕ) (count : ℕ) → IsPack old → count ≡ one_more (told old) → count ≢ 65535 → count ≡ length (spellings_of old) + 1
 more_known old count p e no_mark =
     let mark : told old ≢ 65535 = λ m. no_mark (omega (arith, e, m)) in
@@ -105,9 +111,11 @@ more_known old count p e no_mark =
 marked : (n removed : ℕ) → n ≡ 65535 → fewer n removed ≡ n
 marked n removed m = grind (arith, nat_tests)
 
+-- a count that is told falls by the number of elements that are removed
 unmarked : (n removed : ℕ) → n ≢ 65535 → fewer n removed ≡ n - removed
 unmarked n removed m = grind (arith, nat_tests)
 
+-- a count that is told after a removal is the number of entries before less those removed
 fewer_known : (old : List ℕ) (removed count : ℕ) → IsPack old → removed ≤ length (spellings_of old) → count ≡ fewer (told old) removed → count ≢ 65535 → count + removed ≡ length (spellings_of old)
 fewer_known old removed count p some e no_mark = elim (cases_eq (told old) 65535) [
   | inl mark ↦ absurd (no_mark (e ∙ marked (told old) removed mark ∙ mark))
@@ -118,6 +126,7 @@ fewer_known old removed count p some e no_mark = elim (cases_eq (told old) 65535
 pub told_enough : (old : List ℕ) (count removed : ℕ) → IsPack old → count ≡ told old → removed ≤ length (texts old) → count ≢ 65535 → removed ≤ count
 told_enough old count removed p e some no_mark = omega (arith, e, p.count (λ m. no_mark (e ∙ m)), length-texts old)
 
+-- bytes with an entry put in at the offset of entry i, and a new header, are a listpack with its spelling at i
 pub inserted : (old inner new text : List ℕ) (i count : ℕ) → IsPack old → i ≤ length (texts old) → length text < 2 ^ 32
     → inner ≡ take (offset_of old i) old ++ (entry text ++ drop (offset_of old i) old)
     → new ≡ little_bytes 4 (length inner) ++ (little_bytes 2 count ++ drop 6 inner)
@@ -131,6 +140,7 @@ inserted old inner new text i count p h short cut_as put_as small e =
     put_as small room
     (λ no_mark. omega (arith, more_known old count p e no_mark, length-insert (spellings_of old) i (spelling text) (omega (arith, length-texts old)))))
 
+-- bytes with an entry put in before the last byte, and a new header, are a listpack with its spelling at the end
 pub appended : (old inner new text : List ℕ) (at count : ℕ) → IsPack old → length text < 2 ^ 32 → at ≡ length old - 1
     → inner ≡ take at old ++ (entry text ++ drop at old)
     → new ≡ little_bytes 4 (length inner) ++ (little_bytes 2 count ++ drop 6 inner)
@@ -161,6 +171,7 @@ replaced old inner new text i count p h short cut_as put_as small room e =
     put_as small room
     (λ no_mark. omega (arith, e, p.count (λ m. no_mark (e ∙ m)), ap length shape, length-set ss i (spelling text)))))
 
+-- bytes without those from offset i to offset j, with a new header, are a listpack without entries i to below j
 pub taken_out : (old inner new : List ℕ) (i j count : ℕ) → IsPack old → i ≤ j → j ≤ length (texts old)
     → inner ≡ take (offset_of old i) old ++ drop (offset_of old j) old
     → new ≡ little_bytes 4 (length inner) ++ (little_bytes 2 count ++ drop 6 inner)
@@ -174,6 +185,7 @@ taken_out old inner new i j count p order inside cut_as put_as small room e =
     (edited old inner new [] i j count p (All-nil IsSpelling) cut_as put_as small room
     (λ no_mark. omega (arith, fewer_known old (j - i) count p (omega arith) e no_mark, left)))
 
+-- bytes without those of entry i, with a new header, are a listpack without that entry
 pub one_taken_out : (old inner new : List ℕ) (i count : ℕ) → IsPack old → i < length (texts old)
     → inner ≡ take (offset_of old i) old ++ drop (offset_of old (i + 1)) old
     → new ≡ little_bytes 4 (length inner) ++ (little_bytes 2 count ++ drop 6 inner)
@@ -200,14 +212,17 @@ texts_inserted old new text i count t short =
     ∙ ap (λ (x : List (List ℕ)). take i (texts old) ++ (text_of s ∷ x)) (sym (drop-map text_of i ss))
     ∙ ap (λ (x : List ℕ). take i (texts old) ++ (x ∷ drop i (texts old))) (spelled text short).1
 
+-- a listpack with the spelling of a text at the end has that text at the end
 pub texts_appended : (old new text : List ℕ) (count : ℕ) → IsEdited new (spellings_of old ++ spelling text ∷ []) count → length text < 2 ^ 32 → texts new ≡ texts old ++ text ∷ []
 texts_appended old new text count t short =
     ap (map text_of) t.entries ∙ map-append text_of (spellings_of old) (spelling text ∷ []) ∙ ap (λ (x : List ℕ). texts old ++ x ∷ []) (spelled text short).1
 
+-- a listpack with the spelling of a text in place of entry i has that text in place of element i
 pub texts_replaced : (old new text : List ℕ) (i count : ℕ) → IsEdited new (set (spellings_of old) i (spelling text)) count → length text < 2 ^ 32 → texts new ≡ set (texts old) i text
 texts_replaced old new text i count t short =
     ap (map text_of) t.entries ∙ map-set text_of (spellings_of old) i (spelling text) ∙ ap (set (texts old) i) (spelled text short).1
 
+-- a listpack without the spellings from i to below j has the texts without those
 pub texts_taken_out : (old new : List ℕ) (i j count : ℕ) → IsEdited new (remove_range (spellings_of old) i j) count → texts new ≡ remove_range (texts old) i j
 texts_taken_out old new i j count t =
     let ss = spellings_of old in
@@ -215,6 +230,7 @@ texts_taken_out old new i j count t =
     ∙ ap (λ (x : List (List ℕ)). x ++ map text_of (drop j ss)) (sym (take-map text_of i ss))
     ∙ ap (λ (x : List (List ℕ)). take i (texts old) ++ x) (sym (drop-map text_of j ss))
 
+-- a text whose entry fits beside a listpack below 2^32 bytes is shorter than 2^32 bytes
 pub element_fits : (pack text : List ℕ) → length pack + length (entry text) < 2 ^ 32 → length text < 2 ^ 32
 element_fits pack text h = element_short text (omega (arith, h, length-append (spelling text) (back_length (length (spelling text)))))
 
@@ -224,6 +240,7 @@ length_put_is old inner text at e =
     let whole = ap length (take-append-drop at old) in
     omega (arith, ap length e, length-append (take at old) (entry text ++ drop at old), length-append (entry text) (drop at old), whole, length-append (take at old) (drop at old))
 
+-- with an entry put in, bytes are fewer than 2^32 where they and the entry together are
 pub length-put : (old inner text : List ℕ) (at : ℕ) → inner ≡ take at old ++ (entry text ++ drop at old) → length old + length (entry text) < 2 ^ 32 → length inner < 2 ^ 32
 length-put old inner text at e h = omega (arith, length_put_is old inner text at e, h)
 
@@ -232,6 +249,7 @@ pub length-exchanged : (old inner text : List ℕ) (at size : ℕ) → inner ≡
 length-exchanged old inner text at size e h inside =
     omega (arith, ap length e, length-append (take at old) (entry text ++ drop (at + size) old), length-append (entry text) (drop (at + size) old), length-take-le at old (omega arith), length-drop (at + size) old)
 
+-- bytes fewer than 2^32 stay so without a part of them
 pub length-cut : (old inner : List ℕ) (at size : ℕ) → inner ≡ take at old ++ drop (at + size) old → at + size ≤ length old → length old < 2 ^ 32 → length inner < 2 ^ 32
 length-cut old inner at size e inside h =
     omega (arith, ap length e, length-append (take at old) (drop (at + size) old), length-take-le at old (omega arith), length-drop (at + size) old)
