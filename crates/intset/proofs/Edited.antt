@@ -34,10 +34,12 @@ headed head packed count four fits =
       long = omega (arith, length-append head (little_bytes 4 count ++ packed), length-append (little_bytes 4 count) packed);
     }
 
+-- the first bytes, where they are at least four, tell the width of the whole
 width_of-take : (n : ℕ) (bytes : List ℕ) → 4 ≤ n → width_of (take n bytes) ≡ width_of bytes
 unfolding width_of
 width_of-take n bytes h = little_from-take 0 4 n bytes h
 
+-- bytes put behind at least four others leave the told width
 width_of-append : (xs ys : List ℕ) → 4 ≤ length xs → width_of (xs ++ ys) ≡ width_of xs
 unfolding width_of
 width_of-append xs ys h = little_from-append 4 xs ys h
@@ -211,10 +213,12 @@ unfolding width_of
 fresh_width bytes width sized is =
     ap (little_number 4) is ∙ little_number-reads_back 4 width (0 ∷ 0 ∷ 0 ∷ 0 ∷ []) (let high = width_high width sized in omega arith)
 
+-- the head alone tells a count of zero
 pub fresh_count : (bytes : List ℕ) (width : ℕ) → bytes ≡ little_bytes 4 width ++ (0 ∷ 0 ∷ 0 ∷ 0 ∷ []) → count_of bytes ≡ 0
 unfolding count_of
 fresh_count bytes width is = ap (λ xs. little_number 4 (drop 4 xs)) is
 
+-- the head alone is the intset of no numbers
 pub fresh_intset : (bytes : List ℕ) (width : ℕ) → IsWidth width → bytes ≡ little_bytes 4 width ++ (0 ∷ 0 ∷ 0 ∷ 0 ∷ []) → IsIntset bytes []
 fresh_intset bytes width sized is =
     let told = fresh_width bytes width sized is in
@@ -227,6 +231,7 @@ fresh_intset bytes width sized is =
       rising = λ i j d below within. absurd (omega arith);
     }
 
+-- numbers that are the same as options are the same
 some_same : {x y : ℤ} → Some x ≡ Some y → x ≡ y
 some_same e = cc
 

@@ -46,16 +46,6 @@ between-lower numbers n low high middle x rising between over under found more =
   ];
 }
 
--- where nothing is left to search, the place is found
-pub between-place : (numbers : List ℤ) (n : ℤ) (low high : ℕ) → IsBetween numbers n low high → high ≤ low → IsPlace numbers n low
-between-place numbers n low high between closed =
-    let same : high ≡ low = let o = between.ordered in omega arith in
-    record {
-      within = let w = between.within in omega arith;
-      before = between.before;
-      after = λ k d from upto. between.after k d (omega arith) upto;
-    }
-
 -- a number that has a place is not among the numbers
 pub place-absent : (numbers : List ℤ) (n : ℤ) (place k : ℕ) (d : ℤ) → IsPlace numbers n place → k < length numbers → get_or numbers k d ≡ n → ⊥
 place-absent numbers n place k d at within same = elim (cases_lt k place) [

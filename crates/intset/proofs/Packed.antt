@@ -57,10 +57,7 @@ pub numbers_of-is : (bytes : List ℕ) → numbers_of bytes ≡ packed_numbers (
 unfolding numbers_of
 numbers_of-is bytes = refl
 
--- a width is from two to eight
-pub width_low : (width : ℕ) → IsWidth width → 2 ≤ width
-width_low width sized = elim sized [ inl e ↦ omega arith | inr more ↦ elim more [ inl e ↦ omega arith | inr e ↦ omega arith ] ]
-
+-- a width is at most eight
 pub width_high : (width : ℕ) → IsWidth width → width ≤ 8
 width_high width sized = elim sized [ inl e ↦ omega arith | inr more ↦ elim more [ inl e ↦ omega arith | inr e ↦ omega arith ] ]
 
