@@ -18,6 +18,7 @@ use Rattle.stream_groups.specs.Consumers.{Name, bytes_of, listed, names_of, Rise
 use Rattle.stream_groups.proofs.Orders.{name_total, name_same}
 use Rattle.stream_groups.proofs.Maps.{both, first, second, less, equal, swapped, find_below}
 
+-- two names compared the other way round give the reverse order
 turned : (x y : List ℕ) (r : Ordering) → name_cmp y x ≡ r → name_cmp x y ≡ ordering_reverse r
 turned x y r e = name_total.antisymm x y ∙ ap ordering_reverse e
 
@@ -25,9 +26,11 @@ turned x y r e = name_total.antisymm x y ∙ ap ordering_reverse e
 untied : (r : Ordering) → r ≡ Less → is_eq (ordering_reverse r) ≡ false
 untied r e = ap (λ o. is_eq (ordering_reverse o)) e
 
+-- a comparison that says greater is no tie the other way round
 untied_above : (r : Ordering) → r ≡ Greater → is_eq (ordering_reverse r) ≡ false
 untied_above r e = ap (λ o. is_eq (ordering_reverse o)) e
 
+-- two names of the same bytes are a tie
 tied : (x y : List ℕ) → x ≡ y → eq_by_cmp name_cmp y x ≡ true
 tied x y e = ap (λ z. eq_by_cmp name_cmp y z) e ∙ ap is_eq (tied_itself name_total y)
 
@@ -111,6 +114,7 @@ below-at x [] name at h is = absurd (omega (arith, is.in_range))
 below-at x (y ∷ names) name zero h is = ap (name_cmp x) (sym (is.here y)) ∙ less _ (first _ _ h)
 below-at x (y ∷ names) name (suc at) h is = below-at x names name at (second _ _ h) (record { in_range = omega (arith, is.in_range); here = is.here })
 
+-- a name below all others is below them without one of them
 below-without : (x : List ℕ) (names : List Name) (at : ℕ) → T (below_all name_cmp x (listed names)) → T (below_all name_cmp x (listed (removed names at)))
 below-without x [] zero h = tt
 below-without x [] (suc at) h = tt
@@ -124,6 +128,7 @@ rise-without [] (suc at) h = tt
 rise-without (y ∷ names) zero h = second _ _ h
 rise-without (y ∷ names) (suc at) h = both _ _ (below-without (bytes_of y) names at (first _ _ h)) (rise-without names at (second _ _ h))
 
+-- without the name at a place, that name is found no more, and each other is found as before
 find-without : (names : List Name) (name p : List ℕ) (at : ℕ) → Rise names → IsAt names name at → find name_cmp p (listed (removed names at)) ≡ cond (eq_by_cmp name_cmp p name) None (find name_cmp p (listed names))
 find-without [] name p at rise is = absurd (omega (arith, is.in_range))
 find-without (x ∷ names) name p zero rise is = elim (cases_Bool (eq_by_cmp name_cmp p name)) [
@@ -149,6 +154,7 @@ remove-unknown names name is = map.same_map name_total name_same _ _ (λ q. map.
 
 -- ---- the search
 
+-- a name below all others is less than the one at each place
 below-each : (x : List ℕ) (names : List Name) (j : ℕ) (d : Name) → T (below_all name_cmp x (listed names)) → j < length names → name_cmp x (bytes_of (get_or names j d)) ≡ Less
 below-each x [] j d h within = absurd (omega arith)
 below-each x (y ∷ names) zero d h within = less _ (first _ _ h)
@@ -168,6 +174,7 @@ lower_first x y name below = by (name_cmp y name) refl
     by Equal e = subst (λ n. ordering_index (name_cmp x n) ≤ 1) (name_same y name e) (subst (λ r. ordering_index r ≤ 1) (sym below) (omega arith))
     by Greater e = two (name_cmp x name)
 
+-- along names that rise, the comparisons with one name never go down
 comparisons_rise : (names : List Name) (name : List ℕ) → Rise names → IsNonDecreasingBy (λ (known : Name). ordering_index (name_cmp (bytes_of known) name)) names
 comparisons_rise [] name rise i j d le within = absurd (omega arith)
 comparisons_rise (x ∷ names) name rise zero zero d le within = omega arith
@@ -184,6 +191,7 @@ searched names name rise (Err at) in_range parted = record {
   absent = record { in_range = in_range; lower = (parted (comparisons_rise names name rise)).0; higher = (parted (comparisons_rise names name rise)).1 };
 }
 
+-- the name that stands at a place is the one read there
 here-at : (names : List Name) (name : List ℕ) (at : ℕ) → IsAt names name at → option_map bytes_of (slice_get names at) ≡ Some name
 here-at [] name at is = absurd (omega (arith, is.in_range))
 here-at (x ∷ names) name zero is = ap Some (is.here x)
@@ -191,13 +199,16 @@ here-at (x ∷ names) name (suc at) is = here-at names name at (record { in_rang
 
 -- ---- the consumers as they are seen
 
+-- the set of no names is empty
 pub names-none : (names : List Name) → names ≡ [] → names_of names ≡ map.empty
 names-none names none = ap names_of none ∙ map.same_map name_total name_same _ _ (λ q. names-get [] q tt ∙ sym (map.get-empty name_cmp q))
 
 module _ (names : List Name) (seen : Names) (name : List ℕ) (at : ℕ) (rise : Rise names) (view : names_of names ≡ seen) where
+  -- the set has a name that stands at a place
   pub get-known : IsAt names name at → map.get seen name ≡ Some tt
   get-known is = ap (λ m. map.get m name) (sym view) ∙ names-get names name rise ∙ found-at names name at is
 
+  -- the set has nothing at a name that has a gap
   pub get-unknown : IsGap names name at → map.get seen name ≡ None
   get-unknown is = ap (λ m. map.get m name) (sym view) ∙ names-get names name rise ∙ missed-gap names name at is
 

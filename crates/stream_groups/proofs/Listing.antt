@@ -55,10 +55,6 @@ ids-seen consumer above limit es pending rising view = ap (λ xs. take limit (li
 pub owned-hit : (consumer : List ℕ) (e : Id × Handed) (es : List (Id × Handed)) → is_of consumer (seen_as e) ≡ true → owned_ids consumer (e ∷ es) ≡ e.0 ∷ owned_ids consumer es
 owned-hit consumer e es hit = ap (λ b. list_map (λ (x : Id × Pending). x.0) (cond b (seen_as e ∷ filter (is_of consumer) (list_map seen_as es)) (filter (is_of consumer) (list_map seen_as es)))) hit
 
--- An id of another consumer.
-pub owned-miss : (consumer : List ℕ) (e : Id × Handed) (es : List (Id × Handed)) → is_of consumer (seen_as e) ≡ false → owned_ids consumer (e ∷ es) ≡ owned_ids consumer es
-owned-miss consumer e es miss = ap (λ b. list_map (λ (x : Id × Pending). x.0) (cond b (seen_as e ∷ filter (is_of consumer) (list_map seen_as es)) (filter (is_of consumer) (list_map seen_as es)))) miss
-
 -- One more id is listed.
 pub listed-hit : (ids : List Id) (id : Id) (left : ℕ) (rest all : List Id) → 0 < left → ids ++ take left (id ∷ rest) ≡ all → (ids ++ id ∷ []) ++ take (left - 1) rest ≡ all
 listed-hit ids id zero rest all some is = absurd (omega arith)

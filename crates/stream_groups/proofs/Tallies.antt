@@ -81,7 +81,3 @@ tally-step counts new e rest all small t is = record { sums = λ q. (at q).0; so
             get ∙ t.some q ∙ ap (λ o. some_if_any (unwrap_or o 0)) (sym get),
           ))
     ]
-
--- All was counted.
-pub tally-done : (counts : FinMap name_cmp ℕ) (all : List (Id × Pending)) → IsTallying counts [] all → (q : List ℕ) → map.get counts q ≡ some_if_any (count_by (is_of q) all)
-tally-done counts all t q = t.some q ∙ ap some_if_any (omega (arith, t.sums q))
