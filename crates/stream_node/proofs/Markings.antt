@@ -26,9 +26,11 @@ unfolding behind_entries
 behind_suc master zero list = refl
 behind_suc master (suc n) list = behind_suc master n (behind_entry master list)
 
+-- what stands behind one entry more is what stands behind the entry that comes next
 pub behind_push : (master : Texts) (n : ℕ) (list : Texts) → behind_entries master (n + 1) list ≡ behind_entry master (behind_entries master n list)
 behind_push master n list = let one : n + 1 ≡ suc n = omega arith in ap (λ (k : ℕ). behind_entries master k list) one ∙ behind_suc master n list
 
+-- behind no entry stands the whole list
 pub behind_none : (master list : Texts) → list ≡ behind_entries master 0 list
 unfolding behind_entries
 behind_none master list = refl
@@ -74,6 +76,7 @@ pub record IsFront (key : Id) (master : Texts) (list : Texts) (e : Stored) (rest
   pub list_is : list ≡ front ++ rest
   pub other : (more : Texts) → IsEntry key master (front ++ more) e more
 
+-- the elements of an entry, cut off from those behind them, are that entry before any others too
 entry_front : (key : Id) (master list : Texts) (e : Stored) (rest : Texts) → IsEntry key master list e rest → IsFront key master list e rest
 entry_front key master list e rest is =
     let s = is.start in
@@ -110,6 +113,7 @@ pub record HasMark (key : Id) (master : Texts) (before : Option Id) (list : Text
   pub many : length (mark_at es i) ≡ length es
   pub fewer : deleted ≡ false → marked es < length es
 
+-- no more entries are marked deleted than there are
 few_marked : (es : List Stored) → marked es ≤ length es
 unfolding marked
 few_marked [] = omega arith
@@ -119,10 +123,12 @@ few_marked (e ∷ es) = by_mark e.deleted es (few_marked es)
     by_mark true es h = omega (arith, h)
     by_mark false es h = omega (arith, h)
 
+-- to mark an entry that has no mark adds one to the marks, which were fewer than the entries
 one_mark : (b : Bool) (m n : ℕ) → b ≡ false → m ≤ n → (1 + m ≡ (if b then 1 else 0) + m + 1) × ((if b then 1 else 0) + m < suc n)
 one_mark true m n e h = let never : ⊥ = cc in absurd never
 one_mark false m n e h = (omega arith, omega (arith, h))
 
+-- each entry has its flags somewhere in the list, and with their mark the list has that entry marked
 pub has_mark : (key : Id) (master : Texts) (before : Option Id) (list : Texts) (es : List Stored) (i : ℕ) → Begins key master before list es [] → i < length es → HasMark key master before list es i
 unfolding Begins behind_entries mark_at marked
 has_mark key master before list [] i b inside = absurd (omega arith)
@@ -186,6 +192,7 @@ pub record NodeBehind (key : Id) (live : ℕ) (deleted : ℕ) (master : Texts) (
   pub count_is : length es ≡ live + deleted
   pub marks : marked es ≡ deleted
 
+-- behind each head that is read of a node stand its entries, by the head's fields and counts
 pub node_behind : (key : Id) (list : Texts) (es : List Stored) (live deleted : ℕ) (master first : Texts) → Node key list es → IsHead list live deleted master first → NodeBehind key live deleted master first es
 node_behind key list es live deleted master first n head =
     let same = one_head list n.live n.deleted live deleted n.master n.behind master first n.head head in
@@ -195,6 +202,7 @@ node_behind key list es live deleted master first n head =
       marks = n.marks ∙ same.deleted_same;
     }
 
+-- an index at which an entry stands is below the number of entries
 pub get_inside : (es : List Stored) (i : ℕ) (e : Stored) → slice_get es i ≡ Some e → i < length es
 get_inside [] i e h = let never : ⊥ = cc in absurd never
 get_inside (x ∷ es) zero e h = omega arith
@@ -210,6 +218,7 @@ pub record IsFound (key : Id) (list : Texts) (index : ℕ) (live : ℕ) (deleted
   pub some_live : 1 ≤ live
   pub node : Node key ((number (live - 1) ∷ number (deleted + 1) ∷ second) ++ number (flags true same) ∷ tail) (mark_at es index)
 
+-- a head with one live entry less and one deleted more is a head, whatever follows it
 marked_head : (live deleted : ℕ) (master first : Texts) (list : Texts) → IsHead list live deleted master first → deleted + 1 < 2 ^ 63 → (other : Texts)
     → IsHead (number (live - 1) ∷ number (deleted + 1) ∷ number (length master) ∷ (master ++ number 0 ∷ other)) (live - 1) (deleted + 1) master other
 marked_head live deleted master first list h few other = record {
@@ -220,6 +229,7 @@ marked_head live deleted master first list h few other = record {
   elements = refl;
 }
 
+-- an entry whose flags have no mark is found in the whole list, and so is the node with its mark
 found_by : (key : Id) (list : Texts) (index live deleted : ℕ) (master first : Texts) (es : List Stored) → IsHead list live deleted master first → NodeBehind key live deleted master first es → length list < 2 ^ 32
     → (m : HasMark key master None first es index) → m.deleted ≡ false → IsFound key list index live deleted master first es
 found_by key list index live deleted master first es head n short m unmarked =
@@ -256,12 +266,15 @@ found_by key list index live deleted master first es head n short m unmarked =
       };
     }
 
+-- the first element of a list, or an empty text where there is none
 abbrev first_of : Texts → List ℕ
 first_of x = get_or x 0 []
 
+-- two answers of one option are the same
 same_some : (a b : Stored) (o : Option Stored) → o ≡ Some a → o ≡ Some b → a ≡ b
 same_some a b o e f = let both : Some a ≡ Some b = sym e ∙ f in cc
 
+-- an entry that can be marked is found at its index, by any head that is read of its node
 pub found : (key : Id) (list : Texts) (index live deleted : ℕ) (master first : Texts) → CanMark key list index → IsHead list live deleted master first → length list < 2 ^ 32
     → IsFound key list index live deleted master first (entries_of key list)
 found key list index live deleted master first can head short =
@@ -290,10 +303,12 @@ element_at : (front tail : Texts) (x : List ℕ) → element (front ++ x ∷ tai
 element_at [] tail x = refl
 element_at (y ∷ front) tail x = element_at front tail x
 
+-- to set the element behind a front exchanges that one alone
 set_at : (front tail : Texts) (x y : List ℕ) → slice_set (front ++ x ∷ tail) (length front) y ≡ front ++ y ∷ tail
 set_at [] tail x y = refl
 set_at (z ∷ front) tail x y = ap (λ (l : Texts). z ∷ l) (set_at front tail x y)
 
+-- the flags of an entry that is marked are one more than without the mark
 flags_marked : (same : Bool) → flags false same + 1 ≡ flags true same
 flags_marked true = refl
 flags_marked false = refl
@@ -314,6 +329,7 @@ flags_read key list index live deleted master first es f =
     let front : Texts = number live ∷ number deleted ∷ f.second in
     ap (λ (x : Texts). count (element x (suc (suc (length f.second))))) f.list_is ∙ ap count (element_at front f.tail (number (flags false f.same))) ∙ count_back (flags false f.same) (few_flags false f.same)
 
+-- the place of the flags, the flags with the mark and the changed counts are what is to be written
 pub marks_are : (key : Id) (list rest more : Texts) (index live deleted n at : ℕ) (master first : Texts) (es : List Stored) → IsHead list live deleted master first → IsFound key list index live deleted master first es
     → rest ≡ behind_entries master index first → rest ≡ number n ∷ more → n < 2 ^ 63 → at ≡ length list - length rest
     → AreMarks list index (record { at = at; flags = n + 1; live = live - 1; deleted = deleted + 1 })
@@ -354,6 +370,7 @@ marked_list key list index live deleted master first es head f =
     ∙ set_at (a ∷ b ∷ f.second) f.tail (number (flags false f.same)) c in
     subst (λ (x : Texts). Node key x (mark_at es index)) (sym all) f.node
 
+-- with the counts and the flags exchanged, a list that is a node of any key has the entry marked
 pub mark_all : (key other : Id) (list : Texts) (index : ℕ) → CanMark key list index → IsNode other list → length list < 2 ^ 32
     → Node other (exchanged list (flags_at list index) (less_live list) (more_deleted list) (marked_flags list (flags_at list index))) (mark_at (entries_of other list) index)
 mark_all key other list index can node short =
@@ -394,6 +411,7 @@ is_marked key old new index marks can short m e =
       spelled = e.spelled ∙ spelled_as old index marks m flag;
     }
 
+-- what stands behind the entries before the found one is no longer than the whole list
 pub rest_inside : (key : Id) (list rest : Texts) (index live deleted : ℕ) (master first : Texts) (es : List Stored) → IsFound key list index live deleted master first es → rest ≡ behind_entries master index first
     → length rest ≤ length list
 rest_inside key list rest index live deleted master first es f is =

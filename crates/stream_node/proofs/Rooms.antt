@@ -29,6 +29,7 @@ use Rattle.stream_node.proofs.Appendings.{written_end}
 use Rattle.stream_node.proofs.Lists.{Texts}
 use Rattle.stream_node.proofs.Written.{written, written-append, length-pack, length-values, length-own}
 
+-- a back length takes at most 5 bytes
 back_short : (n : ℕ) → length (back_length n) ≤ 5
 unfolding back_length
 back_short n = grind (arith, nat_tests)
@@ -37,6 +38,7 @@ back_short n = grind (arith, nat_tests)
 low_bytes_are : (b k n : ℕ) → length (b ∷ little_bytes k n) ≡ suc k
 low_bytes_are b k n = omega (arith, length-bytes_low_first 0 k n)
 
+-- the spelling of a number takes at most 9 bytes
 number_short : (n : ℤ) → length (number_spelling n) ≤ 9
 unfolding number_spelling
 number_short n =
@@ -56,6 +58,7 @@ number_short n =
     by_tests false false false false true u v w x y z a b c d e f = e
     by_tests false false false false false u v w x y z a b c d e f = f
 
+-- the encoding of a string before its content takes at most 5 bytes
 head_short : (n : ℕ) → length (text_head n) ≤ 5
 unfolding text_head
 head_short n = let d = low_bytes_are 0xF0 4 n in grind (arith, nat_tests, d)
@@ -70,9 +73,11 @@ entry_most text =
       | inr some ↦ omega (arith, whole, back_short (length s), ap length (spelling_as text (Some some.0) some.1), number_short some.0)
     ]
 
+-- as an entry of a listpack, a number below 2^64 takes at most 34 bytes
 count_most : (n : ℕ) → n < 2 ^ 64 → length (entry (number n)) ≤ 34
 count_most n small = omega (arith, entry_most (number n), length-decimal-le 20 n (omega arith) (omega (arith, small)) small)
 
+-- as an entry of a listpack, a signed number of 64 bits takes at most 34 bytes
 signed_most : (n : ℤ) → FitsSigned w64 n → length (entry (canonical n)) ≤ 34
 signed_most n fits = omega (arith, entry_most (canonical n), canonical_length n fits)
 
@@ -83,6 +88,7 @@ read_small text = elim (NumberOf.number_cases text) [
   | inr some ↦ let fits = some.2 in omega (arith, ap (λ (o : Option ℤ). mag (unwrap_or o (pos 0))) some.1, fits.sfits)
 ]
 
+-- elements take the bytes of the first one and those of the others
 written_cons : (x : List ℕ) (xs : Texts) → written (x ∷ xs) ≡ length (entry x) + written xs
 written_cons x xs = length-append (entry x) (entries (map spelling xs))
 
@@ -100,6 +106,7 @@ fields_and_values (p ∷ pairs) =
       entry_most p.1,
     )
 
+-- fields and values, alternating, take no more bytes than are told for the pairs
 flat_most : (pairs : List Pair) → written (flat pairs) ≤ sum_by pair_bytes pairs
 flat_most [] = omega arith
 flat_most (p ∷ pairs) =
@@ -113,14 +120,17 @@ flat_most (p ∷ pairs) =
       entry_most p.1,
     )
 
+-- there are no more pairs than bytes told for them
 many_most : (pairs : List Pair) → length pairs ≤ sum_by pair_bytes pairs
 many_most [] = omega arith
 many_most (p ∷ pairs) = omega (arith, many_most pairs, sum_by-cons pair_bytes p pairs)
 
+-- the flags of an entry that is not marked take at most 34 bytes
 flags_most : (same : Bool) → length (entry (number (flags false same))) ≤ 34
 flags_most true = count_most 2 (omega arith)
 flags_most false = count_most 0 (omega arith)
 
+-- the flags and the two differences of an entry take at most 102 bytes
 start_most : (key id : Id) (same : Bool) → written (start_texts key id same) ≤ 102
 start_most key id same =
     let ms = canonical (difference id.ms key.ms) in
@@ -135,6 +145,7 @@ start_most key id same =
       signed_most (difference id.seq key.seq) (difference_fits id.seq key.seq),
     )
 
+-- pairs with fields of their own take at most 68 bytes more than are told for them
 body_own : (pairs : List Pair) → sum_by pair_bytes pairs < 2 ^ 32 → written (body_texts false pairs) ≤ sum_by pair_bytes pairs + 68
 body_own pairs small =
     let end = number (size (body false pairs)) in
@@ -149,6 +160,7 @@ body_own pairs small =
       count_most (size (body false pairs)) (omega (arith, small, many_most pairs, length-own pairs)),
     )
 
+-- pairs whose fields are the node's take at most 34 bytes more than their values
 body_same : (pairs : List Pair) → sum_by pair_bytes pairs < 2 ^ 32 → written (body_texts true pairs) ≤ written (body true pairs) + 34
 body_same pairs small =
     let end = number (size (body true pairs)) in
@@ -159,12 +171,14 @@ body_same pairs small =
       count_most (size (body true pairs)) (omega (arith, small, many_most pairs, length-values pairs)),
     )
 
+-- an entry takes at most 170 bytes more than are told for its pairs
 entry_bytes : (key id : Id) (same : Bool) (pairs : List Pair) → sum_by pair_bytes pairs < 2 ^ 32 → written (entry_texts key id same pairs) ≤ sum_by pair_bytes pairs + 170
 entry_bytes key id true pairs small =
     omega (arith, written-append (start_texts key id true) (body_texts true pairs), start_most key id true, body_same pairs small, fields_and_values pairs)
 entry_bytes key id false pairs small =
     omega (arith, written-append (start_texts key id false) (body_texts false pairs), start_most key id false, body_own pairs small)
 
+-- the head of a new node takes at most 136 bytes more than its fields
 head_bytes : (pairs : List Pair) → sum_by pair_bytes pairs < 2 ^ 32 → written (head_texts pairs) ≤ written (fields_of pairs) + 136
 head_bytes pairs small =
     let many = number (length pairs) in
@@ -181,6 +195,7 @@ head_bytes pairs small =
       count_most (length pairs) (omega (arith, small, many_most pairs)),
     )
 
+-- what an entry puts behind the elements takes at most 400 bytes more than are told for its pairs
 added_most : (key id : Id) (list : Texts) (pairs : List Pair) → sum_by pair_bytes pairs < 2 ^ 32 → written (added key list id pairs) ≤ sum_by pair_bytes pairs + 400
 added_most key id [] pairs small =
     omega (
@@ -200,6 +215,7 @@ set_most [] i s = omega arith
 set_most (x ∷ ss) zero s = omega (arith, length-append (entry_of s) (entries ss), length-append (entry_of x) (entries ss))
 set_most (x ∷ ss) (suc i) s = omega (arith, set_most ss i s, length-append (entry_of x) (entries (slice_set ss i s)), length-append (entry_of x) (entries ss))
 
+-- a listpack with room by the bytes told for an entry stays below 2^32 bytes with the entry put in
 append_room : (key id : Id) (pack : List ℕ) (pairs : List Pair) → IsPack pack → IsRoomy pack pairs → pack_len (appended key pack id pairs) < 2 ^ 32
 append_room key id pack pairs p room =
     let ss = spellings_of pack in
@@ -215,6 +231,7 @@ append_room key id pack pairs p room =
       added_most key id list pairs (omega (arith, room)),
     )
 
+-- a listpack with room for 192 bytes more stays below 2^32 bytes with an entry marked
 mark_room : (pack : List ℕ) (index : ℕ) → IsPack pack → length pack + 192 < 2 ^ 32 → pack_len (marked_spellings pack index) < 2 ^ 32
 mark_room pack index p room =
     let ss = spellings_of pack in
@@ -237,5 +254,6 @@ mark_room pack index p room =
       count_most c (omega (arith, read_small (element list at))),
     )
 
+-- the bytes told for an entry and for a mark are enough
 pub room_enough : RoomEnough
 room_enough = record { append = append_room; mark = mark_room }

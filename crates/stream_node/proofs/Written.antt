@@ -36,9 +36,6 @@ written-append xs ys =
     ∙ ap length (flat_map-append entry_of (map spelling xs) (map spelling ys))
     ∙ length-append (entries (map spelling xs)) (entries (map spelling ys))
 
-pub one_fits : (pack text : List ℕ) → HasRoom pack (text ∷ []) → length pack + length (entry text) < 2 ^ 32
-one_fits pack text room = omega (arith, room, length-append (entry text) [])
-
 pub one_put : (old new text : List ℕ) (count : ℕ) → IsEdited new (spellings_of old ++ spelling text ∷ []) count → texts new ≡ texts old ++ text ∷ [] → Extends old new (text ∷ [])
 one_put old new text count edited list = record { pack = edited.pack; spelled = edited.entries; list = list }
 
