@@ -16,6 +16,7 @@ use Rattle.quicklist.specs.declared.node.Node.{Node}
 use Rattle.quicklist.specs.declared.piece.Piece.{Piece}
 use Rattle.quicklist.specs.Nodes.{IsNode, IsChain, IsPiece, Placed, Exchanged, Inserted, refs_of, elements_of, node_list, bytes_of, piece_list, held, IsHeld, container_of, container_of_piece}
 
+-- at itself a reference counts as one
 pub one_self : (at : BlockRef) → one at at ≡ 1
 one_self at = cond-true _ _ _ (ref_eq-refl at)
 
@@ -23,6 +24,7 @@ one_self at = cond-true _ _ _ (ref_eq-refl at)
 pub refs-append : (xs ys : List Node) → refs_of (xs ++ ys) ≡ refs_of xs ++ refs_of ys
 refs-append xs ys = map-append (λ (node : Node). node.at) xs ys
 
+-- two lists of nodes, joined, name a reference as often as the one and the other together
 pub times-refs : (r : BlockRef) (xs ys : List Node) → times r (refs_of (xs ++ ys)) ≡ times r (refs_of xs) + times r (refs_of ys)
 times-refs r xs ys = ap (times r) (refs-append xs ys) ∙ times-append r (refs_of xs) (refs_of ys)
 
@@ -30,17 +32,13 @@ times-refs r xs ys = ap (times r) (refs-append xs ys) ∙ times-append r (refs_o
 abbrev pub Same : Blocks → Blocks → List Node → Type 0
 Same m n nodes = (r : BlockRef) → IsIn r (refs_of nodes) → n r ≡ m r
 
+-- where the blocks of nodes are the same, so are those of the nodes behind the first
 Same-rest : (m n : Blocks) (node : Node) (nodes : List Node) → Same m n (node ∷ nodes) → Same m n nodes
 Same-rest m n node nodes same r isin = same r (omega (arith, isin))
 
+-- where the blocks of nodes are the same, the first node has the same bytes
 Same-bytes : (m n : Blocks) (node : Node) (nodes : List Node) → Same m n (node ∷ nodes) → bytes_of n node ≡ bytes_of m node
 Same-bytes m n node nodes same = ap (λ o. unwrap_or o []) (same node.at (omega (arith, one_self node.at)))
-
-pub Same-left : (m n : Blocks) (xs ys : List Node) → Same m n (xs ++ ys) → Same m n xs
-Same-left m n xs ys same r isin = same r (omega (arith, isin, times-refs r xs ys))
-
-pub Same-right : (m n : Blocks) (xs ys : List Node) → Same m n (xs ++ ys) → Same m n ys
-Same-right m n xs ys same r isin = same r (omega (arith, isin, times-refs r xs ys))
 
 -- so their elements are
 pub elements-same : (m n : Blocks) (nodes : List Node) → Same m n nodes → elements_of n nodes ≡ elements_of m nodes
@@ -57,6 +55,7 @@ IsNode-as m n node same is = record {
   some = is.some;
 }
 
+-- where their blocks are the same, all nodes over the one store are nodes over the other
 pub each-same : (m n : Blocks) (nodes : List Node) → Same m n nodes → All (IsNode m) nodes → All (IsNode n) nodes
 each-same m n [] same all = All-nil (IsNode n)
 each-same m n (node ∷ nodes) same all = All-cons (IsNode n) node nodes (IsNode-as m n node (Same-bytes m n node nodes same) (all 0 node (omega arith))) (each-same m n nodes (Same-rest m n node nodes same) (All-drop (IsNode m) 1 (node ∷ nodes) all))
@@ -67,6 +66,7 @@ cut_at nodes k node h is =
     sym (take-append-drop k nodes) ∙ ap (λ (xs : List Node). take k nodes ++ xs) (drop_more nodes k node h)
     ∙ ap (λ (n : Node). take k nodes ++ (n ∷ drop (k + 1) nodes)) (sym is)
 
+-- the block of the node at an index is live where the nodes own their blocks
 pub node_live : (m : Blocks) (nodes : List Node) (k : ℕ) (node : Node) → k < length nodes → node ≡ get_or nodes k node → Owned (refs_of nodes) m → IsSome (m node.at)
 node_live m nodes k node h is own =
     let whole = ap (λ (xs : List Node). times node.at (refs_of xs)) (cut_at nodes k node h is) in
@@ -76,6 +76,7 @@ node_live m nodes k node h is own =
 abbrev pub part : ℕ → ℕ → List Node → List Node
 part k count nodes = take count (drop k nodes)
 
+-- the part of one node from an index on is the node there
 part_one : (nodes : List Node) (k : ℕ) (node : Node) → k < length nodes → node ≡ get_or nodes k node → part k 1 nodes ≡ node ∷ []
 part_one nodes k node h is = ap (take 1) (drop_more nodes k node h) ∙ ap (λ (n : Node). n ∷ []) (sym is)
 
@@ -92,6 +93,7 @@ one_ended m n nodes k node h is was gone =
       | inr other ↦ omega (arith, cond-false {A = ℕ} (ref_eq node.at r) 1 0 (ref_eq-sym node.at r ∙ other))
     ]
 
+-- nodes name a reference as often as those before a part, those of the part and those behind it together
 times_cut : (r : BlockRef) (nodes : List Node) (k count : ℕ)
     → times r (refs_of nodes) ≡ times r (refs_of (take k nodes)) + (times r (refs_of (part k count nodes)) + times r (refs_of (drop (k + count) nodes)))
 times_cut r nodes k count =
@@ -100,6 +102,7 @@ times_cut r nodes k count =
     let rest = ap (λ (xs : List Node). times r (refs_of xs)) (drop-drop count k nodes) in
     omega (arith, one, two, rest, times-refs r (take k nodes) (drop k nodes), times-refs r (part k count nodes) (drop count (drop k nodes)))
 
+-- where nodes own their blocks, so does each part of them
 Owned-part : (m : Blocks) (nodes : List Node) (k count : ℕ) → Owned (refs_of nodes) m → Owned (refs_of (part k count nodes)) m
 Owned-part m nodes k count own r = omega (arith, own r, times_cut r nodes k count)
 
@@ -115,6 +118,7 @@ next_live m mid nodes k i node h is own p =
 more_part : (nodes : List Node) (k i : ℕ) → part k (i + 1) nodes ≡ part k i nodes ++ part (k + i) 1 nodes
 more_part nodes k i = take-add i 1 (drop k nodes) ∙ ap (λ (xs : List Node). part k i nodes ++ take 1 xs) (drop-drop i k nodes)
 
+-- where the blocks of a part of the nodes ended, and then that of the next node, those of the longer part ended
 pub more_ended : (m mid n : Blocks) (nodes : List Node) (k i : ℕ) → Owned (refs_of nodes) m → Changes m mid (refs_of (part k i nodes)) [] → Changes mid n (refs_of (part (k + i) 1 nodes)) []
     → Changes m n (refs_of (part k (i + 1) nodes)) []
 more_ended m mid n nodes k i own p q =
@@ -130,6 +134,7 @@ all_same m n p = λ i r. p.kept r refl refl i
 pub none_placed : (m : Blocks) → Placed m m [] []
 none_placed m = record { changes = Changes-same m [] (λ r. omega arith); each = All-nil (IsNode m); list = refl; containers = refl }
 
+-- a node with the count and container of a piece, placed of its bytes, is a node of its elements
 node_of_piece : (m n : Blocks) (piece : Piece) (node : Node) → IsPiece piece → n ≡ with_block m node.at (Some piece.bytes.now) → node.count ≡ piece.count → node.container ≡ piece.container
     → IsNode n node × (node_list n node ≡ piece_list piece)
 node_of_piece m n piece node is placed count container =
@@ -184,6 +189,7 @@ unplaced m mid n old now pieces fresh k i h long p is ended =
     let same : part k i now ≡ fresh = ap (take i) behind ∙ take_at fresh back i long in
     all_same m n (Changes-then m mid n [] (refs_of fresh) [] p.changes (subst (λ (xs : List Node). Changes mid n (refs_of xs) []) same ended))
 
+-- without the nodes that were placed among them, the nodes are the old ones
 pub nodes_unplaced : (old now after fresh : List Node) (k i : ℕ) → k ≤ length old → length fresh ≡ i → now ≡ take k old ++ (fresh ++ drop k old) → after ≡ remove_range now k (k + i) → after ≡ old
 nodes_unplaced old now after fresh k i h long is gone =
     let front = take k old in
@@ -193,6 +199,7 @@ nodes_unplaced old now after fresh k i h long is gone =
     gone ∙ ap (λ (xs : List Node). xs ++ drop (k + i) now) (ap (take k) is ∙ take_at front (fresh ++ back) k (length-take-le k old h))
     ∙ ap (λ (xs : List Node). front ++ xs) (ap (drop (k + i)) whole ∙ drop_at (front ++ fresh) back (k + i) size) ∙ take-append-drop k old
 
+-- as many nodes are placed as there are pieces
 pub length-placed : (m n : Blocks) (pieces : List Piece) (fresh : List Node) → Placed m n pieces fresh → length fresh ≡ length pieces
 length-placed m n pieces fresh p = sym (length-map fresh container_of) ∙ ap length p.containers ∙ length-map pieces container_of_piece
 
@@ -206,39 +213,49 @@ placed_owned m mid old now fresh pieces k own p is r =
 
 -- the chain before and after nodes have taken the place of others
 module _ (m mid n : Blocks) (front gone back fresh : List Node) (pieces : List Piece) (own : Owned (refs_of (front ++ (gone ++ back))) m) (p : Placed m mid pieces fresh) (ended : Changes mid n (refs_of gone) []) where
+  -- how often the nodes in front, those that go and those at the back name a reference
   abbrev parts : BlockRef → ℕ
   parts r = times r (refs_of front) + (times r (refs_of gone) + times r (refs_of back))
 
+  -- the old nodes name a reference as often as their three parts together
   count_old : (r : BlockRef) → times r (refs_of (front ++ (gone ++ back))) ≡ parts r
   count_old r = omega (arith, times-refs r front (gone ++ back), times-refs r gone back)
 
+  -- the new nodes name a reference as often as those in front, the fresh ones and those at the back together
   count_new : (r : BlockRef) → times r (refs_of (front ++ (fresh ++ back))) ≡ times r (refs_of front) + (times r (refs_of fresh) + times r (refs_of back))
   count_new r = omega (arith, times-refs r front (fresh ++ back), times-refs r fresh back)
 
+  -- counted, the fresh nodes bring their blocks in, and every other block stays
   placing : Counts m mid [] (refs_of fresh)
   placing = Counts-changed m mid [] (refs_of fresh) (λ r. omega arith) p.changes
 
+  -- the nodes that go own their blocks where the fresh ones are placed
   gone_owned : Owned (refs_of gone) mid
   gone_owned r = omega (arith, own r, count_old r, placing.balance r)
 
+  -- counted, the blocks of the nodes that go end, and every other block stays
   ending : Counts mid n (refs_of gone) []
   ending = Counts-changed mid n (refs_of gone) [] gone_owned ended
 
+  -- over the whole exchange, the new nodes' references take the place of the old nodes'
   pub exchange_changes : Changes m n (refs_of (front ++ (gone ++ back))) (refs_of (front ++ (fresh ++ back)))
   exchange_changes = Changes-counted m n (refs_of (front ++ (gone ++ back))) (refs_of (front ++ (fresh ++ back))) own (record {
     balance = λ r. omega (arith, placing.balance r, ending.balance r, count_old r, count_new r);
     kept = λ r out in_new. ending.kept r (omega (arith, out, count_old r)) (omega arith) ∙ placing.kept r (omega arith) (omega (arith, in_new, count_new r));
   })
 
+  -- the blocks of the nodes in front and at the back are the same after the exchange
   stays : (r : BlockRef) → 0 < times r (refs_of front) + times r (refs_of back) → n r ≡ m r
   stays r isin =
       let was : times r (refs_of fresh) ≡ 0 = omega (arith, own r, isin, count_old r, placing.balance r, live-once mid r) in
       let not_gone : times r (refs_of gone) ≡ 0 = omega (arith, own r, isin, count_old r, live-once m r) in
       ending.kept r not_gone (omega arith) ∙ placing.kept r (omega arith) was
 
+  -- the blocks of the fresh nodes are the same after those that go are given back
   same_fresh : Same mid n fresh
   same_fresh r isin = ending.kept r (omega (arith, isin, gone_owned r, placing.balance r, own r, count_old r, live-once mid r)) (omega arith)
 
+  -- the nodes in front, the fresh ones and those at the back are a chain after the exchange
   pub exchange_chain : All (IsNode m) front → All (IsNode m) back → IsChain n (front ++ (fresh ++ back))
   exchange_chain a b = record {
     owned = Changes-owned m n (refs_of (front ++ (gone ++ back))) (refs_of (front ++ (fresh ++ back))) exchange_changes;
@@ -246,6 +263,7 @@ module _ (m mid n : Blocks) (front gone back fresh : List Node) (pieces : List P
         (All-append (IsNode n) fresh back (each-same mid n fresh same_fresh p.each) (each-same m n back (λ r isin. stays r (omega (arith, isin))) b));
   }
 
+  -- the elements after the exchange are those in front, those of the pieces and those at the back
   pub exchange_list : elements_of n (front ++ (fresh ++ back)) ≡ elements_of m front ++ (flat_map piece_list pieces ++ elements_of m back)
   exchange_list =
       flat_map-append (node_list n) front (fresh ++ back)

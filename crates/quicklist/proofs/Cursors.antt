@@ -68,11 +68,6 @@ pub place_next : (m : Blocks) (q : Chain) (index k j : ℕ) → IsQuick m q → 
 place_next m q index k j s place last h =
     place_from m q (index + 1) (k + 1) 0 s h (node_some m q (k + 1) s h) (omega (arith, front_more m q.nodes k place.inside, (place_room m q index k j s place).1, last))
 
--- the one before in the same node
-pub place_before : (m : Blocks) (q : Chain) (index k j : ℕ) → IsQuick m q → IsPlace q.nodes index k j → 0 < j → IsPlace q.nodes (index - 1) k (j - 1)
-place_before m q index k j s place h =
-    let room = place_room m q index k j s place in place_from m q (index - 1) k (j - 1) s place.inside (omega (arith, room.0)) (omega (arith, room.1, h))
-
 -- and the last one of the node before
 pub node_before : (m : Blocks) (q : Chain) (index k j : ℕ) → IsQuick m q → IsPlace q.nodes index k j → j ≡ 0 → (index ≡ 0 → ⊥) → 0 < k
 node_before m q index k j s place first some = elim (cases_lt 0 k) [

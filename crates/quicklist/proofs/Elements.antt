@@ -32,9 +32,11 @@ sum_is m (node ∷ nodes) all =
     let held_more : elements_of m (node ∷ nodes) ≡ node_list m node ++ elements_of m nodes = refl in
     omega (arith, more, ap length held_more, one.counted, sum_is m nodes (All-drop (IsNode m) 1 (node ∷ nodes) all), length-append (node_list m node) (elements_of m nodes))
 
+-- the counts of the first nodes add up to the number of their elements
 pub sum_front : (m : Blocks) (nodes : List Node) (k : ℕ) → All (IsNode m) nodes → sum_by count_of (take k nodes) ≡ length (elements_of m (take k nodes))
 sum_front m nodes k all = sum_is m (take k nodes) (All-take (IsNode m) k nodes all)
 
+-- the length of a list is the sum of its nodes' counts
 pub len_is : (m : Blocks) (q : Chain) → IsQuick m q → q.len ≡ sum_by count_of q.nodes
 len_is m q s = s.counted ∙ sym (sum_is m q.nodes s.chain.each)
 
@@ -44,9 +46,11 @@ elements_cut m nodes k h =
     ap (elements_of m) (sym (take-append-drop k nodes)) ∙ flat_map-append (node_list m) (take k nodes) (drop k nodes)
     ∙ ap (λ (xs : List Node). elements_of m (take k nodes) ++ elements_of m xs) (drop_more nodes k (record { at = record { slab = 0; slot = 0 }; count = 0; container = Plain }) h)
 
+-- the elements of nodes are those of the first nodes, and then those of the others
 pub elements_split : (m : Blocks) (nodes : List Node) (k : ℕ) → elements_of m nodes ≡ elements_of m (take k nodes) ++ elements_of m (drop k nodes)
 elements_split m nodes k = ap (elements_of m) (sym (take-append-drop k nodes)) ∙ flat_map-append (node_list m) (take k nodes) (drop k nodes)
 
+-- with one node more, the first nodes have as many elements more as that node has
 pub front_more : (m : Blocks) (nodes : List Node) (k : ℕ) → k < length nodes → length (elements_of m (take (k + 1) nodes)) ≡ length (elements_of m (take k nodes)) + length (node_list m (node_at nodes k))
 front_more m nodes k h =
     let more = take_more nodes k (record { at = record { slab = 0; slot = 0 }; count = 0; container = Plain }) h in
@@ -58,11 +62,13 @@ front_more m nodes k h =
       length-append (node_list m (node_at nodes k)) [],
     )
 
+-- where each of the nodes holds what it counts, the one at an index does
 pub node_of : (m : Blocks) (nodes : List Node) (k : ℕ) → All (IsNode m) nodes → k < length nodes → IsNode m (node_at nodes k)
 node_of m nodes k all h = all k (record { at = record { slab = 0; slot = 0 }; count = 0; container = Plain }) h
 
 -- elements between those of others
 module _ {X : Type 0} (a b c : List X) where
+  -- a cut within the middle one of three joined lists cuts that one alone
   pub front_of : (i : ℕ) → i ≤ length b → (take (length a + i) (a ++ (b ++ c)) ≡ a ++ take i b) × (drop (length a + i) (a ++ (b ++ c)) ≡ drop i b ++ c)
   front_of i h =
       let whole : a ++ (b ++ c) ≡ (a ++ take i b) ++ (drop i b ++ c) =
@@ -70,12 +76,14 @@ module _ {X : Type 0} (a b c : List X) where
       let size : length (a ++ take i b) ≡ length a + i = omega (arith, length-append a (take i b), length-take-le i b h) in
       (ap (take (length a + i)) whole ∙ take_at (a ++ take i b) (drop i b ++ c) (length a + i) size, ap (drop (length a + i)) whole ∙ drop_at (a ++ take i b) (drop i b ++ c) (length a + i) size)
 
+  -- to put an element in the place of a range within the middle one of three lists changes that one alone
   pub around_within : (i j : ℕ) (x : X) → i ≤ length b → j ≤ length b
       → take (length a + i) (a ++ (b ++ c)) ++ (x ∷ drop (length a + j) (a ++ (b ++ c))) ≡ a ++ ((take i b ++ (x ∷ drop j b)) ++ c)
   around_within i j x h l =
       ap (λ (xs : List X). xs ++ (x ∷ drop (length a + j) (a ++ (b ++ c)))) (front_of i h).0 ∙ ap (λ (xs : List X). (a ++ take i b) ++ (x ∷ xs)) (front_of j l).1
       ∙ append_assoc a (take i b) (x ∷ (drop j b ++ c)) ∙ ap (λ (xs : List X). a ++ xs) (sym (append_assoc (take i b) (x ∷ drop j b) c))
 
+  -- to take a range within the middle one of three lists out changes that one alone
   pub cut_within : (i j : ℕ) → i ≤ length b → j ≤ length b
       → take (length a + i) (a ++ (b ++ c)) ++ drop (length a + j) (a ++ (b ++ c)) ≡ a ++ ((take i b ++ drop j b) ++ c)
   cut_within i j h l =
@@ -108,6 +116,7 @@ place_room m q index k j s place =
     let more = front_more m q.nodes k place.inside in
     (omega (arith, place.among, more, sum_front m q.nodes k s.chain.each, sum_front m q.nodes (k + 1) s.chain.each), omega (arith, place.before, sum_front m q.nodes k s.chain.each))
 
+-- to set an element within its node sets it at its index in the list
 pub set_node_is : (m : Blocks) (q : Chain) (index k j : ℕ) (x : List ℕ) → IsQuick m q → IsPlace q.nodes index k j → respelled m q k (set (node_list m (node_at q.nodes k)) j x) (k + 1) ≡ set (elements m q) index x
 set_node_is m q index k j x s place =
     let nodes = q.nodes in
@@ -123,6 +132,7 @@ set_node_is m q index k j x s place =
     ∙ ap (λ (i : ℕ). take i (a ++ (b ++ c)) ++ (x ∷ drop (suc index) (a ++ (b ++ c)))) (sym room.1)
     ∙ ap (λ (xs : List (List ℕ)). take index xs ++ (x ∷ drop (suc index) xs)) (sym whole) ∙ sym (set_split (elements m q) index x inside)
 
+-- to take an element out of its node takes it out at its index in the list
 pub remove_node_is : (m : Blocks) (q : Chain) (index k j : ℕ) → IsQuick m q → IsPlace q.nodes index k j → respelled m q k (remove_range (node_list m (node_at q.nodes k)) j (j + 1)) (k + 1) ≡ remove (elements m q) index
 remove_node_is m q index k j s place =
     let nodes = q.nodes in
@@ -136,6 +146,7 @@ remove_node_is m q index k j s place =
     ∙ ap (λ (i : ℕ). take i (a ++ (b ++ c)) ++ drop (suc index) (a ++ (b ++ c))) (sym room.1)
     ∙ ap (λ (xs : List (List ℕ)). remove xs index) (sym (elements_cut m nodes k place.inside))
 
+-- the element at an index of a list is the one at its place in its node
 pub get_is : (m : Blocks) (q : Chain) (index k j : ℕ) → IsQuick m q → IsPlace q.nodes index k j → get_or (elements m q) index [] ≡ get_or (node_list m (node_at q.nodes k)) j []
 get_is m q index k j s place =
     let room = place_room m q index k j s place in
@@ -146,10 +157,12 @@ get_is m q index k j s place =
 pub node_is : (nodes : List Node) (k : ℕ) (node : Node) → k < length nodes → node ≡ get_or nodes k node → node ≡ node_at nodes k
 node_is nodes k node h is = is ∙ get_or_default nodes k node (record { at = record { slab = 0; slot = 0 }; count = 0; container = Plain }) h
 
+-- the elements of a packed node are the texts of its block's bytes
 pub packed_list : (m : Blocks) (node : Node) (bytes : List ℕ) → node.container ≡ Packed → m node.at ≡ Some bytes → node_list m node ≡ texts bytes
 packed_list m node bytes is there =
     ap (λ (c : Container). held c (bytes_of m node)) is ∙ ap (λ (o : Option (List ℕ)). texts (unwrap_or o [])) there
 
+-- the elements of a node are those that its container has in its block's bytes
 pub held_is : (m : Blocks) (node : Node) (bytes : List ℕ) → m node.at ≡ Some bytes → node_list m node ≡ held node.container bytes
 held_is m node bytes there = ap (λ (o : Option (List ℕ)). held node.container (unwrap_or o [])) there
 
@@ -157,19 +170,14 @@ held_is m node bytes there = ap (λ (o : Option (List ℕ)). held node.container
 pub part_list : (piece : Piece) → IsPart piece → piece_list piece ≡ texts piece.bytes.now
 part_list piece p = ap (λ (c : Container). held c piece.bytes.now) p.packed
 
+-- a list of length 0 is empty
 none_left : (xs : List (List ℕ)) → length xs ≡ 0 → xs ≡ []
 none_left [] h = refl
 none_left (x ∷ xs) h = absurd (omega arith)
 
+-- a part that counts no element has none
 pub part_empty : (piece : Piece) → IsPart piece → piece.count ≡ 0 → piece_list piece ≡ []
 part_empty piece p none = part_list piece p ∙ none_left (texts piece.bytes.now) (omega (arith, p.counted, none))
-
-pub part_piece : (piece : Piece) → IsPart piece → 0 < piece.count → IsPiece piece
-part_piece piece p some = record {
-  is_held = subst (λ (c : Container). IsHeld c piece.bytes.now) (sym p.packed) p.is_packed;
-  counted = p.counted ∙ ap length (sym (part_list piece p));
-  some = some;
-}
 
 -- the three parts of a node that was split
 pub split_is : (xs left right : List (List ℕ)) (from to count : ℕ) (x : List ℕ) → count ≡ length xs → left ≡ remove_range xs from count → right ≡ remove_range xs 0 to
@@ -179,11 +187,13 @@ split_is xs left right from to count x all l r =
     ap (λ (ys : List (List ℕ)). ys ++ (x ∷ right)) (l ∙ ap (λ (ys : List (List ℕ)). take from xs ++ ys) none ∙ append-nil (take from xs))
     ∙ ap (λ (ys : List (List ℕ)). take from xs ++ (x ∷ ys)) r
 
+-- what is left of a list before an index has as many elements as the index says
 pub split_front : (xs left : List (List ℕ)) (from count : ℕ) → count ≡ length xs → from ≤ count → left ≡ remove_range xs from count → length left ≡ from
 split_front xs left from count all h l =
     let none : drop count xs ≡ [] = drop_all count xs (omega (arith, all)) in
     omega (arith, ap length l, ap length none, length-append (take from xs) (drop count xs), length-take-le from xs (omega (arith, all, h)))
 
+-- what is left of a list from an index on has the list's length less the index
 pub split_back : (xs right : List (List ℕ)) (to : ℕ) → right ≡ remove_range xs 0 to → length right ≡ length xs - to
 split_back xs right to r = omega (arith, ap length r, length-drop to xs)
 
@@ -194,6 +204,7 @@ packed_node m nodes k node bytes each h is packed there =
     let list = packed_list m (node_at nodes k) bytes packed (ap (λ (n : Node). m n.at) (sym is) ∙ there) in
     (list, ap count_of is ∙ (node_of m nodes k each h).counted ∙ ap length list)
 
+-- the three pieces of a packed node that was split have its elements with a new one in the place of a range
 pub split_whole : (m : Blocks) (nodes : List Node) (k : ℕ) (node : Node) (bytes left right : List ℕ) (a b c : Piece) (from to : ℕ) (x : List ℕ) → All (IsNode m) nodes → k < length nodes → node ≡ node_at nodes k
     → (node_at nodes k).container ≡ Packed → m node.at ≡ Some bytes → texts left ≡ remove_range (texts bytes) from node.count → texts right ≡ remove_range (texts bytes) 0 to
     → piece_list a ≡ texts left → piece_list b ≡ x ∷ [] → piece_list c ≡ texts right → three a b c ≡ around from to x (node_list m (node_at nodes k))
@@ -213,6 +224,7 @@ overfull_insert m q index k j len x list s gap long h more is = record {
       omega (arith, long, ap pack_len (sym alone ∙ insert_node_is m q index k j x s gap ∙ sym is));
 }
 
+-- where one listpack of a node with an element set is too long, the list with it set is overfull
 pub overfull_set : (m : Blocks) (q : Chain) (index k j len : ℕ) (x : List ℕ) (list : List (List ℕ)) → IsQuick m q → IsPlace q.nodes index k j → 8192 < pack_len (set (node_list m (node_at q.nodes k)) j x)
     → len ≡ q.len → list ≡ set (elements m q) index x → IsOverfull q list len
 overfull_set m q index k j len x list s place long same is = record {
@@ -228,6 +240,7 @@ at_front m q index k j x s gap none =
     let same : k + 0 ≡ k = omega arith in
     ap (respelled m q k (x ∷ [])) same ∙ insert_beside_is m q index k x (omega (arith, gap.before, none, sum_front m q.nodes k s.chain.each))
 
+-- where the gap is at a node's end, an element placed behind that node is put in at the gap's index
 pub at_back : (m : Blocks) (q : Chain) (index k j : ℕ) (x : List ℕ) → IsQuick m q → IsGap q.nodes index k j → j ≡ (node_at q.nodes k).count → respelled m q (k + 1) (x ∷ []) (k + 1 + 0) ≡ insert (elements m q) index x
 at_back m q index k j x s gap all =
     let same : k + 1 + 0 ≡ k + 1 = omega arith in
@@ -248,6 +261,7 @@ set_alone m q index k j x s place one =
     only (y ∷ []) h = refl
     only (y ∷ z ∷ ys) h = absurd (omega arith)
 
+-- to put an element in the place of a range of one is to set it there
 pub around_set : (xs : List (List ℕ)) (j : ℕ) (x : List ℕ) → j < length xs → around j (j + 1) x xs ≡ set xs j x
 around_set xs j x h = let next : j + 1 ≡ suc j = omega arith in ap (λ (i : ℕ). take j xs ++ (x ∷ drop i xs)) next ∙ sym (set_split xs j x h)
 
@@ -264,11 +278,13 @@ remove_alone m q index k j s place one =
 pub list_at : (m : Blocks) (nodes : List Node) (k : ℕ) (node : Node) (bytes : List ℕ) → node ≡ node_at nodes k → m node.at ≡ Some bytes → node_list m (node_at nodes k) ≡ held node.container bytes
 list_at m nodes k node bytes is there = ap (node_list m) (sym is) ∙ held_is m node bytes there
 
+-- with an element put into what a node's bytes hold, the list has it put in at its index
 pub joined_list : (m : Blocks) (q : Chain) (index k j : ℕ) (x : List ℕ) (node : Node) (bytes : List ℕ) (list : List (List ℕ)) → IsQuick m q → IsGap q.nodes index k j → node ≡ node_at q.nodes k → m node.at ≡ Some bytes
     → list ≡ insert (held node.container bytes) j x → respelled m q k list (k + 1) ≡ insert (elements m q) index x
 joined_list m q index k j x node bytes list s gap is there same =
     ap (λ (xs : List (List ℕ)). respelled m q k xs (k + 1)) (same ∙ ap (λ (xs : List (List ℕ)). insert xs j x) (sym (list_at m q.nodes k node bytes is there))) ∙ insert_node_is m q index k j x s gap
 
+-- with an element set in what a node's bytes hold, the list has it set at its index
 pub replaced_list : (m : Blocks) (q : Chain) (index k j : ℕ) (x : List ℕ) (node : Node) (bytes : List ℕ) (list : List (List ℕ)) → IsQuick m q → IsPlace q.nodes index k j → node ≡ node_at q.nodes k → m node.at ≡ Some bytes
     → list ≡ set (held node.container bytes) j x → respelled m q k list (k + 1) ≡ set (elements m q) index x
 replaced_list m q index k j x node bytes list s place is there same =
@@ -284,6 +300,7 @@ entries_some [] = omega arith
 entries_some (x ∷ list) =
     omega (arith, entries_some list, length-append (entry x) (flat_map entry list), length-append (spelling x) (back_length (length (spelling x))), back_some (length (spelling x)))
 
+-- the listpack of a packed node has at most 8,192 elements
 pub count_small : (bytes : List ℕ) → IsPacked bytes → length (texts bytes) ≤ 8192
 count_small bytes p = omega (arith, entries_some (texts bytes), packed_len bytes p, p.short)
 
@@ -299,9 +316,11 @@ pub many_list : (container : Container) (bytes : List ℕ) (count : ℕ) → cou
 many_list Plain bytes count is many = absurd (many is)
 many_list Packed bytes count is many = refl
 
+-- a list without one of its elements is shorter by one
 pub cut_one_len : (xs : List (List ℕ)) (j : ℕ) → j < length xs → length (remove_range xs j (j + 1)) + 1 ≡ length xs
 cut_one_len xs j h = omega (arith, length-append (take j xs) (drop (j + 1) xs), length-take-le j xs (omega arith), length-drop (j + 1) xs)
 
+-- where a node of more elements than one loses one, the list loses it at its index, and the node has one less
 pub removed_list : (m : Blocks) (q : Chain) (index k j : ℕ) (node : Node) (bytes : List ℕ) (list : List (List ℕ)) → IsQuick m q → IsPlace q.nodes index k j → node ≡ node_at q.nodes k → m node.at ≡ Some bytes
     → (node.count ≡ 1 → ⊥) → list ≡ remove_range (texts bytes) j (j + 1) → (respelled m q k list (k + 1) ≡ remove (elements m q) index) × (node.count ≡ length list + 1)
 removed_list m q index k j node bytes list s place is there many same =
@@ -339,12 +358,14 @@ sums_rise nodes i j h =
     let same : take i (take j nodes) ≡ take i nodes = grind (arith, common_steps) in
     omega (arith, sum_by-take-le count_of (take j nodes) i, ap (sum_by count_of) same)
 
+-- the place of the greater of two indexes is in no earlier node
 pub place_order : (nodes : List Node) (a b k l i j : ℕ) → IsPlace nodes a k i → IsPlace nodes b l j → a ≤ b → k ≤ l
 place_order nodes a b k l i j one two h = elim (cases_lt l k) [
   | inl less ↦ absurd (omega (arith, one.before, two.before, two.among, h, sums_rise nodes (l + 1) k (omega (arith, less))))
   | inr more ↦ more
 ]
 
+-- what is left of a list without a range, and the length of the range, add up to its length
 pub range_len : (xs : List (List ℕ)) (i j : ℕ) → i ≤ j → j ≤ length xs → length (remove_range xs i j) + (j - i) ≡ length xs
 range_len xs i j h l = omega (arith, length-append (take i xs) (drop j xs), length-take-le i xs (omega arith), length-drop j xs)
 

@@ -73,10 +73,6 @@ copied_is m n nodes fresh p = record {
   containers = p.containers ∙ pieces_for-containers m nodes;
 }
 
--- nothing moved yet
-pub none_settled : (m : Blocks) (nodes : List Node) (stays : ℕ → Type 0) → IsChain m nodes → IsSettled m m nodes nodes stays
-none_settled m nodes stays c = record { chain = c; list_is = refl; changes = Changes-same m (refs_of nodes) c.owned; containers = refl; others = λ i h. refl }
-
 -- the block of one node moved
 module _ (m n : Blocks) (front back : List Node) (node : Node) (at : BlockRef) (own : Owned (refs_of (front ++ (node ∷ back))) m) (a : All (IsNode m) front) (is : IsNode m node) (b : All (IsNode m) back) (bytes : n at ≡ m node.at) (p : Changes m n (node.at ∷ []) (at ∷ [])) where
   abbrev moved : Node

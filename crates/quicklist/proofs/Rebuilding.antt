@@ -40,6 +40,7 @@ none_rebuilt m r nodes placed replaced = record {
   fewer = omega (arith, ap length nodes);
 }
 
+-- where nodes came behind others, all name a reference as often as both together
 one_more : (r : BlockRef) (now before : List Node) (more : List Node) → now ≡ before ++ more → times r (refs_of now) ≡ times r (refs_of before) + times r (refs_of more)
 one_more r now before more is = ap (λ (xs : List Node). times r (refs_of xs)) is ∙ times-refs r before more
 
@@ -57,19 +58,24 @@ old_same m mid nodes placed own p r isin = Owned-others m mid [] (refs_of placed
 All-front : (P : Node → Type 0) (xs ys : List Node) → All P (xs ++ ys) → All P xs
 All-front P xs ys all = subst (All P) (take_at xs ys (length xs) refl) (All-take P (length xs) (xs ++ ys) all)
 
+-- where each node of two joined lists has a property, each of the back list has it
 All-behind : (P : Node → Type 0) (xs ys : List Node) → All P (xs ++ ys) → All P ys
 All-behind P xs ys all = subst (All P) (drop_at xs ys (length xs) refl) (All-drop P (length xs) (xs ++ ys) all)
 
 module _ (m mid n : Blocks) (old : List Node) (node : Node) (list rest : List (List ℕ)) (r after : Rebuilt) (own : Owned (refs_of (old ++ node ∷ [])) m) (is_node : IsNode m node) (is : IsRebuilt m mid old list r) where
+  -- the old nodes before the one that is taken up own their blocks
   own_old : Owned (refs_of old) m
   own_old at = omega (arith, own at, times-refs at old (node ∷ []))
 
+  -- the node that is taken up owns its block
   own_node : Owned (refs_of (node ∷ [])) m
   own_node at = omega (arith, own at, times-refs at old (node ∷ []))
 
+  -- the block of the node that is taken up is the same after what was placed so far
   same_node : Same m mid (node ∷ [])
   same_node = old_same m mid (node ∷ []) r.placed.items own_node is.changes
 
+  -- with a node taken up as it is, one old node more is rebuilt, with all its elements
   pub whole_more : n ≡ mid → IsGrown r after (node ∷ []) [] [] → rest ≡ node_list m node → IsRebuilt m n (old ++ node ∷ []) (list ++ rest) after
   whole_more same g left = subst (λ (b : Blocks). IsRebuilt m b (old ++ node ∷ []) (list ++ rest) after) (sym same) (record {
     changes = subst (λ (xs : List Node). Changes m mid [] (refs_of xs)) (sym (g.placed_is ∙ append-nil r.placed.items)) is.changes;
@@ -82,6 +88,7 @@ module _ (m mid n : Blocks) (old : List Node) (node : Node) (list rest : List (L
     fewer = omega (arith, is.fewer, ap length g.nodes_is, length-append r.nodes.items (node ∷ []), length-append old (node ∷ []));
   })
 
+  -- with a node left out of which nothing is left, one old node more is rebuilt, without its elements
   pub nothing_more : n ≡ mid → IsGrown r after [] [] (node ∷ []) → rest ≡ [] → IsRebuilt m n (old ++ node ∷ []) (list ++ rest) after
   nothing_more same g left = subst (λ (b : Blocks). IsRebuilt m b (old ++ node ∷ []) (list ++ rest) after) (sym same) (record {
     changes = subst (λ (xs : List Node). Changes m mid [] (refs_of xs)) (sym (g.placed_is ∙ append-nil r.placed.items)) is.changes;
@@ -93,6 +100,7 @@ module _ (m mid n : Blocks) (old : List Node) (node : Node) (list rest : List (L
     fewer = omega (arith, is.fewer, ap length (g.nodes_is ∙ append-nil r.nodes.items), length-append old (node ∷ []));
   })
 
+  -- a fresh packed node of what is left of the old one is a node of those elements
   part_node : (fresh : Node) (bytes : List ℕ) (count : ℕ) → IsFresh mid n fresh bytes count → IsPacked bytes → texts bytes ≡ rest → count ≡ length rest → 0 < count → IsNode n fresh × (node_list n fresh ≡ rest)
   part_node fresh bytes count f packed left counted some =
       let bytes_is : bytes_of n fresh ≡ bytes = ap (λ b. bytes_at b fresh.at) f.placed ∙ bytes_at-placed mid fresh.at bytes in
@@ -105,6 +113,7 @@ module _ (m mid n : Blocks) (old : List Node) (node : Node) (list rest : List (L
         list_here,
       )
 
+  -- with a fresh node in the place of the old one, one old node more is rebuilt, with the elements that are left
   pub part_more : (fresh : Node) (bytes : List ℕ) (count : ℕ) → IsFresh mid n fresh bytes count → IsGrown r after (fresh ∷ []) (fresh ∷ []) (node ∷ []) → IsPacked bytes → texts bytes ≡ rest → count ≡ length rest → 0 < count
       → IsRebuilt m n (old ++ node ∷ []) (list ++ rest) after
   part_more fresh bytes count f g packed left counted some =
@@ -137,46 +146,58 @@ module _ (m mid n : Blocks) (old : List Node) (node : Node) (list rest : List (L
 pub node_stays : (m mid : Blocks) (nodes placed : List Node) (k : ℕ) (node : Node) → IsChain m nodes → k < length nodes → node ≡ get_or nodes k node → Changes m mid [] (refs_of placed) → mid node.at ≡ m node.at
 node_stays m mid nodes placed k node c h is p = Owned-others m mid [] (refs_of placed) (refs_of nodes) c.owned p node.at (in_refs nodes k node h is) refl
 
+-- the block of a node that is still to be taken up is live
 pub node_there : (m mid : Blocks) (nodes placed : List Node) (k : ℕ) (node : Node) → IsChain m nodes → k < length nodes → node ≡ get_or nodes k node → Changes m mid [] (refs_of placed) → IsSome (mid node.at)
 node_there m mid nodes placed k node c h is p =
     subst (λ (o : Option (List ℕ)). IsSome o) (sym (node_stays m mid nodes placed k node c h is p)) (node_live m nodes k node h is c.owned)
 
 -- what stands in it
 module _ (m mid : Blocks) (nodes placed : List Node) (k : ℕ) (node : Node) (bytes : List ℕ) (c : IsChain m nodes) (h : k < length nodes) (is : node ≡ get_or nodes k node) (p : Changes m mid [] (refs_of placed)) (there : mid node.at ≡ Some bytes) where
+  -- over the blocks before, the node at the index holds what it counts
   pub is_node_of : IsNode m node
   is_node_of = subst (λ (x : Node). IsNode m x) (sym is) (c.each k node h)
 
+  -- the bytes that are there are those that the node had before
   bytes_there : bytes_of m node ≡ bytes
   bytes_there = ap (λ (o : Option (List ℕ)). unwrap_or o []) (sym (node_stays m mid nodes placed k node c h is p) ∙ there)
 
+  -- the bytes that are there are such as the node's container holds
   pub held_there : IsHeld node.container bytes
   held_there = subst (IsHeld node.container) bytes_there is_node_of.is_held
 
+  -- the elements of the node are those of the bytes that are there
   pub list_there : node_list m node ≡ held node.container bytes
   list_there = ap (held node.container) bytes_there
 
+  -- the node counts as many elements as the bytes that are there hold
   pub count_there : node.count ≡ length (held node.container bytes)
   count_there = is_node_of.counted ∙ ap length list_there
 
+  -- the nodes up to and with the one at the index are those before it, and then that node
   pub front_next : take (k + 1) nodes ≡ take k nodes ++ node ∷ []
   front_next = take_more nodes k node h ∙ ap (λ (x : Node). take k nodes ++ x ∷ []) (sym is)
 
+  -- the elements of the nodes up to and with the one at the index are those before it, and then its own
   pub elements_next : elements_of m (take (k + 1) nodes) ≡ elements_of m (take k nodes) ++ node_list m node
   elements_next = ap (elements_of m) front_next ∙ flat_map-append (node_list m) (take k nodes) (node ∷ []) ∙ ap (λ (xs : List (List ℕ)). elements_of m (take k nodes) ++ xs) (append-nil (node_list m node))
 
+  -- a node's start and its count add up to the number of the elements up to and with its own
   pub start_next : (start : ℕ) → start ≡ length (elements_of m (take k nodes)) → start + node.count ≡ length (elements_of m (take (k + 1) nodes))
   start_next start at = omega (arith, at, ap length elements_next, length-append (elements_of m (take k nodes)) (node_list m node), is_node_of.counted)
 
+  -- a node's start and its count add up to no more than the number of all elements
   pub start_small : (start : ℕ) → start ≡ length (elements_of m (take k nodes)) → start + node.count ≤ length (elements_of m nodes)
   start_small start at =
       omega (arith, start_next start at, ap length (elements_split m nodes (k + 1)), length-append (elements_of m (take (k + 1) nodes)) (elements_of m (drop (k + 1) nodes)))
 
+  -- the nodes up to and with the one at the index own their blocks
   owned_front : Owned (refs_of (take k nodes ++ node ∷ [])) m
   owned_front at =
       let whole = ap (λ (xs : List Node). times at (refs_of xs)) (take-append-drop (k + 1) nodes) in
       let front = ap (λ (xs : List Node). times at (refs_of xs)) front_next in
       omega (arith, c.owned at, whole, front, times-refs at (take (k + 1) nodes) (drop (k + 1) nodes))
 
+  -- with what is left of the next node taken up, one node more is rebuilt without the elements that go
   pub rebuilt_next : (n : Blocks) (reach : Reach) (start : ℕ) (left : Left) (r after : Rebuilt) → start ≡ length (elements_of m (take k nodes))
       → IsRebuilt m mid (take k nodes) (cleared reach 0 (elements_of m (take k nodes))) r → IsLeft (held node.container bytes) (cleared reach start (held node.container bytes)) left → IsAdded mid n node left r after
       → IsRebuilt m n (take (k + 1) nodes) (cleared reach 0 (elements_of m (take (k + 1) nodes))) after
@@ -199,6 +220,7 @@ room_open r used most room h =
     let q : deque_len r.replaced ≡ length r.replaced.items = search rules in
     record { nodes = omega (arith, n, h, room.nodes, room.nodes_used); placed = omega (arith, p, h, room.placed, room.placed_used); replaced = omega (arith, q, h, room.replaced, room.replaced_used) }
 
+-- where each part grew by one node at most, its room has one more node in use at most
 room_grown : (r after : Rebuilt) (nodes placed replaced : List Node) (used most : ℕ) → HasRoom r used most → IsGrown r after nodes placed replaced → length nodes ≤ 1 → length placed ≤ 1 → length replaced ≤ 1
     → HasRoom after (used + 1) most
 room_grown r after nodes placed replaced used most room g a b c = record {
@@ -210,6 +232,7 @@ room_grown r after nodes placed replaced used most room g a b c = record {
   replaced_used = omega (arith, c, room.replaced_used, ap length g.replaced_is, length-append r.replaced.items replaced);
 }
 
+-- to take up a node uses the room of one node at most
 pub room_more : (mid n : Blocks) (node : Node) (left : Left) (r after : Rebuilt) (used most : ℕ) → HasRoom r used most → IsAdded mid n node left r after → HasRoom after (used + 1) most
 room_more mid n node Whole r after used most room a = room_grown r after (node ∷ []) [] [] used most room a.1 (omega arith) (omega arith) (omega arith)
 room_more mid n node Nothing r after used most room a = room_grown r after [] [] (node ∷ []) used most room a.1 (omega arith) (omega arith) (omega arith)
@@ -217,27 +240,34 @@ room_more mid n node (Part pack count) r after used most room a = room_grown r a
 
 -- The old nodes that are in the list no more are given back.
 module _ (m mid n : Blocks) (nodes : List Node) (list : List (List ℕ)) (r : Rebuilt) (own : Owned (refs_of nodes) m) (is : IsRebuilt m mid nodes list r) (ended : Changes mid n (refs_of r.replaced.items) []) where
+  -- the nodes that are in the list no more own their blocks until they are given back
   pub replaced_owned : Owned (refs_of r.replaced.items) mid
   replaced_owned at = omega (arith, nodes_owned m mid nodes list r own is at, times-append at (refs_of r.nodes.items) (refs_of r.replaced.items))
 
+  -- counted, the nodes that were placed bring their blocks in, and every other block stays
   placing : Counts m mid [] (refs_of r.placed.items)
   placing = Counts-changed m mid [] (refs_of r.placed.items) (λ at. omega arith) is.changes
 
+  -- counted, the blocks of the replaced nodes end, and every other block stays
   ending : Counts mid n (refs_of r.replaced.items) []
   ending = Counts-changed mid n (refs_of r.replaced.items) [] replaced_owned ended
 
+  -- over the whole rebuilding, the rebuilt nodes' references take the place of the old nodes'
   pub rebuilt_changes : Changes m n (refs_of nodes) (refs_of r.nodes.items)
   rebuilt_changes = Changes-counted m n (refs_of nodes) (refs_of r.nodes.items) own (record {
     balance = λ at. omega (arith, placing.balance at, ending.balance at, is.balance at);
     kept = λ at out in_new. ending.kept at (omega (arith, out, is.within at)) (omega arith) ∙ placing.kept at (omega arith) (omega (arith, out, in_new, is.within at, is.balance at));
   })
 
+  -- the blocks of the rebuilt nodes are the same after the replaced ones are given back
   same_nodes : Same mid n r.nodes.items
   same_nodes at isin = ending.kept at (omega (arith, isin, nodes_owned m mid nodes list r own is at, times-append at (refs_of r.nodes.items) (refs_of r.replaced.items), live-once mid at)) (omega arith)
 
+  -- the rebuilt nodes are a chain once the replaced ones are given back
   pub rebuilt_chain : IsChain n r.nodes.items
   rebuilt_chain = record { owned = Changes-owned m n (refs_of nodes) (refs_of r.nodes.items) rebuilt_changes; each = each-same mid n r.nodes.items same_nodes is.each }
 
+  -- the rebuilt nodes have their elements still once the replaced ones are given back
   pub rebuilt_list : elements_of n r.nodes.items ≡ list
   rebuilt_list = elements-same mid n r.nodes.items same_nodes ∙ is.list_is
 
@@ -247,6 +277,7 @@ containers_few [] h all = inl refl
 containers_few (node ∷ []) h all = inr (ap (λ (c : Container). c ∷ []) (all 0 node (omega arith)))
 containers_few (node ∷ next ∷ nodes) h all = absurd (omega (arith, h))
 
+-- where the containers are none or one packed one, there is at most one node, and each is packed
 packed_all : (nodes : List Node) → (map container_of nodes ≡ []) ⊎ (map container_of nodes ≡ Packed ∷ []) → (length nodes ≤ 1) × All IsPackedNode nodes
 packed_all [] t = (omega arith, All-nil IsPackedNode)
 packed_all (node ∷ []) (inl none) = absurd (omega (arith, ap length none))
@@ -254,6 +285,7 @@ packed_all (node ∷ []) (inr one) = (omega arith, All-cons IsPackedNode node []
 packed_all (node ∷ next ∷ nodes) (inl none) = absurd (omega (arith, ap length none))
 packed_all (node ∷ next ∷ nodes) (inr one) = absurd (omega (arith, ap length one))
 
+-- the form of old nodes suits new ones that are no more, and packed where all old ones were
 formed_fewer : (f : Form) (old new : List Node) → length new ≤ length old → (All IsPackedNode old → All IsPackedNode new) → IsFormed f (map container_of old) → IsFormed f (map container_of new)
 formed_fewer Intset old new h packed t = t
 formed_fewer Listpack old new h packed t = let few = packed_all old t in containers_few new (omega (arith, h, few.0)) (packed few.1)
@@ -262,6 +294,7 @@ formed_fewer Skiplist old new h packed t = t
 formed_fewer Quicklist old new h packed t = tt
 formed_fewer Stream old new h packed t = t
 
+-- a list of the rebuilt nodes, with the old form and as long as their elements, is the old one changed to these
 pub rebuilt_is : (m mid n : Blocks) (old new : Chain) (list : List (List ℕ)) (r : Rebuilt) → IsQuick m old → IsRebuilt m mid old.nodes list r → Changes mid n (refs_of r.replaced.items) []
     → new.nodes ≡ r.nodes.items → new.len ≡ length list → new.form ≡ old.form → IsChanged m n old new list
 rebuilt_is m mid n old new list r s is ended nodes len form = record {

@@ -113,27 +113,10 @@ stays_rewrite m old k list t h short =
 pub one_piece : (piece : Piece) (list : List (List ℕ)) → piece_list piece ≡ list → flat_map piece_list (piece ∷ []) ≡ list
 one_piece piece list is = append-nil (piece_list piece) ∙ is
 
--- nodes put in before the node k, with none taken out
-pub beside_is : (m : Blocks) (old : Chain) (k : ℕ) (list placed : List (List ℕ)) → placed ≡ list → respelled m old k list k ≡ respelled m old k placed (k + 0)
-beside_is m old k list placed is =
-    let none : k ≡ k + 0 = omega arith in
-    ap (λ (xs : List (List ℕ)). respelled m old k xs k) (sym is) ∙ ap (respelled m old k placed) none
-
 -- the first node of an empty list
 pub first_is : (m : Blocks) (old : Chain) (list placed : List (List ℕ)) → old.nodes ≡ [] → placed ≡ list → list ≡ respelled m old 0 placed 0
 first_is m old list placed none is =
     sym is ∙ sym (append-nil placed) ∙ ap (λ (xs : List Node). placed ++ elements_of m xs) (sym none)
-
-pub formed_first : (f : Form) (cs : List Container) → cs ≡ [] → IsFormed f cs → IsFormed f (take 0 cs ++ (Packed ∷ drop 0 cs))
-formed_first Intset cs none t = t
-formed_first Listpack cs none t = inr (ap (λ (xs : List Container). Packed ∷ xs) none)
-formed_first Hashtable cs none t = t
-formed_first Skiplist cs none t = t
-formed_first Quicklist cs none t = tt
-formed_first Stream cs none t = t
-
-pub stays_first : (f : Form) (list : List (List ℕ)) (cs : List Container) → IsFormed f cs → pack_len list ≤ 8192 → IsRisen f list f
-stays_first f list cs t short = stays f list cs t (λ _. short)
 
 -- a change and its form
 pub written_by : (m n : Blocks) (old new : Chain) (list : List (List ℕ)) → IsRisen old.form list new.form → IsChanged m n old new list → IsWritten m n old new list
@@ -151,14 +134,5 @@ written_pieces r m n old new list k e len pieces is formed over x len_is form_is
     on_ok_three r (λ a b f. written_by m n old new whole (subst (λ (g : Form). IsRisen old.form whole g) (sym f) (rises old.form whole (map container_of old.nodes) formed over.long))
     (changed_by m n old new whole k e len Quicklist pieces (ap (λ (xs : List (List ℕ)). respelled m old k xs e) (sym is)) over.counted tt a b f)) x len_is form_is
 
-pub pieces_one : (a b c : Piece) → piece_list a ≡ [] → piece_list c ≡ [] → flat_map piece_list (b ∷ []) ≡ three a b c
-pieces_one a b c none last = ap (λ (xs : List (List ℕ)). piece_list b ++ xs) (sym last) ∙ ap (λ (xs : List (List ℕ)). xs ++ (piece_list b ++ piece_list c)) (sym none)
-
 pub pieces_behind : (a b c : Piece) → piece_list a ≡ [] → flat_map piece_list (b ∷ c ∷ []) ≡ three a b c
 pieces_behind a b c none = ap (λ (xs : List (List ℕ)). piece_list b ++ xs) (append-nil (piece_list c)) ∙ ap (λ (xs : List (List ℕ)). xs ++ (piece_list b ++ piece_list c)) (sym none)
-
-pub pieces_before : (a b c : Piece) → piece_list c ≡ [] → flat_map piece_list (a ∷ b ∷ []) ≡ three a b c
-pieces_before a b c last = ap (λ (xs : List (List ℕ)). piece_list a ++ (piece_list b ++ xs)) (sym last)
-
-pub pieces_three : (a b c : Piece) → flat_map piece_list (a ∷ b ∷ c ∷ []) ≡ three a b c
-pieces_three a b c = ap (λ (xs : List (List ℕ)). piece_list a ++ (piece_list b ++ xs)) (append-nil (piece_list c))
