@@ -19,10 +19,11 @@ split_at xs k d h =
     let next : k + 1 ≡ suc k = omega arith in
     sym (take-append-drop k xs) ∙ ap (λ ys. take k xs ++ ys) (drop_more xs k d h ∙ ap (λ n. get_or xs k d ∷ drop n xs) next)
 
--- the prefix of a node, and how long it is
+-- the prefix of the node that bytes tell is the one read from them
 pub prefix_told : (rest : ℕ) (bytes : List ℕ) → IsNode rest bytes → prefix_in (node_of bytes) ≡ prefix_from bytes
 prefix_told rest bytes node = elim (node_cases rest bytes node) [ inl leaf ↦ ap prefix_in leaf.1.node_is | inr inner ↦ ap prefix_in inner.1.node_is ]
 
+-- a node's prefix is no longer than what is left of each key
 pub prefix_within : (rest : ℕ) (bytes : List ℕ) → IsNode rest bytes → length (prefix_from bytes) ≤ rest
 prefix_within rest bytes node = elim (node_cases rest bytes node) [ inl leaf ↦ (let whole = leaf.1.whole in omega arith) | inr inner ↦ (let short = inner.1.inner.short in omega arith) ]
 
@@ -33,6 +34,7 @@ parts_within rest bytes node = elim (node_cases rest bytes node) [
   | inr inner ↦ (let told = inner.1.laid.told in let long = inner.1.laid.long in omega arith)
 ]
 
+-- a key that has the first bytes of a node's prefix, but another byte after them, leaves the prefix there
 pub parts_at : (node : Node) (prefix key : List ℕ) (shared : ℕ) → prefix_in node ≡ prefix → shared < length prefix → length prefix ≤ length key → take shared prefix ≡ take shared key → slice_index prefix shared ≢ slice_index key shared → PartsAt node key shared
 parts_at node prefix key shared is within upto alike apart =
     record {
@@ -47,11 +49,12 @@ parts_at node prefix key shared is within upto alike apart =
       many = length-take-le shared prefix (omega arith);
     }
 
--- where the key has all of the prefix
+-- a key that has all of a prefix is the prefix and what follows it
 pub begun : (prefix key : List ℕ) (shared : ℕ) → shared ≡ length prefix → length prefix ≤ length key → take shared prefix ≡ take shared key → key ≡ prefix ++ drop shared key
 begun prefix key shared is upto alike =
     sym (take-append-drop shared key) ∙ ap (λ xs. xs ++ drop shared key) (sym alike ∙ take_all shared prefix (omega arith))
 
+-- where a key has all of a leaf's prefix, the leaf is the key's
 pub leaf_way : (rest : ℕ) (bytes key : List ℕ) (shared : ℕ) → IsLeafAt rest bytes → length key ≡ rest → shared ≡ length (prefix_from bytes) → take shared (prefix_from bytes) ≡ take shared key → node_of bytes ≡ Leaf key (ref_from (body_from bytes))
 leaf_way rest bytes key shared leaf all is alike =
     let whole = leaf.whole in
@@ -77,6 +80,7 @@ edge_at [] k d h = absurd (omega arith)
 edge_at (l ∷ links) zero d h = refl
 edge_at (l ∷ links) (suc k) d h = edge_at links k d (omega arith)
 
+-- where all links have edges greater than a number, the edge at each place is greater
 all_at : (low : ℕ) (links : List Link) (k : ℕ) → AllByRecursion (λ m. low < m.edge) links → k < length links → low < get_or (edges_of links) k 0
 all_at low [] k above h = absurd (omega arith)
 all_at low (l ∷ links) zero above h = above.0
@@ -90,18 +94,20 @@ rising_at (l ∷ links) zero (suc j) rising less within = all_at l.edge links j 
 rising_at (l ∷ links) (suc i) zero rising less within = absurd (omega arith)
 rising_at (l ∷ links) (suc i) (suc j) rising less within = rising_at links i j rising.1 (omega arith) (omega arith)
 
--- the links before the place of a byte, and those from it on
+-- where the edges at all places before one are less than a byte, so are those of the links before it
 below_take : (links : List Link) (k e : ℕ) → ((i : ℕ) → i < k → i < length links → get_or (edges_of links) i 0 < e) → AllByRecursion (λ l. l.edge < e) (take k links)
 below_take links zero e h = tt
 below_take [] (suc k) e h = tt
 below_take (l ∷ links) (suc k) e h = (h 0 (omega arith) (omega arith), below_take links k e (λ i less within. h (suc i) (omega arith) (omega arith)))
 
+-- where the edges at all places from one on are greater than a byte, so are those of the links from it on
 above_drop : (links : List Link) (k e : ℕ) → ((i : ℕ) → k ≤ i → i < length links → e < get_or (edges_of links) i 0) → AllByRecursion (λ l. e < l.edge) (drop k links)
 above_drop [] zero e h = tt
 above_drop [] (suc k) e h = tt
 above_drop (l ∷ links) zero e h = (h 0 (omega arith) (omega arith), above_drop links zero e (λ i more within. h (suc i) (omega arith) (omega arith)))
 above_drop (l ∷ links) (suc k) e h = above_drop links k e (λ i more within. h (suc i) (omega arith) (omega arith))
 
+-- where edges rise, the answers of their comparison with a number don't fall
 pub edges_rise : (links : List Link) (e : ℕ) → Rising links → IsNonDecreasingBy (λ y. ordering_index (nat_cmp y e)) (edges_of links)
 edges_rise links e rising i j d upto within =
     let many : length (edges_of links) ≡ length links = length-map links (λ l. l.edge) in
@@ -118,6 +124,7 @@ pub record IsRead (links : List Link) (edges refs : List ℕ) : Type 0 where
   pub more : List ℕ
   pub refs_are : refs ≡ refs_bytes links ++ more
 
+-- the edges and the references read from an inner node's bytes are those of its links
 pub read_of : (rest : ℕ) (bytes edges refs : List ℕ) (inner : IsInnerAt rest bytes) → edges ≡ take (little_number 2 (body_from bytes)) (drop 2 (body_from bytes)) → refs ≡ drop (little_number 2 (body_from bytes)) (drop 2 (body_from bytes)) → IsRead inner.links edges refs
 read_of rest bytes edges refs inner edges_is refs_is =
     let links = inner.links in
@@ -183,7 +190,7 @@ missing_way rest bytes key edges refs shared place inner read all is alike withi
       more = above_drop links place byte (λ i more inside. greater-cmp (get_or (edges_of links) i 0) byte (ap (λ xs. nat_cmp (get_or xs i 0) byte) (sym read.edges_are) ∙ point.1 i 0 more (omega arith)));
     }
 
--- there are the edges, and the references behind them
+-- the count of an inner node's links and their edges lie within what stands behind its prefix
 pub links_within : (rest : ℕ) (bytes body : List ℕ) → IsInnerAt rest bytes → body ≡ body_from bytes → 2 + little_number 2 body ≤ length body
 links_within rest bytes body inner is =
     let links = inner.links in
@@ -193,6 +200,7 @@ links_within rest bytes body inner is =
     let some = inner.inner.some in
     omega (arith, length-drop 2 body, length-map links (λ l. l.edge))
 
+-- the twelve bytes of a link's reference lie within those read for the references
 pub link_within : (links : List Link) (edges refs : List ℕ) (place : ℕ) → IsRead links edges refs → place < length edges → 12 * place + 12 ≤ length refs
 link_within links edges refs place read within =
     omega (arith, ap length read.refs_are, length-append (refs_bytes links) read.more, length-refs_bytes links, ap length read.edges_are, length-map links (λ l. l.edge))
@@ -210,9 +218,11 @@ pub record IsBody (bytes : List ℕ) (len : ℕ) : Type 0 where
   pub few : 2 + length (prefix_from bytes) + len ≤ 3347
   pub short : length (prefix_from bytes) ≤ 16
 
+-- behind the prefix stand all bytes but the first two and as many as the second tells
 length-body_from : (bytes : List ℕ) → length (body_from bytes) ≡ length bytes - 2 - slice_index bytes 1
 length-body_from bytes = omega (arith, length-drop (slice_index bytes 1) (drop 2 bytes), length-drop 2 bytes)
 
+-- behind its prefix a leaf has twelve bytes, and an inner node two and thirteen for each link
 pub body_within : (rest len : ℕ) (bytes : List ℕ) → IsNode rest bytes → rest ≤ 16 → (slice_index bytes 0 ≡ 0 → len ≡ 12) → (slice_index bytes 0 ≢ 0 → len ≡ 2 + 13 * little_number 2 (body_from bytes)) → IsBody bytes len
 body_within rest len bytes node few leaf inner = elim (node_cases rest bytes node) [
   | inl l ↦ (let is = leaf l.0 in let body = l.1.body in let whole = l.1.whole in record { within = omega arith; few = omega arith; short = omega arith })
@@ -226,6 +236,7 @@ body_within rest len bytes node few leaf inner = elim (node_cases rest bytes nod
       record { within = omega (arith, length-body_from bytes); few = omega arith; short = omega arith })
 ]
 
+-- an inner node has at least two bytes behind its prefix
 pub body_two : (rest : ℕ) (bytes : List ℕ) → IsNode rest bytes → slice_index bytes 0 ≢ 0 → 2 ≤ length (body_from bytes)
 body_two rest bytes node other =
     let inner = as_inner rest bytes node other in
@@ -233,5 +244,6 @@ body_two rest bytes node other =
     let told = inner.laid.told in
     omega (arith, length-body_from bytes)
 
+-- the second byte of a node is the length of its prefix
 pub prefix_len : (rest : ℕ) (bytes : List ℕ) → IsNode rest bytes → slice_index bytes 1 ≡ length (prefix_from bytes)
 prefix_len rest bytes node = elim (node_cases rest bytes node) [ inl leaf ↦ leaf.1.told | inr inner ↦ inner.1.laid.told ]

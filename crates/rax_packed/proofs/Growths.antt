@@ -25,9 +25,11 @@ pub record Puts (b m : Blocks) (news : List BlockRef) : Type 0 where
   pub counts : (old new : List BlockRef) → ((r : BlockRef) → times r new ≡ times r old + times r news) → Counts b m old new
   pub kept : (r : BlockRef) → IsSome (b r) → m r ≡ b r
 
+-- where nothing has changed, no block was put
 pub puts_none : (b : Blocks) → Puts b b []
 puts_none b = record { counts = λ old new same. Counts-same b old new (λ r. omega (arith, same r)); kept = λ r is. refl }
 
+-- where one more block is placed after others were put, all of them were put
 pub puts_more : (b m after : Blocks) (news : List BlockRef) (at : BlockRef) (bytes : List ℕ) → Puts b m news → m at ≡ None → after ≡ with_block m at (Some bytes) → Puts b after (at ∷ news)
 puts_more b m after news at bytes puts fresh is =
     record {
@@ -37,11 +39,12 @@ puts_more b m after news at bytes puts fresh is =
           ap (λ n. n r) is ∙ with_block-other m at r (Some bytes) (apart_live m r at (subst (λ o. IsSome o) (sym here) live) fresh) ∙ here);
     }
 
--- Then a block was given back.
+-- Blocks were put, then one was given back, and nothing else has changed.
 pub record Swaps (b m : Blocks) (at : BlockRef) (news : List BlockRef) : Type 0 where
   pub counts : (old new : List BlockRef) → ((r : BlockRef) → times r new + one r at ≡ times r old + times r news) → Counts b m old new
   pub kept : (r : BlockRef) → IsSome (b r) → ref_eq r at ≡ false → m r ≡ b r
 
+-- where blocks were put, and then one that was live before is given back, they stand in its place
 pub swaps : (b m after : Blocks) (at : BlockRef) (news : List BlockRef) → Puts b m news → IsSome (b at) → after ≡ with_block m at None → Swaps b after at news
 swaps b m after at news puts was is =
     record {
@@ -50,19 +53,21 @@ swaps b m after at news puts was is =
       kept = λ r live other. ap (λ n. n r) is ∙ with_block-other m at r None other ∙ puts.kept r live;
     }
 
--- a put block holds its bytes still, where others were put after it and another was given back
+-- a block holds its bytes still where another one is put
 pub put_stays : (m after : Blocks) (at r : BlockRef) (bytes : List ℕ) (seen : List ℕ) → m r ≡ Some seen → m at ≡ None → after ≡ with_block m at (Some bytes) → after r ≡ Some seen
 put_stays m after at r bytes seen here fresh is =
     ap (λ n. n r) is ∙ with_block-other m at r (Some bytes) (apart_live m r at (subst (λ o. IsSome o) (sym here) refl) fresh) ∙ here
 
+-- a put block holds the bytes that were put
 pub put_here : (m after : Blocks) (at : BlockRef) (bytes : List ℕ) → after ≡ with_block m at (Some bytes) → after at ≡ Some bytes
 put_here m after at bytes is = ap (λ n. n at) is ∙ with_block-same m at (Some bytes)
 
+-- a block that was put since holds its bytes still where one that was live before is given back
 pub ended_stays : (b m after : Blocks) (at r : BlockRef) (seen : List ℕ) → m r ≡ Some seen → IsSome (b at) → b r ≡ None → after ≡ with_block m at None → after r ≡ Some seen
 ended_stays b m after at r seen here was fresh is =
     ap (λ n. n r) is ∙ with_block-other m at r None (ref_eq-sym r at ∙ apart_live b at r was fresh) ∙ here
 
--- nothing is left of a put block that was given back
+-- a reference that isn't live after blocks were put wasn't live before
 pub fresh_before : (b m : Blocks) (r : BlockRef) (news : List BlockRef) → Puts b m news → m r ≡ None → b r ≡ None
 fresh_before b m r news puts fresh = by_case (b r) refl
   where
@@ -82,55 +87,61 @@ lacking_entries n b key prefix below before after edge value is less more =
     ∙ with_entry-parts full (below_links prefix (entries n b) before) [] (below_links prefix (entries n b) after) (links_less prefix below edge (entries n b) before less) (links_greater prefix below edge (entries n b) after more) value
     ∙ ap (λ k. below_links prefix (entries n b) before ++ ((record { key = k; value = value }) ∷ below_links prefix (entries n b) after)) (key_under prefix below edge)
 
-all_positive : {X : Type 0} (P : X → Type 0) (links : List X) → 0 < length links → AllByRecursion P links → (x : X) × P x
-all_positive P [] some h = absurd (omega arith)
-all_positive P (x ∷ links) some h = (x, h.0)
-
 -- A new leaf hangs at a node, which stands in another block then.
 module _ (b later : Blocks) (at leaf new : BlockRef) (key : List ℕ) (place from : ℕ) (value : BlockRef) (t : IsTreeAt (length key) b at) (own : Owned (refs_at (length key) b at) b) (lacks : Lacks (node_at b at) key place from)
     (changed : Swaps b later at (new ∷ leaf ∷ [])) (hangs : later leaf ≡ Some (spelled (Leaf lacks.below value)))
     (stands : later new ≡ Some (spelled (Inner lacks.prefix (lacks.before ++ (record { edge = lacks.edge; to = leaf }) ∷ lacks.after)))) (byte : lacks.edge < 256) (named : IsRef leaf) (valued : IsRef value) where
+  -- the length of the key
   n : ℕ
   n = length key
 
+  -- the links that the node has before the new leaf hangs at it
   links : List Link
   links = lacks.before ++ lacks.after
 
+  -- the link that names the new leaf by the key's byte
   link : Link
   link = record { edge = lacks.edge; to = leaf }
 
+  -- the block of the old reference holds the inner node, over the trees that its links name
   node : InnerAt (length key) (length key) b at lacks.prefix (lacks.before ++ lacks.after)
   node = inner_at (length key) (length key) b at lacks.prefix (lacks.before ++ lacks.after) t lacks.node_is
 
+  -- the old reference counts once as itself
   here : one at at ≡ 1
   here = cond-true _ _ _ (ref_eq-refl at)
 
+  -- the tree's references are the node's own, and those below the links before and after the key's byte
   refs_are : refs_at (length key) b at ≡ at ∷ (refs_below (length key) b lacks.before ++ refs_below (length key) b lacks.after)
   refs_are = inner_refs (length key) b at lacks.prefix (lacks.before ++ lacks.after) lacks.node_is ∙ ap (λ xs. at ∷ xs) (flat_map-append (λ l. refs (length key) b l.to) lacks.before lacks.after)
 
+  -- a reference is counted in the tree at the node, below the links before the key's byte, and below those after it
   in_refs : (r : BlockRef) → times r (refs_at (length key) b at) ≡ one r at + (times r (refs_below (length key) b lacks.before) + times r (refs_below (length key) b lacks.after))
   in_refs r = ap (times r) refs_are ∙ ap (λ m. one r at + m) (times-append r (refs_below (length key) b lacks.before) (refs_below (length key) b lacks.after))
 
+  -- the blocks of the tree but the node's own are as they were
   kept : (r : BlockRef) → 0 < times r (refs_at (length key) b at) → one r at ≡ 0 → later r ≡ b r
   kept r is out = changed.kept r (live-is b r (omega (arith, own r, is))) (other_than r at out)
 
+  -- the trees below the links before the key's byte are as they were
   same_before : SameBelow (length key) b later lacks.before
   same_before = same_below (length key) b later lacks.before (λ r is. kept r (omega (arith, in_refs r, is)) (omega (arith, own r, in_refs r, live-once b r, is)))
 
+  -- the trees below the links after the key's byte are as they were
   same_after : SameBelow (length key) b later lacks.after
   same_after = same_below (length key) b later lacks.after (λ r is. kept r (omega (arith, in_refs r, is)) (omega (arith, own r, in_refs r, live-once b r, is)))
 
+  -- how many bytes of each key are left below the node's links
   left : ℕ
   left = length key - suc (length lacks.prefix)
 
+  -- the key's bytes behind the node's prefix and one edge are as many as are left below the node's links
   left_is : length lacks.below ≡ length key - suc (length lacks.prefix)
   left_is = omega (arith, ap length lacks.key_is, length-append lacks.prefix (lacks.edge ∷ lacks.below))
 
+  -- the new leaf's block holds the rest of the key and the value, and fits below the node
   leaf_low : LeafAt (length key - suc (length lacks.prefix)) later leaf lacks.below value
   leaf_low = record { bytes = spelled (Leaf lacks.below value); block = hangs; holds = refl; fits = (left_is, valued) }
-
-  leaf_one : IsTree 1 (length key - suc (length lacks.prefix)) later leaf
-  leaf_one = leaf_tree 0 (length key - suc (length lacks.prefix)) later leaf lacks.below value leaf_low
 
   -- a leaf has as many levels as are wanted
   leaf_many : (m : ℕ) → 0 < m → IsTree m (length key - suc (length lacks.prefix)) later leaf × (entries m later leaf ≡ (record { key = lacks.below; value = value }) ∷ []) × (refs m later leaf ≡ leaf ∷ [])
@@ -139,12 +150,15 @@ module _ (b later : Blocks) (at leaf new : BlockRef) (key : List ℕ) (place fro
       let is = leaf_node m (length key - suc (length lacks.prefix)) later leaf lacks.below value leaf_low in
       (leaf_tree m (length key - suc (length lacks.prefix)) later leaf lacks.below value leaf_low, leaf_entries m later leaf lacks.below value is, leaf_refs m later leaf lacks.below value is)
 
+  -- the key has at least one byte
   longer : 0 < length key
   longer = omega (arith, ap length lacks.key_is, length-append lacks.prefix (lacks.edge ∷ lacks.below))
 
+  -- the new leaf is a tree of one entry and one reference with as many levels as the key has bytes
   hung : IsTree (length key) (length key - suc (length lacks.prefix)) later leaf × (entries (length key) later leaf ≡ (record { key = lacks.below; value = value }) ∷ []) × (refs (length key) later leaf ≡ leaf ∷ [])
   hung = leaf_many (length key) longer
 
+  -- the block of the new reference holds the node with the new leaf's link, over the trees of all its links
   now : InnerAt (length key) (length key) later new lacks.prefix (lacks.before ++ link ∷ lacks.after)
   unfolding link
   now = record {
@@ -159,9 +173,11 @@ module _ (b later : Blocks) (at leaf new : BlockRef) (key : List ℕ) (place fro
         (hung.0, same_after.trees (length key - suc (length lacks.prefix)) (all-back P lacks.before lacks.after node.below)));
   }
 
+  -- the node at the new reference is the one with the new leaf's link
   now_node : node_at later new ≡ Inner lacks.prefix (lacks.before ++ link ∷ lacks.after)
   now_node = inner_node (length key) (length key) later new lacks.prefix (lacks.before ++ link ∷ lacks.after) now
 
+  -- the tree's references are now the new one, and the leaf's between those below the other links as they were
   now_refs : refs_at (length key) later new ≡ owned_by new (refs_below (length key) b lacks.before) (leaf ∷ []) (refs_below (length key) b lacks.after)
   unfolding owned_by link
   now_refs =
@@ -170,6 +186,7 @@ module _ (b later : Blocks) (at leaf new : BlockRef) (key : List ℕ) (place fro
       ∙ ap (λ xs. new ∷ (refs_below (length key) b lacks.before ++ (xs ++ refs_below (length key) later lacks.after))) (append-nil (refs (length key) later leaf) ∙ hung.2)
       ∙ ap (λ xs. new ∷ (refs_below (length key) b lacks.before ++ ((leaf ∷ []) ++ xs))) same_after.refs_are
 
+  -- the tree's entries are now the new leaf's one between those below the other links as they were
   now_entries : entries_at (length key) later new ≡ below_links lacks.prefix (entries (length key) b) lacks.before ++ ((under (lacks.prefix ++ lacks.edge ∷ []) (record { key = lacks.below; value = value })) ∷ below_links lacks.prefix (entries (length key) b) lacks.after)
   unfolding link
   now_entries =
@@ -178,6 +195,7 @@ module _ (b later : Blocks) (at leaf new : BlockRef) (key : List ℕ) (place fro
       ∙ ap (λ xs. below_links lacks.prefix (entries (length key) b) lacks.before ++ (xs ++ below_links lacks.prefix (entries (length key) later) lacks.after)) (append-nil (map (under (lacks.prefix ++ lacks.edge ∷ [])) (entries (length key) later leaf)) ∙ ap (map (under (lacks.prefix ++ lacks.edge ∷ []))) hung.1)
       ∙ ap (λ xs. below_links lacks.prefix (entries (length key) b) lacks.before ++ ((under (lacks.prefix ++ lacks.edge ∷ []) (record { key = lacks.below; value = value })) ∷ xs)) (same_after.entries_are lacks.prefix)
 
+  -- the tree has become one at the new reference with the value at the key, and no other block has changed
   pub attached : Becomes (length key) b later at new (with_entry (entries_at (length key) b at) key value)
   attached = record {
     tree = inner_tree (length key) (length key) later new lacks.prefix (lacks.before ++ link ∷ lacks.after) now;

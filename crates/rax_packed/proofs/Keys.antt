@@ -70,9 +70,3 @@ by_first x y o h = elim (cases_order x y) [
     | inr more ↦ absurd (let a : ordering_then (nat_cmp x y) o ≡ Greater = ap (λ p. ordering_then p o) (cmp-greater x y more) in let bad : ◌≡◌ {A = Ordering} Greater Equal = sym a ∙ h in cc)
   ]
 ]
-
-pub same-order : (key other : List ℕ) → order key other ≡ Equal → key ≡ other
-same-order [] [] h = refl
-same-order [] (y ∷ other) h = cc
-same-order (x ∷ key) [] h = cc
-same-order (x ∷ key) (y ∷ other) h = let parts = by_first x y (order key other) h in let first = parts.0 in let rest = same-order key other parts.1 in λ i. first i ∷ rest i

@@ -18,31 +18,29 @@ use Rattle.rax_packed.proofs.Keys.{order-less, order-greater, order-same, cases_
 use Rattle.rax_packed.proofs.Entries.{All, all-append, below_links, links_less, links_greater, value_at-parts, value_at-link}
 use Rattle.rax_packed.proofs.Frames.{InnerAt, inner_at, leaf_at, inner_entries, leaf_entries, same_levels}
 
--- a tree has a block, which holds a node
-pub tree_levels : (levels rest : ℕ) (b : Blocks) (at : BlockRef) → IsTree levels rest b at → 0 < levels
-unfolding IsTree
-tree_levels zero rest b at t = absurd t
-tree_levels (suc levels) rest b at t = omega arith
-
+-- a tree's reference has a block, whose bytes hold a node that fits there
 pub tree_block : (levels rest : ℕ) (b : Blocks) (at : BlockRef) → IsTree levels rest b at → (bytes : List ℕ) × (b at ≡ Some bytes) × IsNode rest bytes
 unfolding IsTree
 tree_block zero rest b at t = absurd t
 tree_block (suc levels) rest b at t = (t.0, t.1, t.2)
 
+-- a tree's reference is live
 pub tree_live : (levels rest : ℕ) (b : Blocks) (at : BlockRef) → IsTree levels rest b at → IsSome (b at)
 tree_live levels rest b at t = let block = tree_block levels rest b at t in subst (λ o. IsSome o) (sym block.1) refl
 
+-- equal options hold equal lists
 pub same_some : (xs ys : List ℕ) → Some xs ≡ Some ys → xs ≡ ys
 same_some xs ys e = cc
 
--- the bytes read are a node's, and it is the one that stands there
+-- the bytes read at a tree's reference are those of a node that fits there
 pub tree_node : (levels rest : ℕ) (b : Blocks) (at : BlockRef) (bytes : List ℕ) → IsTree levels rest b at → b at ≡ Some bytes → IsNode rest bytes
 tree_node levels rest b at bytes t read = let block = tree_block levels rest b at t in subst (IsNode rest) (same_some block.0 bytes (sym block.1 ∙ read)) block.2
 
+-- the node at a reference is the one that the bytes read there tell
 pub node_read : (b : Blocks) (at : BlockRef) (bytes : List ℕ) → b at ≡ Some bytes → node_at b at ≡ node_of bytes
 node_read b at bytes read = ap (λ o. node_of (unwrap_or o [])) read
 
--- all keys of a node begin with its prefix
+-- where all keys with a prefix stand alike to a key, so do all keys below links behind that prefix
 links_side : (o : Ordering) (prefix key : List ℕ) (below : BlockRef → List Entry) (links : List Link) → ((rest : List ℕ) → order (prefix ++ rest) key ≡ o) → All o key (below_links prefix below links)
 links_side o prefix key below [] h = tt
 links_side o prefix key below (l ∷ links) h = all-append (λ e. order e.key key ≡ o) (map (under (prefix ++ l.edge ∷ [])) (below l.to)) (below_links prefix below links) (each (below l.to)) (links_side o prefix key below links h)
@@ -51,6 +49,7 @@ links_side o prefix key below (l ∷ links) h = all-append (λ e. order e.key ke
     each [] = tt
     each (e ∷ es) = (ap (λ k. order k key) (append_assoc prefix (l.edge ∷ []) e.key) ∙ h (l.edge ∷ e.key), each es)
 
+-- where all keys with a node's prefix stand alike to a key, so do all keys of the node
 node_side : (o : Ordering) (key : List ℕ) (below : BlockRef → List Entry) (node : Node) → ((rest : List ℕ) → order (prefix_in node ++ rest) key ≡ o) → All o key (entries_in below node)
 node_side o key below (Leaf prefix value) h = (ap (λ k. order k key) (sym (append-nil prefix)) ∙ h [], tt)
 node_side o key below (Inner prefix links) h = links_side o prefix key below links h
@@ -70,10 +69,12 @@ parts_side levels b at key shared parts =
       ]
     ]
 
+-- a key has no value among no entries
 pub empty_value : (key : List ℕ) → value_at [] key ≡ None
 unfolding value_at
 empty_value key = refl
 
+-- a key that leaves the prefix of a tree's top node has no value in the tree
 pub parts_value : (levels : ℕ) (b : Blocks) (at : BlockRef) (key : List ℕ) (shared : ℕ) → PartsAt (node_at b at) key shared → value_at (entries (suc levels) b at) key ≡ None
 parts_value levels b at key shared parts =
     let es = entries (suc levels) b at in
@@ -82,6 +83,7 @@ parts_value levels b at key shared parts =
       | inr more ↦ ap (λ xs. value_at xs key) refl ∙ value_at-parts key [] [] es tt more.1 ∙ empty_value key
     ]
 
+-- a leaf whose prefix is the key has its value at the key
 pub leaf_value : (levels : ℕ) (b : Blocks) (at value : BlockRef) (key : List ℕ) → node_at b at ≡ Leaf key value → value_at (entries (suc levels) b at) key ≡ Some value
 unfolding value_at
 leaf_value levels b at value key is =
@@ -91,10 +93,11 @@ leaf_value levels b at value key is =
     unwrap_entry None = None
     unwrap_entry (Some e) = Some e.value
 
--- the links on both sides of one
+-- where all links have edges greater than a number, the first one has
 all_apart : (l : Link) (links : List Link) (n : ℕ) → AllByRecursion (λ m. n < m.edge) (l ∷ links) → n < l.edge
 all_apart l links n h = h.0
 
+-- of rising links those before one have lesser edges, those after it greater ones, and both parts rise
 pub rising_split : (before after : List Link) (link : Link) → Rising (before ++ link ∷ after) → AllByRecursion (λ l. l.edge < link.edge) before × AllByRecursion (λ l. link.edge < l.edge) after × Rising before × Rising after
 rising_split [] after link rising = (tt, rising.0, tt, rising.1)
 rising_split (l ∷ before) after link rising =
@@ -109,11 +112,12 @@ rising_split (l ∷ before) after link rising =
     front [] link ys n h = tt
     front (x ∷ xs) link ys n h = (h.0, front xs link ys n h.1)
 
+-- what holds of all elements of a list holds of one between two parts of it
 pub all-middle : {X : Type 0} (P : X → Type 0) (xs ys : List X) (x : X) → AllByRecursion P (xs ++ x ∷ ys) → P x
 all-middle P [] ys x h = h.0
 all-middle P (y ∷ xs) ys x h = all-middle P xs ys x h.1
 
--- the links of a key's way
+-- a node and a key at the link by which the key goes on, with lesser edges before it and greater ones after it
 pub record Split (b : Blocks) (at : BlockRef) (key : List ℕ) (place from : ℕ) (to : BlockRef) (n rest : ℕ) : Type 0 where
   pub prefix : List ℕ
   pub before : List Link
@@ -134,11 +138,12 @@ link_split n rest b at to key place from t leads =
     let sides = rising_split leads.before leads.after (record { edge = leads.edge; to = to }) node.inner.rising in
     record { prefix = leads.prefix; before = leads.before; after = leads.after; edge = leads.edge; below = leads.below; node = node; many = leads.many; key_is = leads.key_is; begins = leads.begins; less = sides.0; more = sides.1 }
 
--- where the rest of the key begins
+-- without a prefix and the byte after it, a key that begins with them is what follows them
 pub rest_is : (prefix below key : List ℕ) (edge from : ℕ) → key ≡ prefix ++ edge ∷ below → from ≡ suc (length prefix) → drop from key ≡ below
 rest_is prefix below key edge from is begins =
     ap (drop from) (is ∙ sym (append_assoc prefix (edge ∷ []) below)) ∙ drop_at (prefix ++ edge ∷ []) below from (length-append prefix (edge ∷ []) ∙ omega arith)
 
+-- the value of a key that goes on by a link is that of its rest in the tree below the link
 pub link_value : (n : ℕ) (b : Blocks) (at to : BlockRef) (key : List ℕ) (place from rest : ℕ) → IsTree (suc n) rest b at → LeadsTo (node_at b at) key place from to → value_at (entries (suc n) b at) key ≡ value_at (entries n b to) (drop from key)
 unfolding link_split
 link_value n b at to key place from rest t leads =
@@ -148,7 +153,7 @@ link_value n b at to key place from rest t leads =
     ∙ value_at-link s.prefix s.below (entries n b) s.before s.after (record { edge = s.edge; to = to }) s.less s.more
     ∙ ap (value_at (entries n b to)) (sym (rest_is s.prefix s.below key s.edge from s.key_is leads.begins))
 
--- the trees below a link
+-- the link by which a key goes on names a tree with one level less, whose keys are as long as the key's rest
 pub link_tree : (n rest : ℕ) (b : Blocks) (at to : BlockRef) (key : List ℕ) (place from : ℕ) → IsTree (suc n) rest b at → rest ≡ length key → LeadsTo (node_at b at) key place from to → IsTree n (length (drop from key)) b to
 unfolding link_split
 link_tree n rest b at to key place from t all leads =
@@ -157,9 +162,11 @@ link_tree n rest b at to key place from t all leads =
     let left : length (drop from key) ≡ rest - suc (length s.prefix) = omega (arith, ap length s.key_is, length-append s.prefix (s.edge ∷ s.below)) in
     subst (λ m. IsTree n m b to) (sym left) (all-middle (λ l. IsTree n (rest - suc (length s.prefix)) b l.to) s.before s.after (record { edge = s.edge; to = to }) s.node.below)
 
+-- the rest of a key that goes on by a link begins no later than where the key ends
 pub from_within : (node : Node) (to : BlockRef) (key : List ℕ) (place from : ℕ) → LeadsTo node key place from to → from ≤ length key
 from_within node to key place from leads = omega (arith, leads.begins, ap length leads.key_is, length-append leads.prefix (leads.edge ∷ leads.below))
 
+-- a key whose next byte no link of the top node has is without a value in the tree
 pub lacks_value : (levels : ℕ) (b : Blocks) (at : BlockRef) (key : List ℕ) (place from : ℕ) → Lacks (node_at b at) key place from → value_at (entries (suc levels) b at) key ≡ None
 lacks_value levels b at key place from lacks =
     let f = below_links lacks.prefix (entries levels b) in
@@ -176,25 +183,32 @@ pub record Named (b : Blocks) (to : BlockRef) (n left : ℕ) : Type 0 where
   pub refs_are : refs_at left b to ≡ refs n b to
   pub marks_are : marks_at left b to ≡ marks n b to
 
+-- a tree of any number of levels is the same with those that the length of its keys allows
 pub named : (b : Blocks) (to : BlockRef) (n left : ℕ) → IsTree n left b to → Named b to n left
 named b to n left t = let same = same_levels n (suc left) left b to (omega arith) t in record { tree = same.tree; entries_are = same.entries_are; refs_are = same.refs_are; marks_are = same.marks_are }
 
 module _ (b : Blocks) (at : BlockRef) (bytes key : List ℕ) (t : IsTreeAt (length key) b at) (read : b at ≡ Some bytes) where
+  -- where the bytes read are those of a leaf of the key, its value is the key's
   pub found_leaf : (value : BlockRef) → node_of bytes ≡ Leaf key value → value_at (entries_at (length key) b at) key ≡ Some value
   found_leaf value is = leaf_value (length key) b at value key (node_read b at bytes read ∙ is)
 
+  -- where the key leaves the prefix of the node read, it has no value in the tree
   pub found_parts : (shared : ℕ) → PartsAt (node_of bytes) key shared → value_at (entries_at (length key) b at) key ≡ None
   found_parts shared parts = parts_value (length key) b at key shared (subst (λ node. PartsAt node key shared) (sym (node_read b at bytes read)) parts)
 
+  -- where no link of the node read has the key's next byte, the key has no value in the tree
   pub found_missing : (place from : ℕ) → Lacks (node_of bytes) key place from → value_at (entries_at (length key) b at) key ≡ None
   found_missing place from lacks = lacks_value (length key) b at key place from (subst (λ node. Lacks node key place from) (sym (node_read b at bytes read)) lacks)
 
+  -- the link of the node read by which the key goes on is one of the node that stands there
   pub leads_at : (place from : ℕ) (to : BlockRef) → LeadsTo (node_of bytes) key place from to → LeadsTo (node_at b at) key place from to
   leads_at place from to leads = subst (λ node. LeadsTo node key place from to) (sym (node_read b at bytes read)) leads
 
+  -- the link by which the key goes on names a tree, whose keys are as long as the key's rest
   pub link_below : (place from : ℕ) (to : BlockRef) → LeadsTo (node_of bytes) key place from to → Named b to (length key) (length (drop from key))
   link_below place from to leads = named b to (length key) (length (drop from key)) (link_tree (length key) (length key) b at to key place from t refl (leads_at place from to leads))
 
+  -- where the key goes on by a link of the node read, its value is that of its rest in the tree below
   pub found_link : (place from : ℕ) (to : BlockRef) → LeadsTo (node_of bytes) key place from to → value_at (entries_at (length key) b at) key ≡ value_at (entries_at (length (drop from key)) b to) (drop from key)
   found_link place from to leads =
       link_value (length key) b at to key place from (length key) t (leads_at place from to leads) ∙ ap (λ es. value_at es (drop from key)) (sym (link_below place from to leads).entries_are)
@@ -205,7 +219,7 @@ shorter node to key place from bound all leads =
     let within = from_within node to key place from leads in
     omega (arith, length-drop from key, leads.begins)
 
--- a leaf's value stands behind its prefix
+-- a leaf's bytes have room for the twelve of a value behind its prefix
 pub leaf_room : (b : Blocks) (at old : BlockRef) (bytes key : List ℕ) → IsTreeAt (length key) b at → b at ≡ Some bytes → node_of bytes ≡ Leaf key old → (2 + length key) + 12 ≤ length (bytes_at b at)
 leaf_room b at old bytes key t read is =
     let leaf = leaf_at (length key) (length key) b at key old t (node_read b at bytes read ∙ is) in

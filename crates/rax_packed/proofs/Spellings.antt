@@ -10,17 +10,21 @@ use Rattle.byteorder.specs.Numbers.{length-bytes_low_first, little_number-reads_
 use Rattle.blocks.specs.declared.BlockRef.{BlockRef}
 use Rattle.rax_packed.specs.Nodes.{Link, Node, Leaf, Inner, ref_bytes, edges_of, refs_bytes, spelled, HoldsNode, Rising, IsRef, IsInner, Fits, ref_from, links_from, prefix_from, body_from, inner_from, node_of, IsNode}
 
+-- a reference is twelve bytes long
 pub length-ref_bytes : (r : BlockRef) → length (ref_bytes r) ≡ 12
 unfolding ref_bytes
 length-ref_bytes r = omega (arith, length-append (little_bytes 8 r.slab) (little_bytes 4 r.slot), length-bytes_low_first 0 8 r.slab, length-bytes_low_first 0 4 r.slot)
 
+-- the references of links are twelve bytes long each
 pub length-refs_bytes : (links : List Link) → length (refs_bytes links) ≡ 12 * length links
 length-refs_bytes [] = refl
 length-refs_bytes (l ∷ links) = omega (arith, length-append (ref_bytes l.to) (refs_bytes links), length-ref_bytes l.to, length-refs_bytes links)
 
+-- the bytes of the references of joined links are those of both parts
 pub refs_bytes-append : (xs ys : List Link) → refs_bytes (xs ++ ys) ≡ refs_bytes xs ++ refs_bytes ys
 refs_bytes-append xs ys = flat_map-append (λ l. ref_bytes l.to) xs ys
 
+-- a reference that code can hold is read back from its bytes, whatever follows them
 pub ref_from-bytes : (r : BlockRef) (more : List ℕ) → IsRef r → ref_from (ref_bytes r ++ more) ≡ r
 unfolding ref_bytes
 ref_from-bytes r more fits =
@@ -30,6 +34,7 @@ ref_from-bytes r more fits =
     ap (λ xs. little_number 4 (drop 8 xs)) joined ∙ ap (little_number 4) (drop_at (little_bytes 8 r.slab) (little_bytes 4 r.slot ++ more) 8 (length-bytes_low_first 0 8 r.slab)) ∙ little_number-reads_back 4 r.slot more fits.slot in
     λ i. record { slab = slab i; slot = slot i }
 
+-- links are read back from their edges and the bytes of their references, whatever follows each
 pub links_from-spelled : (links : List Link) (edges refs : List ℕ) → AllByRecursion (λ l. IsRef l.to) links → links_from (length links) (edges_of links ++ edges) (refs_bytes links ++ refs) ≡ links
 links_from-spelled [] edges refs fit = refl
 links_from-spelled (l ∷ links) edges refs fit =
@@ -39,32 +44,25 @@ links_from-spelled (l ∷ links) edges refs fit =
     let more : links_from (length links) (edges_of links ++ edges) (drop 12 ((ref_bytes l.to ++ refs_bytes links) ++ refs)) ≡ links = ap (links_from (length links) (edges_of links ++ edges)) rest ∙ links_from-spelled links edges refs fit.1 in
     λ i. record { edge = l.edge; to = to i } ∷ more i
 
--- how many links read from bytes are, and what they are
-pub length-links_from : (count : ℕ) (edges refs : List ℕ) → length (links_from count edges refs) ≡ count
-length-links_from zero edges refs = refl
-length-links_from (suc count) edges refs = ap suc (length-links_from count (drop 1 edges) (drop 12 refs))
-
-pub edges-links_from : (count : ℕ) (edges refs : List ℕ) → count ≤ length edges → edges_of (links_from count edges refs) ≡ take count edges
-edges-links_from zero edges refs h = refl
-edges-links_from (suc count) [] refs h = absurd (omega arith)
-edges-links_from (suc count) (e ∷ edges) refs h = ap (λ xs. e ∷ xs) (edges-links_from count edges (drop 12 refs) (omega arith))
-
--- rising edges that are bytes are 256 at most
+-- links whose edges rise from a number on and are bytes are at most as many as the bytes from it on
 count_from : (low : ℕ) (links : List Link) → AllByRecursion (λ l. low ≤ l.edge) links → Rising links → AllByRecursion (λ l. l.edge < 256) links → length links ≤ 256 - low
 count_from low [] above rising bytes = omega arith
 count_from low (l ∷ links) above rising bytes = let h = count_from (suc l.edge) links rising.0 rising.1 bytes.1 in omega (arith, above.0, bytes.0)
 
+-- each edge is at least zero
 any_edge : (links : List Link) → AllByRecursion (λ l. 0 ≤ l.edge) links
 any_edge [] = tt
 any_edge (l ∷ links) = (omega arith, any_edge links)
 
+-- links whose edges rise and are bytes are at most 256
 pub count_most : (links : List Link) → Rising links → AllByRecursion (λ l. l.edge < 256) links → length links ≤ 256
 count_most links rising bytes = count_from 0 links (any_edge links) rising bytes
 
--- the parts of bytes that begin as a node's do
+-- the prefix of bytes that begin as a node's do is read back
 prefix_at : (kind : ℕ) (prefix body : List ℕ) → prefix_from (kind ∷ length prefix ∷ (prefix ++ body)) ≡ prefix
 prefix_at kind prefix body = take_at prefix body (length prefix) refl
 
+-- what follows the prefix in such bytes is read back
 body_at : (kind : ℕ) (prefix body : List ℕ) → body_from (kind ∷ length prefix ∷ (prefix ++ body)) ≡ body
 body_at kind prefix body = drop_at prefix body (length prefix) refl
 
@@ -72,19 +70,23 @@ body_at kind prefix body = drop_at prefix body (length prefix) refl
 abbrev pub inner_body : List Link → List ℕ → List ℕ
 inner_body links zeros = little_bytes 2 (length links) ++ (edges_of links ++ (refs_bytes links ++ zeros))
 
+-- the bytes of an inner node are its kind, the length of its prefix, the prefix, and what it has behind that
 inner-spelled : (prefix : List ℕ) (links : List Link) (zeros : List ℕ) → spelled (Inner prefix links) ++ zeros ≡ 1 ∷ length prefix ∷ (prefix ++ inner_body links zeros)
 inner-spelled prefix links zeros = ap (λ xs. 1 ∷ length prefix ∷ xs) (simp append_assoc)
 
--- reading back what an inner node has behind its prefix
+-- the number of links, 256 at most, is read back from what an inner node has behind its prefix
 body_count : (links : List Link) (zeros : List ℕ) → length links ≤ 256 → little_number 2 (inner_body links zeros) ≡ length links
 body_count links zeros few = little_number-reads_back 2 (length links) (edges_of links ++ (refs_bytes links ++ zeros)) (omega arith)
 
+-- behind the number of links stand the edges, the references, and what follows them
 body_rest : (links : List Link) (zeros : List ℕ) → drop 2 (inner_body links zeros) ≡ edges_of links ++ (refs_bytes links ++ zeros)
 body_rest links zeros = drop_at (little_bytes 2 (length links)) (edges_of links ++ (refs_bytes links ++ zeros)) 2 (length-bytes_low_first 0 2 (length links))
 
+-- behind the number of links and the edges stand the references, and what follows them
 body_refs : (links : List Link) (zeros : List ℕ) → drop (length links) (drop 2 (inner_body links zeros)) ≡ refs_bytes links ++ zeros
 body_refs links zeros = ap (drop (length links)) (body_rest links zeros) ∙ drop_at (edges_of links) (refs_bytes links ++ zeros) (length links) (length-map links (λ l. l.edge))
 
+-- an inner node is read back from its prefix and what it has behind that
 inner_back : (prefix : List ℕ) (links : List Link) (zeros : List ℕ) → length links ≤ 256 → AllByRecursion (λ l. IsRef l.to) links → inner_from prefix (inner_body links zeros) ≡ Inner prefix links
 inner_back prefix links zeros few fit =
     let count = body_count links zeros few in
@@ -94,6 +96,7 @@ inner_back prefix links zeros few fit =
     ∙ ap (λ edges. Inner prefix (links_from (length links) edges (refs_bytes links ++ zeros))) (body_rest links zeros)
     ∙ ap (Inner prefix) (links_from-spelled links (refs_bytes links ++ zeros) zeros fit)
 
+-- a leaf is read back from its bytes
 leaf_node : (prefix : List ℕ) (value : BlockRef) → IsRef value → node_of (spelled (Leaf prefix value)) ≡ Leaf prefix value
 unfolding node_of
 leaf_node prefix value fit =
@@ -102,6 +105,7 @@ leaf_node prefix value fit =
     ∙ ap (λ body. Leaf prefix (ref_from body)) (body_at 0 prefix (ref_bytes value) ∙ sym (append-nil (ref_bytes value)))
     ∙ ap (Leaf prefix) (ref_from-bytes value [] fit)
 
+-- an inner node is read back from its bytes, whatever follows them
 inner_node : (prefix : List ℕ) (links : List Link) (zeros : List ℕ) → length links ≤ 256 → AllByRecursion (λ l. IsRef l.to) links → node_of (1 ∷ length prefix ∷ (prefix ++ inner_body links zeros)) ≡ Inner prefix links
 unfolding node_of
 inner_node prefix links zeros few fit =
@@ -134,10 +138,12 @@ pub record IsLaid (bytes prefix : List ℕ) (links : List Link) : Type 0 where
   pub long : length bytes ≡ 4 + length prefix + 13 * length links + zeros
   pub bytes_are : bytes ≡ spelled (Inner prefix links) ++ replicate zeros 0
 
+-- behind its prefix an inner node takes two bytes, thirteen for each link, and what follows them
 length-inner_body : (links : List Link) (zeros : List ℕ) → length (inner_body links zeros) ≡ 2 + 13 * length links + length zeros
 length-inner_body links zeros =
     omega (arith, length-append (little_bytes 2 (length links)) (edges_of links ++ (refs_bytes links ++ zeros)), length-append (edges_of links) (refs_bytes links ++ zeros), length-append (refs_bytes links) zeros, length-map links (λ l. l.edge), length-refs_bytes links, length-bytes_low_first 0 2 (length links))
 
+-- bytes that hold an inner node of at most 256 links have its parts in their places
 pub laid : (bytes prefix : List ℕ) (links : List Link) → HoldsNode bytes (Inner prefix links) → length links ≤ 256 → IsLaid bytes prefix links
 laid bytes prefix links holds few =
     let zeros = replicate holds.0 0 in
@@ -166,6 +172,7 @@ pub record IsLeafAt (rest : ℕ) (bytes : List ℕ) : Type 0 where
   pub bytes_are : bytes ≡ spelled (Leaf (prefix_from bytes) (ref_from (body_from bytes)))
   pub ref : IsRef (ref_from (body_from bytes))
 
+-- the parts of an inner node that fits, with at most 256 links, in the bytes that tell it
 pub record IsInnerAt (rest : ℕ) (bytes : List ℕ) : Type 0 where
   pub links : List Link
   pub node_is : node_of bytes ≡ Inner (prefix_from bytes) links
@@ -173,6 +180,7 @@ pub record IsInnerAt (rest : ℕ) (bytes : List ℕ) : Type 0 where
   pub inner : IsInner rest (prefix_from bytes) links
   pub few : length links ≤ 256
 
+-- bytes that tell a leaf that fits have the parts of a leaf's
 leaf_at : (rest : ℕ) (bytes : List ℕ) → node_of bytes ≡ Leaf (prefix_from bytes) (ref_from (body_from bytes)) → IsNode rest bytes → IsLeafAt rest bytes
 leaf_at rest bytes is node =
     let prefix = prefix_from bytes in
@@ -189,6 +197,7 @@ leaf_at rest bytes is node =
       ref = fits.1;
     }
 
+-- bytes that tell an inner node that fits have the parts of an inner node's
 inner_at : (rest : ℕ) (bytes : List ℕ) (links : List Link) → node_of bytes ≡ Inner (prefix_from bytes) links → IsNode rest bytes → IsInnerAt rest bytes
 inner_at rest bytes links is node =
     let holds : HoldsNode bytes (Inner (prefix_from bytes) links) = subst (HoldsNode bytes) is node.holds in
@@ -206,8 +215,10 @@ node_cases rest bytes node = elim (cases_eq (slice_index bytes 0) 0) [
       inr (is.laid.kind, is))
 ]
 
+-- bytes of a node whose first is zero are a leaf's
 pub as_leaf : (rest : ℕ) (bytes : List ℕ) → IsNode rest bytes → slice_index bytes 0 ≡ 0 → IsLeafAt rest bytes
 as_leaf rest bytes node is = elim (node_cases rest bytes node) [ inl leaf ↦ leaf.1 | inr inner ↦ absurd (omega (arith, inner.0)) ]
 
+-- bytes of a node whose first isn't zero are an inner node's
 pub as_inner : (rest : ℕ) (bytes : List ℕ) → IsNode rest bytes → (slice_index bytes 0 ≡ 0 → ⊥) → IsInnerAt rest bytes
 as_inner rest bytes node other = elim (node_cases rest bytes node) [ inl leaf ↦ absurd (other leaf.0) | inr inner ↦ inner.1 ]

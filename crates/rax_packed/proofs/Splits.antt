@@ -27,6 +27,7 @@ map-under begin more edge (e ∷ es) =
     let rest = map-under begin more edge es in
     λ i. (record { key = key i; value = e.value }) ∷ rest i
 
+-- entries below links behind a longer prefix are those behind its end, with its beginning put before them
 below-under : (begin more : List ℕ) (edge : ℕ) (es : BlockRef → List Entry) (links : List Link) → below_links (begin ++ edge ∷ more) es links ≡ map (under (begin ++ edge ∷ [])) (below_links more es links)
 below-under begin more edge es [] = refl
 below-under begin more edge es (l ∷ links) =
@@ -44,9 +45,11 @@ pub record Shortened (n left : ℕ) (b later : Blocks) (at moved : BlockRef) (be
   pub old_refs : refs (suc n) b at ≡ at ∷ below
   pub new_refs : refs_at left later moved ≡ moved ∷ below
 
+-- without its beginning and the byte after that, a list is its rest
 cut_prefix : (begin rest : List ℕ) (own : ℕ) → drop (suc (length begin)) (begin ++ own ∷ rest) ≡ rest
 cut_prefix begin rest own = ap (drop (suc (length begin))) (sym (append_assoc begin (own ∷ []) rest)) ∙ drop_at (begin ++ own ∷ []) rest (suc (length begin)) (length-append begin (own ∷ []) ∙ omega arith)
 
+-- a leaf is shortened where another block holds it with the end of its prefix alone
 short_leaf : (n : ℕ) (b later : Blocks) (at moved value : BlockRef) (begin rest : List ℕ) (own : ℕ) → LeafAt n b at (begin ++ own ∷ rest) value → node_at b at ≡ Leaf (begin ++ own ∷ rest) value → later moved ≡ Some (spelled (Leaf rest value)) → Shortened n (n - suc (length begin)) b later at moved begin own
 short_leaf n b later at moved value begin rest own leaf is stands =
     let whole = leaf.fits.0 in
@@ -62,6 +65,7 @@ short_leaf n b later at moved value begin rest own leaf is stands =
       new_refs = leaf_refs (n - suc (length begin)) later moved rest value now_is;
     }
 
+-- an inner node is shortened where another block holds it with the end of its prefix, over the same trees
 short_inner : (n : ℕ) (b later : Blocks) (at moved : BlockRef) (links : List Link) (begin rest : List ℕ) (own : ℕ) → InnerAt n n b at (begin ++ own ∷ rest) links → node_at b at ≡ Inner (begin ++ own ∷ rest) links → later moved ≡ Some (spelled (Inner rest links)) → SameBelow n b later links
     → Shortened n (n - suc (length begin)) b later at moved begin own
 short_inner n b later at moved links begin rest own inner is stands same =
@@ -101,6 +105,7 @@ pub record Forked (n : ℕ) (later : Blocks) (new : BlockRef) (begin : List ℕ)
   pub entries_are : entries_at n later new ≡ map (under (begin ++ low_edge ∷ [])) (entries n later low) ++ map (under (begin ++ high_edge ∷ [])) (entries n later high)
   pub refs_are : refs_at n later new ≡ new ∷ (refs n later low ++ refs n later high)
 
+-- a block of an inner node with two links to trees, the lesser edge first, is a tree over both
 fork_at : (n : ℕ) (later : Blocks) (new : BlockRef) (begin : List ℕ) (low_edge : ℕ) (low : BlockRef) (high_edge : ℕ) (high : BlockRef) → length begin < n → low_edge < high_edge → high_edge < 256 → IsRef low → IsRef high
     → IsTree n (n - suc (length begin)) later low → IsTree n (n - suc (length begin)) later high
     → later new ≡ Some (spelled (Inner begin ((record { edge = low_edge; to = low }) ∷ (record { edge = high_edge; to = high }) ∷ []))) → Forked n later new begin low_edge low high_edge high
@@ -120,68 +125,84 @@ fork_at n later new begin low_edge low high_edge high short less byte low_ref hi
       refs_are = inner_refs n later new begin links is ∙ ap (λ xs. new ∷ (refs n later low ++ xs)) (append-nil (refs n later high));
     }
 
+-- an entry put among none is the only one
 pub one_entry : (key : List ℕ) (value : BlockRef) → with_entry [] key value ≡ (record { key = key; value = value }) ∷ []
 unfolding with_entry
 one_entry key value = refl
 
--- a key after all, and one before all
+-- an entry with a key that is after all others stands last
 last_entry : (es : List Entry) (key : List ℕ) (value : BlockRef) → All Less key es → with_entry es key value ≡ es ++ (record { key = key; value = value }) ∷ []
 last_entry es key value less =
     ap (λ xs. with_entry xs key value) (sym (append-nil es)) ∙ with_entry-parts key es [] [] less tt value ∙ ap (λ xs. es ++ xs) (append-nil (with_entry [] key value) ∙ one_entry key value)
 
+-- an entry with a key that is before all others stands first
 first_entry : (es : List Entry) (key : List ℕ) (value : BlockRef) → All Greater key es → with_entry es key value ≡ (record { key = key; value = value }) ∷ es
 first_entry es key value more = with_entry-parts key [] [] es tt more value ∙ ap (λ xs. xs ++ es) (one_entry key value)
 
 module _ (b later : Blocks) (at leaf moved new : BlockRef) (key : List ℕ) (shared : ℕ) (value : BlockRef) (t : IsTreeAt (length key) b at) (own : Owned (refs_at (length key) b at) b) (parts : PartsAt (node_at b at) key shared)
     (changed : Swaps b later at (new ∷ moved ∷ leaf ∷ [])) (hangs : later leaf ≡ Some (spelled (Leaf parts.other_rest value))) (moves : later moved ≡ Some (spelled (shortened_by (suc (length parts.begin)) (node_at b at))))
     (stands : later new ≡ Some (spelled (Inner parts.begin (fork_links parts.own moved parts.other leaf)))) (own_byte : parts.own < 256) (other_byte : parts.other < 256) (moved_ref : IsRef moved) (leaf_ref : IsRef leaf) (valued : IsRef value) where
+  -- the tree's references are the node's own and those below it
   node_refs : refs_at (length key) b at ≡ at ∷ refs_in (refs (length key) b) (node_at b at)
   unfolding refs
   node_refs = refl
 
+  -- the blocks of the nodes below the old one are as they were
   kept : (r : BlockRef) → IsIn r (refs_in (refs (length key) b) (node_at b at)) → later r ≡ b r
   kept r is =
       let all : times r (refs_at (length key) b at) ≡ one r at + times r (refs_in (refs (length key) b) (node_at b at)) = ap (times r) node_refs in
       changed.kept r (live-is b r (omega (arith, own r, all, is))) (other_than r at (omega (arith, own r, all, live-once b r, is)))
 
+  -- the old node stands in the moved block with the end of its prefix alone, over the same trees
   short : Shortened (length key) (length key - suc (length parts.begin)) b later at moved parts.begin parts.own
   short = shortened (length key) b later at moved (node_at b at) parts.begin parts.own_rest parts.own t refl parts.prefix_is moves kept
 
+  -- the key's bytes behind the shared ones and one edge are as many as are left below the new node
   left_is : length parts.other_rest ≡ length key - suc (length parts.begin)
   left_is = omega (arith, ap length parts.key_is, length-append parts.begin (parts.other ∷ parts.other_rest))
 
+  -- the bytes that the key shares with the prefix are fewer than the key's
   begin_short : length parts.begin < length key
   begin_short = omega (arith, ap length parts.key_is, length-append parts.begin (parts.other ∷ parts.other_rest))
 
+  -- the tree of the shortened node is the same with as many levels as the key has bytes
   lifted : SameLevels (suc (length key - suc (length parts.begin))) (length key) (length key - suc (length parts.begin)) later moved
   lifted = let fewer = begin_short in same_levels (suc (length key - suc (length parts.begin))) (length key) (length key - suc (length parts.begin)) later moved (omega arith) short.tree
 
+  -- the new leaf's block holds the rest of the key and the value, and fits below the new node
   leaf_now : LeafAt (length key - suc (length parts.begin)) later leaf parts.other_rest value
   leaf_now = record { bytes = spelled (Leaf parts.other_rest value); block = hangs; holds = refl; fits = (left_is, valued) }
 
+  -- the new leaf is a tree of one entry and one reference with any number of levels above zero
   leaf_many : (m : ℕ) → 0 < m → IsTree m (length key - suc (length parts.begin)) later leaf × (entries m later leaf ≡ (record { key = parts.other_rest; value = value }) ∷ []) × (refs m later leaf ≡ leaf ∷ [])
   leaf_many zero h = absurd (omega arith)
   leaf_many (suc m) h =
       let is = leaf_node m (length key - suc (length parts.begin)) later leaf parts.other_rest value leaf_now in
       (leaf_tree m (length key - suc (length parts.begin)) later leaf parts.other_rest value leaf_now, leaf_entries m later leaf parts.other_rest value is, leaf_refs m later leaf parts.other_rest value is)
 
+  -- the new leaf is a tree of one entry and one reference with as many levels as the key has bytes
   hung : IsTree (length key) (length key - suc (length parts.begin)) later leaf × (entries (length key) later leaf ≡ (record { key = parts.other_rest; value = value }) ∷ []) × (refs (length key) later leaf ≡ leaf ∷ [])
   hung = (let short = begin_short in leaf_many (length key) (omega arith))
 
+  -- the entries of the shortened node, behind the bytes that its prefix lost, are those of the old tree
   moved_entries : map (under (parts.begin ++ parts.own ∷ [])) (entries (length key) later moved) ≡ entries_at (length key) b at
   moved_entries = ap (map (under (parts.begin ++ parts.own ∷ []))) lifted.entries_are ∙ sym short.entries_are
 
+  -- the new leaf's entry, behind the shared bytes and the key's own one, is that of the key and the value
   leaf_entry : map (under (parts.begin ++ parts.other ∷ [])) (entries (length key) later leaf) ≡ (record { key = key; value = value }) ∷ []
   leaf_entry = ap (map (under (parts.begin ++ parts.other ∷ []))) hung.1 ∙ ap (λ k. (record { key = k; value = value }) ∷ []) (sym (parts.key_is ∙ key_under parts.begin parts.other_rest parts.other))
 
+  -- the references of the shortened node are the moved one and those that stood below the old node
   moved_refs : refs (length key) later moved ≡ moved ∷ short.below
   moved_refs = lifted.refs_are ∙ short.new_refs
 
+  -- where the new node owns the shortened one's tree and the leaf, no block outside the old and new tree has changed
   done : (ms : List BlockRef) → refs_at (length key) later new ≡ new ∷ ms → ((r : BlockRef) → times r ms ≡ one r moved + (times r short.below + one r leaf)) → Changes b later (refs_at (length key) b at) (refs_at (length key) later new)
   done ms is in_ms =
       Changes-counted b later (refs_at (length key) b at) (refs_at (length key) later new) own
       (changed.counts (refs_at (length key) b at) (refs_at (length key) later new) (λ r. omega (arith, ap (times r) is, in_ms r, ap (times r) short.old_refs)))
 
+  -- the tree has become one at the new reference with the value at the key, and no other block has changed
   pub split_at : Becomes (length key) b later at new (with_entry (entries_at (length key) b at) key value)
   split_at = elim (parts_side (length key) b at key shared parts) [
     | inl low ↦
@@ -209,6 +230,7 @@ pub record Ready (key seen : List ℕ) (shared own : ℕ) : Type 0 where
   pub from : shared + 1 ≤ length (prefix_from seen)
   pub own_is : get_or seen (2 + shared) 0 ≡ own
 
+-- after a leaf was put, the bytes of a node whose prefix a key leaves may be shortened there
 pub split_ready : (b b1 : Blocks) (at leaf : BlockRef) (key : List ℕ) (shared : ℕ) → IsTreeAt (length key) b at → length key ≤ 16 → (parts : PartsAt (node_at b at) key shared) → Puts b b1 (leaf ∷ []) → (seen : List ℕ) → b1 at ≡ Some seen → Ready key seen shared parts.own
 split_ready b b1 at leaf key shared t few parts puts seen read =
     let was : IsSome (b at) = tree_live (suc (length key)) (length key) b at t in

@@ -19,29 +19,37 @@ use Rattle.rax_packed.proofs.Links.{inner_relinked, revalued_bytes, relinked_byt
 use Rattle.rax_packed.proofs.Spellings.{node_told}
 use Rattle.rax_packed.proofs.Looks.{Split, Named, link_split, leads_at, link_below, rest_is, shorter, all-middle, node_read, tree_node}
 
+-- the list of one link
 single : List Link → BlockRef → ℕ → List Link
 single rest to edge = (record { edge = edge; to = to }) ∷ []
 
 module _ (b : Blocks) (at to : BlockRef) (bytes key : List ℕ) (place from : ℕ) (t : IsTreeAt (length key) b at) (read : b at ≡ Some bytes) (leads : LeadsTo (node_of bytes) key place from to) where
+  -- the length of the key
   n : ℕ
   n = length key
 
+  -- the key goes on by the link
   way : LeadsTo (node_of bytes) key place from to
   way = leads
 
+  -- the parts of the node and of the key at the link
   pub split : Split b at key place from to (length key) (length key)
   split = link_split (length key) (length key) b at to key place from t (leads_at b at bytes key t read place from to leads)
 
+  -- the rest of the key is shorter than the key
   pub less_left : length (drop from key) < length key
   less_left = shorter (node_of bytes) to key place from (length key) refl leads
 
+  -- the rest of the key is shorter than the key by the node's prefix and one edge
   pub left_is : length (drop from key) ≡ length key - suc (length split.prefix)
   left_is =
       ap length (rest_is split.prefix split.below key split.edge from split.key_is split.begins) ∙ omega (arith, ap length split.key_is, length-append split.prefix (split.edge ∷ split.below))
 
+  -- the rest of the key is what follows the link's edge
   pub below_is : drop from key ≡ split.below
   below_is = rest_is split.prefix split.below key split.edge from split.key_is split.begins
 
+  -- the link names a tree, whose keys are as long as the key's rest
   pub child : Named b to (length key) (length (drop from key))
   child = link_below b at bytes key t read place from to leads
 
@@ -51,16 +59,18 @@ module _ (b : Blocks) (at to : BlockRef) (bytes key : List ℕ) (place from : �
       let links = split.before ++ (record { edge = split.edge; to = to }) ∷ split.after in
       inner_refs (length key) b at split.prefix links (inner_node (length key) (length key) b at split.prefix links split.node) ∙ three_refs (length key) b at split.before ((record { edge = split.edge; to = to }) ∷ []) split.after
 
+  -- the tree's references are counted at the node, before the link, below it, and after it
   pub times_owns : (r : BlockRef) → times r (refs_at (length key) b at) ≡ one r at + (times r (refs_below (length key) b split.before) + (times r (refs_at (length (drop from key)) b to) + times r (refs_below (length key) b split.after)))
   times_owns r =
       let middle : times r (refs_below (length key) b ((record { edge = split.edge; to = to }) ∷ [])) ≡ times r (refs_at (length (drop from key)) b to) = ap (times r) (append-nil (refs (length key) b to) ∙ sym child.refs_are) in
       ap (times r) owns_are ∙ times-owned_by r at (refs_below (length key) b split.before) (refs_below (length key) b ((record { edge = split.edge; to = to }) ∷ [])) (refs_below (length key) b split.after)
       ∙ ap (λ m. one r at + (times r (refs_below (length key) b split.before) + (m + times r (refs_below (length key) b split.after)))) middle
 
-  -- the tree below is owned, and the node's block is none of its
+  -- where the tree's references are owned, so are those of the tree below the link
   pub own_below : Owned (refs_at (length key) b at) b → Owned (refs_at (length (drop from key)) b to) b
   own_below own r = omega (arith, own r, times_owns r)
 
+  -- the node's own reference isn't one of the tree below the link
   pub out_below : Owned (refs_at (length key) b at) b → IsOut at (refs_at (length (drop from key)) b to)
   out_below own =
       let here : one at at ≡ 1 = cond-true _ _ _ (ref_eq-refl at) in
@@ -75,9 +85,11 @@ module _ (b : Blocks) (at to : BlockRef) (bytes key : List ℕ) (place from : �
   -- the tree below has become another, and the node names it
   module _ (mid later : Blocks) (new : BlockRef) (es : List Entry) (own : Owned (refs_at (length key) b at) b) (below : Becomes (length (drop from key)) b mid to new es)
       (now : List ℕ) (block : later at ≡ Some now) (holds : HoldsNode now (Inner split.prefix (split.before ++ (record { edge = split.edge; to = new }) ∷ split.after))) (ref : IsRef new) (others : (r : BlockRef) → ref_eq r at ≡ false → later r ≡ mid r) where
+    -- the tree that the link names now is the same with as many levels as the key has bytes
     lifted : SameLevels (suc (length (drop from key))) (length key) (length (drop from key)) mid new
     lifted = same_levels (suc (length (drop from key))) (length key) (length (drop from key)) mid new less_left below.tree
 
+    -- the node's link has changed from the old tree to the new one, and the node's block tells it now
     graft : IsGraft (length key) (length key) b mid later at split.prefix split.before ((record { edge = split.edge; to = to }) ∷ []) ((record { edge = split.edge; to = new }) ∷ []) split.after
     graft = record {
       node = split.node;
@@ -91,31 +103,37 @@ module _ (b : Blocks) (at to : BlockRef) (bytes key : List ℕ) (place from : �
       others = others;
     }
 
+    -- the node is a tree whose entries and marks are the new tree's at the link and as they were beside it
     done : Grafted (length key) (length key) b mid later at split.prefix split.before ((record { edge = split.edge; to = new }) ∷ []) split.after
     done = grafted (length key) (length key) b mid later at split.prefix split.before ((record { edge = split.edge; to = to }) ∷ []) ((record { edge = split.edge; to = new }) ∷ []) split.after graft
 
+    -- a tree of keys of the same length stands at the node's reference afterwards
     pub step_tree : IsTreeAt (length key) later at
     step_tree = done.tree
 
+    -- the tree's references have become those that it has now, and no other block has changed
     pub step_changes : Changes b later (refs_at (length key) b at) (refs_at (length key) later at)
     step_changes = done.changes
 
+    -- the entries below the link are the new tree's, between those before and after it as they were
     pub step_entries : entries_at (length key) later at ≡ below_links split.prefix (entries (length key) b) split.before ++ (map (under (split.prefix ++ split.edge ∷ [])) es ++ below_links split.prefix (entries (length key) b) split.after)
     step_entries =
         done.entries_are ∙ ap (λ xs. below_links split.prefix (entries (length key) b) split.before ++ (xs ++ below_links split.prefix (entries (length key) b) split.after))
         (append-nil (map (under (split.prefix ++ split.edge ∷ [])) (entries (length key) mid new)) ∙ ap (map (under (split.prefix ++ split.edge ∷ []))) (lifted.entries_are ∙ below.entries_are))
 
+    -- the marks are the node's own, and those of the new tree between the ones before and after it as they were
     pub step_marks : marks_at (length key) later at ≡ (record { least = first_key (entries_at (length key) later at); at = at }) ∷ (marks_below split.prefix (marks (length key) b) split.before ++ (map (mark_under (split.prefix ++ split.edge ∷ [])) (marks_at (length (drop from key)) mid new) ++ marks_below split.prefix (marks (length key) b) split.after))
     step_marks =
         done.marks_are ∙ ap (λ xs. (record { least = first_key (entries_at (length key) later at); at = at }) ∷ (marks_below split.prefix (marks (length key) b) split.before ++ (xs ++ marks_below split.prefix (marks (length key) b) split.after)))
         (append-nil (map (mark_under (split.prefix ++ split.edge ∷ [])) (marks (length key) mid new)) ∙ ap (map (mark_under (split.prefix ++ split.edge ∷ []))) lifted.marks_are)
 
-  -- what the edits of the entries come to
+  -- the entries of the tree are those below the node's links
   old_entries : entries_at (length key) b at ≡ below_links split.prefix (entries (length key) b) (split.before ++ (record { edge = split.edge; to = to }) ∷ split.after)
   old_entries =
       let links = split.before ++ (record { edge = split.edge; to = to }) ∷ split.after in
       inner_entries (length key) b at split.prefix links (inner_node (length key) (length key) b at split.prefix links split.node)
 
+  -- the entries with a value at the key have it at the key's rest among those below the link
   pub step_with : (value : BlockRef) → with_entry (entries_at (length key) b at) key value ≡ below_links split.prefix (entries (length key) b) split.before ++ (map (under (split.prefix ++ split.edge ∷ [])) (with_entry (entries_at (length (drop from key)) b to) (drop from key) value) ++ below_links split.prefix (entries (length key) b) split.after)
   step_with value =
       ap (λ es. with_entry es key value) old_entries
@@ -124,6 +142,7 @@ module _ (b : Blocks) (at to : BlockRef) (bytes key : List ℕ) (place from : �
       ∙ ap (λ es. below_links split.prefix (entries (length key) b) split.before ++ (map (under (split.prefix ++ split.edge ∷ [])) es ++ below_links split.prefix (entries (length key) b) split.after))
       (ap (λ es. with_entry es split.below value) (sym child.entries_are) ∙ ap (λ k. with_entry (entries_at (length (drop from key)) b to) k value) (sym below_is))
 
+  -- the entries without the key are those without the key's rest below the link, and all others
   pub step_without : without (entries_at (length key) b at) key ≡ below_links split.prefix (entries (length key) b) split.before ++ (map (under (split.prefix ++ split.edge ∷ [])) (without (entries_at (length (drop from key)) b to) (drop from key)) ++ below_links split.prefix (entries (length key) b) split.after)
   step_without =
       ap (λ es. without es key) old_entries
@@ -132,10 +151,11 @@ module _ (b : Blocks) (at to : BlockRef) (bytes key : List ℕ) (place from : �
       ∙ ap (λ es. below_links split.prefix (entries (length key) b) split.before ++ (map (under (split.prefix ++ split.edge ∷ [])) es ++ below_links split.prefix (entries (length key) b) split.after))
       (ap (λ es. without es split.below) (sym child.entries_are) ∙ ap (λ k. without (entries_at (length (drop from key)) b to) k) (sym below_is))
 
+  -- the link's reference is one that code can hold
   ref_to : IsRef to
   ref_to = all-middle (λ l. IsRef l.to) split.before split.after (record { edge = split.edge; to = to }) split.node.inner.refs
 
-  -- the tree below holds the value, under the same reference
+  -- where the tree below has come to hold the value under the same reference, so has the tree
   pub set_link : (mid : Blocks) (value : BlockRef) → Owned (refs_at (length key) b at) b → Becomes (length (drop from key)) b mid to to (with_entry (entries_at (length (drop from key)) b to) (drop from key) value) → Becomes (length key) b mid at at (with_entry (entries_at (length key) b at) key value)
   set_link mid value own below =
       let es = with_entry (entries_at (length (drop from key)) b to) (drop from key) value in
@@ -187,9 +207,11 @@ pub record LinkWritten (mid later : Blocks) (at new : BlockRef) (prefix : List �
 module _ (b mid later : Blocks) (at to new : BlockRef) (bytes key : List ℕ) (place from : ℕ) (es : List Entry) (t : IsTreeAt (length key) b at) (read : b at ≡ Some bytes) (leads : LeadsTo (node_of bytes) key place from to) (own : Owned (refs_at (length key) b at) b)
     (below : Becomes (length (drop from key)) b mid to new es) (ref : IsRef new)
     (written : (offset : ℕ) → offset ≡ 4 + length (prefix_in (node_of (bytes_at mid at))) + length (links_in (node_of (bytes_at mid at))) + 12 * place → later ≡ with_block mid at (Some (overwritten (bytes_at mid at) offset (ref_bytes new)))) where
+  -- the parts of the node and of the key at the link
   abbrev pub s : Split b at key place from to (length key) (length key)
   s = split b at to bytes key place from t read leads
 
+  -- the node's block names the new tree by the key's link, and each other block is as before the writing
   link_written : LinkWritten mid later at new s.prefix s.before s.after s.edge
   link_written =
       let links = s.before ++ (record { edge = s.edge; to = to }) ∷ s.after in
@@ -207,19 +229,23 @@ module _ (b mid later : Blocks) (at to new : BlockRef) (bytes key : List ℕ) (p
         others = λ r other. ap (λ m. m r) is ∙ with_block-other mid at r (Some (overwritten (bytes_at mid at) offset (ref_bytes new))) other;
       }
 
+  -- after the link was written anew, a tree of keys of the same length stands at the node's reference
   pub link_tree : IsTreeAt (length key) later at
   link_tree = step_tree b at to bytes key place from t read leads mid later new es own below link_written.now link_written.block link_written.holds ref link_written.others
 
+  -- after the link was written anew, the entries below it are the new tree's, and all others as they were
   pub link_entries : entries_at (length key) later at ≡ below_links s.prefix (entries (length key) b) s.before ++ (map (under (s.prefix ++ s.edge ∷ [])) es ++ below_links s.prefix (entries (length key) b) s.after)
   link_entries = step_entries b at to bytes key place from t read leads mid later new es own below link_written.now link_written.block link_written.holds ref link_written.others
 
+  -- by the writing of the link the tree's references have become those that it has now, and no other block changed
   pub link_changes : Changes b later (refs_at (length key) b at) (refs_at (length key) later at)
   link_changes = step_changes b at to bytes key place from t read leads mid later new es own below link_written.now link_written.block link_written.holds ref link_written.others
 
+  -- after the link was written anew, the marks below it are the new tree's, and all others below as they were
   pub link_marks : marks_at (length key) later at ≡ (record { least = first_key (entries_at (length key) later at); at = at }) ∷ (marks_below s.prefix (marks (length key) b) s.before ++ (map (mark_under (s.prefix ++ s.edge ∷ [])) (marks_at (length (drop from key)) mid new) ++ marks_below s.prefix (marks (length key) b) s.after))
   link_marks = step_marks b at to bytes key place from t read leads mid later new es own below link_written.now link_written.block link_written.holds ref link_written.others
 
--- a link of a key's way is written anew
+-- where the tree below holds the value at another reference, and the link names that now, the tree holds the value
 pub add_link : (b mid later : Blocks) (at to new : BlockRef) (bytes key : List ℕ) (place from : ℕ) (value : BlockRef) (t : IsTreeAt (length key) b at) (read : b at ≡ Some bytes) (leads : LeadsTo (node_of bytes) key place from to) → Owned (refs_at (length key) b at) b
     → Becomes (length (drop from key)) b mid to new (with_entry (entries_at (length (drop from key)) b to) (drop from key) value) → IsRef new
     → ((offset : ℕ) → offset ≡ 4 + length (prefix_in (node_of (bytes_at mid at))) + length (links_in (node_of (bytes_at mid at))) + 12 * place → later ≡ with_block mid at (Some (overwritten (bytes_at mid at) offset (ref_bytes new))))
@@ -238,6 +264,7 @@ pub record LinkReady (mid : Blocks) (at : BlockRef) (place : ℕ) : Type 0 where
   pub inner : IsInnerBytes (bytes_at mid at)
   pub within : place < length (links_in (node_of (bytes_at mid at)))
 
+-- while the node's block is as it was, the link of a key's way may be written anew
 pub link_ready : (b mid : Blocks) (at to : BlockRef) (bytes key : List ℕ) (place from : ℕ) (t : IsTreeAt (length key) b at) (read : b at ≡ Some bytes) (leads : LeadsTo (node_of bytes) key place from to) → length key ≤ 16 → mid at ≡ b at → LinkReady mid at place
 link_ready b mid at to bytes key place from t read leads few same =
     let s = split b at to bytes key place from t read leads in

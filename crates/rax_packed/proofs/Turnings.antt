@@ -50,11 +50,6 @@ past [] k h = refl
 past (l ∷ links) zero h = absurd (omega arith)
 past (l ∷ links) (suc k) h = past links k (omega arith)
 
-pub chosen_none : (up : Bool) (links : List Link) (place : ℕ) → IsChosen up (length links) place None → beside up links place ≡ None
-chosen_none true links place chosen = past links place chosen
-chosen_none false links zero chosen = refl
-chosen_none false links (suc place) chosen = absurd (omega (arith, chosen))
-
 -- what is read of the link
 pub turned : (up : Bool) (bytes : List ℕ) (place at depth : ℕ) (path prefix edges refs : List ℕ) (turn : Turn) → IsInnerBytes bytes → IsChosen up (length (links_in (node_of bytes))) place (Some at) → prefix ≡ prefix_in (node_of bytes) → edges ≡ edges_of (links_in (node_of bytes)) → refs ≡ refs_bytes (links_in (node_of bytes))
     → turn.to ≡ ref_from (drop (12 * at) refs) → turn.depth ≡ depth + length prefix + 1 → take turn.depth turn.path ≡ take depth path ++ (prefix ++ slice_index edges at ∷ []) → Turns up (node_of bytes) place depth path turn
