@@ -96,11 +96,6 @@ set_flat (p ∷ rest) (suc i) text = ap (λ zs. p.0 ∷ p.1 ∷ zs) (set_flat re
 pub flat_seconded : (list : List Pair) (i : ℕ) (text : List ℕ) → set (flat list) (2 * i + 1) text ≡ flat (seconded list i text)
 flat_seconded list i text = subst (λ n. set (flat list) n text ≡ flat (seconded list i text)) (omega (arith, double_is i)) (set_flat list i text)
 
-pub length_seconded : (list : List Pair) (i : ℕ) (text : List ℕ) → length (seconded list i text) ≡ length list
-length_seconded [] i text = refl
-length_seconded (p ∷ rest) zero text = refl
-length_seconded (p ∷ rest) (suc i) text = omega (arith, length_seconded rest i text)
-
 pub length_removed : (list : List Pair) (i : ℕ) → i < length list → length (removed list i) + 1 ≡ length list
 length_removed [] i h = absurd (omega (arith, h))
 length_removed (p ∷ rest) zero h = omega arith
