@@ -10,12 +10,14 @@ use Rattle.rax_tree.proofs.Partings.{some_same, below_of, below_live}
 use Rattle.rax_tree.proofs.Links.{byte_same, place_cases}
 use Rattle.rax_tree.proofs.Splits.{IsApart, split_cases}
 
+-- where one level more finds no more from a branch, it finds no more from the child that leads to it
 follow_more : (places : Places) (key : List ℕ) (levels : ℕ) (child : Option Child) → ((at : ℕ) → child ≡ Some (Fork at) → walked (suc levels) places (Some at) key ≡ walked levels places (Some at) key)
     → followed_if (λ at. walked (suc levels) places (Some at) key) child key ≡ followed_if (λ at. walked levels places (Some at) key) child key
 follow_more places key levels None more = refl
 follow_more places key levels (Some (Leaf at value)) more = refl
 follow_more places key levels (Some (Fork at)) more = more at refl
 
+-- an optional value that is never there is none
 pub none_unless : (o : Option ℕ) → ((value : ℕ) → o ≡ Some value → ⊥) → o ≡ None
 none_unless None never = refl
 none_unless (Some value) never = absurd (never value refl)
@@ -72,12 +74,14 @@ child_misses old place shape byte (Fork k) span key depth sound apart levels q d
     let agrees = found_agrees None old sound levels (Some k) under q value there found in
     differ (agrees depth b.1 ∙ ap (λ xs. slice_index xs depth) (sym b.0))))
 
+-- where a key finds the same from a branch in both trees, it finds the same from the child that leads to it
 follow_below : (old new : Places) (q : List ℕ) (less : ℕ) (child : Option Child) → ((k : ℕ) → child ≡ Some (Fork k) → walked less new (Some k) q ≡ walked less old (Some k) q)
     → followed_if (λ k. walked less new (Some k) q) child q ≡ followed_if (λ k. walked less old (Some k) q) child q
 follow_below old new q less None same = refl
 follow_below old new q less (Some (Leaf at value)) same = refl
 follow_below old new q less (Some (Fork k)) same = same k refl
 
+-- from the child that was there, a key finds after the split, with a level less, what it found before
 split_same : (old new : Places) (place : Option ℕ) (byte at : ℕ) (fork : Shape) (child : Child) (span key : List ℕ) (depth value : ℕ) → IsSound old → (split : IsSplit old new place byte at fork child)
     → IsApart old place split.shape byte child span key depth
     → (q : List ℕ)
@@ -99,6 +103,7 @@ split_same old new place byte at fork child span key depth value sound split apa
     ∙ sym (walked_more old sound (less - 1) (Some k) under q there (omega arith))
     ∙ ap (λ n. walked n old (Some k) q) less_is)
 
+-- from the fork, a key other than the new one finds, with a level less, what it found from the old child
 split_turn : (old new : Places) (place : Option ℕ) (byte at : ℕ) (fork : Shape) (child : Child) (span key : List ℕ) (depth value : ℕ) → IsSound old → (split : IsSplit old new place byte at fork child)
     → IsApart old place split.shape byte child span key depth → IsFork fork span depth place child key value
     → (q : List ℕ) → same_bytes key q ≡ false
@@ -125,6 +130,7 @@ split_turn old new place byte at fork child span key depth value sound split apa
     ap (λ c. followed_if (λ k. walked (less - 1) new (Some k) q) c q) (forked.no_other (slice_index q depth) away (eqb-false (slice_index q depth) (slice_index key depth) g))
     ∙ sym none))
 
+-- where shorter walks of another key find after a split what they found, so does one with a level more
 split_step : (old new : Places) (place : Option ℕ) (byte at : ℕ) (fork : Shape) (child : Child) (span key : List ℕ) (depth value : ℕ) → IsSound old → (split : IsSplit old new place byte at fork child)
     → IsApart old place split.shape byte child span key depth → IsFork fork span depth place child key value
     → (q : List ℕ) → same_bytes key q ≡ false
@@ -179,6 +185,7 @@ split_walk (suc bound) old new place byte at fork child span key depth value sou
     (λ n low y t there deep. split_walk bound old new place byte at fork child span key depth value sound split apart forked q differ n (omega arith) y t there deep)
     levels (omega arith)
 
+-- a place from which a key leads to a branch is there
 some_case_of : {P : Type 0} (o : Option Shape) (key : List ℕ) (k : ℕ) → child_for o key ≡ Some (Fork k) → ((s : Shape) → o ≡ Some s → P) → P
 some_case_of None key k link next = absurd (cc)
 some_case_of (Some s) key k link next = next s refl

@@ -38,9 +38,6 @@ pub record IsKept (old new : Shape) : Type 0 where
 pub kept_refl : (shape : Shape) → IsKept shape shape
 kept_refl shape = record { prefix_is = refl; depth_is = refl; parent_is = refl }
 
-agrees_kept : (depth : ℕ) (xs ys zs : List ℕ) → ys ≡ zs → Agrees depth xs ys → Agrees depth xs zs
-agrees_kept depth xs ys zs e h = rw e at h
-
 -- a child fits as before, where what it leads to hangs as before
 pub leads_moved : (old new : Places) (place : Option ℕ) (shape shape' : Shape) (byte : ℕ) (child : Child) → shape'.prefix ≡ shape.prefix → shape'.depth ≡ shape.depth
     → ((at : ℕ) (below : Shape) → child ≡ Fork at → old (Some at) ≡ Some below → (below' : Shape) × (new (Some at) ≡ Some below') × IsKept below below')

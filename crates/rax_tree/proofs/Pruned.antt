@@ -31,6 +31,7 @@ less_child shape byte b c is = bool_case (b == byte)
     (λ t. absurd (let g : (cond (b == byte) None (shape.child b)) ≡ Some c = is in let h = rw t at g in cc))
     (λ f. let g : (cond (b == byte) None (shape.child b)) ≡ Some c = is in let h = rw f at g in (h, eqb-false b byte f))
 
+-- after one byte of a place leads nowhere, each place was there before and leads nowhere new
 cut_back : (old new : Places) (place : Option ℕ) (byte : ℕ) → (change : IsRelinked old new place byte None) → (x : Option ℕ) (s : Shape) → new x ≡ Some s
     → (before : Shape) × (old x ≡ Some before) × IsKept before s × ((b : ℕ) (c : Child) → s.child b ≡ Some c → before.child b ≡ Some c)
 cut_back old new place byte change x s here = elim (place_cases x place) [
@@ -58,10 +59,12 @@ bare_child : (o : Option Shape) (q : List ℕ) → IsBare o → child_for o q �
 bare_child None q bare = refl
 bare_child (Some s) q bare = bare (slice_index q s.depth)
 
+-- a walk from a branch that leads nowhere finds nothing
 bare_walk : (places : Places) (at : ℕ) (q : List ℕ) → IsBare (places (Some at)) → (levels : ℕ) → walked levels places (Some at) q ≡ None
 bare_walk places at q bare zero = walked_none places (Some at) q
 bare_walk places at q bare (suc levels) = walked_step (suc levels) places (Some at) q None (omega arith) (bare_child (places (Some at)) q bare)
 
+-- a way that ends where its key leads nowhere goes on through a branch that the key leads to
 below_passes : {P : Type 0} (places : Places) (key : List ℕ) (to : Option ℕ) (levels left : ℕ) (place : Option ℕ) (at : ℕ) → Passes places key to levels left place → child_for (places to) key ≡ None → child_for (places place) key ≡ Some (Fork at)
     → (0 < levels → Passes places key to (levels - 1) left (Some at) → P) → P
 below_passes places key to levels left place at (arrived n) ended is next = absurd (let u = sym ended ∙ is in cc)
@@ -87,6 +90,7 @@ pruning_below places key levels place at pruning is = below_passes places key pr
   },
 ))
 
+-- where the branch that a key leads to was pruned, what is no deeper than the place before it has stayed
 pub pruned_higher : {spared : Option ℕ} (old new : Places) (key : List ℕ) (place : Option ℕ) (at : ℕ) → IsSoundBut spared old → child_for (old place) key ≡ Some (Fork at) → IsPruned old new (Some at)
     → (x : Option ℕ) (shape top : Shape) → old place ≡ Some top → old x ≡ Some shape → shape.depth ≤ top.depth → new x ≡ old x
 pruned_higher old new key place at sound is pruned x shape top live here less =
@@ -95,6 +99,13 @@ pruned_higher old new key place at sound is pruned x shape top live here less =
     some_case (old (Some at)) fits.0 (λ under there.
     let b = fits.1 under there in
     pruned.higher x shape under there here (let d = b.deeper in omega arith))
+
+-- the place is still there when the branches below it are pruned
+pub pruned_stands : (old new : Places) (key : List ℕ) (levels : ℕ) (place : Option ℕ) (at : ℕ) → IsPruning old key levels place → child_for (old place) key ≡ Some (Fork at) → IsPruned old new (Some at)
+    → IsSome (new place)
+pruned_stands old new key levels place at pruning is pruned =
+    some_case (old place) pruning.live (λ top live.
+    rw (pruned_higher old new key place at pruning.sound is pruned place top top live live (omega arith)) pruning.live)
 
 -- where the branch below is not empty, the place is done
 pub pruned_up : (old new : Places) (key : List ℕ) (levels : ℕ) (place : Option ℕ) (at : ℕ) → IsPruning old key levels place → child_for (old place) key ≡ Some (Fork at) → IsPruned old new (Some at)
@@ -185,19 +196,7 @@ pruned_cut old new cut gone key levels place at byte pruning is pruned bare turn
           (relinked change.shape byte None, left.others place not_at ∙ change.now, ap (λ (t : Shape). t.prefix) same, ap (λ (t : Shape). t.depth) same, ap (λ (t : Shape). t.parent) same);
     })
 
-end_sound : (old : Places) (key : List ℕ) (to : Option ℕ) (levels left : ℕ) (place : Option ℕ) → Passes old key to levels left place → ((at : ℕ) → child_for (old place) key ≡ Some (Fork at) → ⊥) → IsSoundBut to old → IsSoundBut place old
-end_sound old key to levels left place (arrived n) ends sound = sound
-end_sound old key to levels left place (onward n kept y from before link rest) ends sound = absurd (ends y link)
-
--- where no branch hangs below on the way, nothing is pruned
-pub pruned_end : (old : Places) (key : List ℕ) (levels : ℕ) (place : Option ℕ) → IsPruning old key levels place → ((at : ℕ) → child_for (old place) key ≡ Some (Fork at) → ⊥) → IsPruned old old place
-pruned_end old key levels place pruning ends = record {
-  sound = end_sound old key pruning.to levels pruning.left place pruning.passes ends pruning.sound;
-  walks = λ n x q. refl;
-  higher = λ x shape top live here less. refl;
-  stays = λ shape here. (shape, here, refl, refl, refl);
-}
-
+-- a child by which a key is found, and that is no branch that the key begins as, is the key's leaf
 leaf_child : (old : Places) (key : List ℕ) (value : ℕ) (place : Option ℕ) (less : ℕ) → IsSound old → (child : Option Child) → followed_if (λ k. walked less old (Some k) key) child key ≡ Some value
     → ((k : ℕ) → child ≡ Some (Fork k) → IsBegunAt (old (Some k)) key → ⊥) → ((k : ℕ) → child ≡ Some (Fork k) → IsSome (old (Some k))) → child ≡ Some (Leaf key value)
 leaf_child old key value place less sound None step never live = absurd (cc)

@@ -12,6 +12,7 @@ use Rattle.rax_tree.specs.Seek.{IsLess, IsAhead, IsByteAhead, IsBeyond, IsNext, 
 use Rattle.rax_tree.proofs.Walks.{some_case, bool_case, same_true, same_refl, found_agrees, walked_step}
 use Rattle.rax_tree.proofs.Partings.{some_same}
 
+-- no two keys are each less than the other
 before_asym : (a b : List ℕ) → IsLess a b → IsLess b a → ⊥
 before_asym a b p q = elim (cases_lt p.at q.at) [
   | inl first ↦ let e = q.same p.at first in let l = p.less in omega arith
@@ -24,24 +25,30 @@ before_asym a b p q = elim (cases_lt p.at q.at) [
   ]
 ]
 
+-- no two keys are each ahead of the other in one direction
 pub ahead_asym : (up : Bool) (a b : List ℕ) → IsAhead up a b → IsAhead up b a → ⊥
 ahead_asym true a b p q = before_asym a b p q
 ahead_asym false a b p q = before_asym b a p q
 
+-- of two bytes, in a direction, the first is ahead, or both are the same, or the second is ahead
 byte_cases : {P : Type 0} (up : Bool) (a b : ℕ) → (IsByteAhead up a b → P) → (a ≡ b → P) → (IsByteAhead up b a → P) → P
 byte_cases true a b less same more = elim (cases_lt a b) [ inl l ↦ less l | inr m ↦ elim (cases_lt b a) [ inl g ↦ more g | inr e ↦ same (omega arith) ] ]
 byte_cases false a b less same more = elim (cases_lt a b) [ inl l ↦ more l | inr m ↦ elim (cases_lt b a) [ inl g ↦ less g | inr e ↦ same (omega arith) ] ]
 
+-- of two bytes that differ, the second is ahead where the first isn't
 pub byte_other : (up : Bool) (a b : ℕ) → (a ≡ b → ⊥) → (IsByteAhead up a b → ⊥) → IsByteAhead up b a
 byte_other up a b differ not_ahead = byte_cases up a b (λ l. absurd (not_ahead l)) (λ e. absurd (differ e)) (λ m. m)
 
+-- a key is ahead of one that it agrees with up to a depth where its byte there is ahead
 pub ahead_by : (up : Bool) (depth : ℕ) (a b : List ℕ) → Agrees depth a b → IsByteAhead up (slice_index a depth) (slice_index b depth) → IsAhead up a b
 ahead_by true depth a b same less = record { at = depth; same = same; less = less }
 ahead_by false depth a b same less = record { at = depth; same = λ k h. sym (same k h); less = less }
 
+-- two keys that agree with a third up to a depth agree with each other up to it
 agrees_through : (depth : ℕ) (a b c : List ℕ) → Agrees depth a c → Agrees depth b c → Agrees depth a b
 agrees_through depth a b c p q = λ k h. p k h ∙ sym (q k h)
 
+-- a key that is found by an optional child has a child there, and stands below it
 split_child : {P : Type 0} (places : Places) (levels : ℕ) (key : List ℕ) (value : ℕ) (o : Option Child) → followed_if (λ at. walked levels places (Some at) key) o key ≡ Some value
     → ((child : Child) → o ≡ Some child → StandsBelow places levels child key → P) → P
 split_child places levels key value None step next = absurd (cc)
@@ -61,6 +68,7 @@ stands_split places sound levels place shape key here some stands next =
 pub leaf_stands : (at : List ℕ) (value : ℕ) (key : List ℕ) → IsSome (cond (same_bytes at key) (Some value) None) → at ≡ key
 leaf_stands at value key stands = bool_case (same_bytes at key) (λ t. same_true at key t) (λ f. absurd (let h = rw f at stands in cc))
 
+-- a key that stands below a child of a place begins as the place does and goes on by the byte that leads there
 below_turns : (places : Places) → IsSound places → (levels : ℕ) (place : Option ℕ) (shape : Shape) (byte : ℕ) (child : Child) (key : List ℕ) → places place ≡ Some shape → shape.child byte ≡ Some child
     → StandsBelow places levels child key → (slice_index key shape.depth ≡ byte) × Agrees shape.depth key shape.prefix
 below_turns places sound levels place shape byte (Leaf at value) key here link stands =
@@ -92,12 +100,15 @@ levels_below places sound levels place shape byte (Fork at) here link enough =
     let fits = sound.leads place shape byte (Fork at) here link in
     (fits.0, λ under there. let b = fits.1 under there in let d = b.deeper in omega arith)
 
+-- where there are levels enough for a place, there is one at least
 pub levels_some : (places : Places) → IsSound places → (levels : ℕ) (place : Option ℕ) (shape : Shape) → places place ≡ Some shape → 16 ≤ levels + shape.depth → 0 < levels
 levels_some places sound levels place shape here enough = let s = sound.shallow place shape here in omega arith
 
+-- a key goes on beyond a byte from a place where its byte at the place's depth lies beyond
 goes_beyond : (o : Option Shape) (shape : Shape) (up : Bool) (from : Option ℕ) (key : List ℕ) → o ≡ Some shape → IsBeyond up from (slice_index key shape.depth) → GoesBeyond o up from key
 goes_beyond o shape up from key here b = rw here b
 
+-- where a key goes on beyond a byte from a place, its byte at the place's depth lies beyond
 beyond_of : (o : Option Shape) (shape : Shape) (up : Bool) (from : Option ℕ) (key : List ℕ) → o ≡ Some shape → GoesBeyond o up from key → IsBeyond up from (slice_index key shape.depth)
 beyond_of o shape up from key here g = rw here at g
 
@@ -235,19 +246,24 @@ leaf_finds places levels up key at value None finds = λ q stands. finds q (leaf
 leaf_finds places levels up key at value (Some found) finds =
     ((let same : at ≡ found = finds.0 in rw (← same) (let r = same_refl at in rw r refl)), finds.1, λ q stands before. finds.2 q (leaf_stands at value q stands) before)
 
+-- an option that never has a value is none
 pub none_if : {X : Type 0} (o : Option X) → (IsSome o → ⊥) → o ≡ None
 none_if None never = refl
 none_if (Some x) never = absurd (never refl)
 
+-- a number that compares as less is below the other
 pub less_cmp : (a b : ℕ) → nat_cmp a b ≡ Less → a < b
 less_cmp a b h = grind (arith, common_steps)
 
+-- a number below another compares as less
 pub cmp_less : (a b : ℕ) → a < b → nat_cmp a b ≡ Less
 cmp_less a b h = grind (arith, common_steps)
 
+-- the comparison of a number with a greater one tests as less
 pub lt_cmp : (a b : ℕ) → a < b → is_lt (nat_cmp a b) ≡ true
 lt_cmp a b h = rw (cmp_less a b h) refl
 
+-- there are levels enough at a place that may be sought through
 pub enough_at : (places : Places) (levels : ℕ) (place : Option ℕ) (shape : Shape) → places place ≡ Some shape → IsSeekable places levels place → 16 ≤ levels + shape.depth
 enough_at places levels place shape here seek =
     let same : seek.shape ≡ shape = some_same (sym seek.live ∙ here) in

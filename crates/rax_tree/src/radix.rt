@@ -50,8 +50,9 @@ impl Branch {
         requires { IsSome ((shape_of self.old).child byte) }
         ensures { shape_of self.new ≡ relinked (shape_of self.old) byte (Some child) }
     {
-        if let Some(slot) = self.children.get_mut(&byte) {
-            *slot = child;
+        match self.children.get_mut(&byte) {
+            None => unreachable!(),
+            Some(slot) => *slot = child,
         }
     }
 
@@ -298,11 +299,10 @@ impl Radix {
     {
         match place {
             None => self.root.cut(byte),
-            Some(at) => {
-                if let Some(branch) = self.branches.get_mut(at) {
-                    branch.cut(byte);
-                }
-            }
+            Some(at) => match self.branches.get_mut(at) {
+                None => unreachable!(),
+                Some(branch) => branch.cut(byte),
+            },
         }
     }
 
@@ -376,12 +376,13 @@ impl Radix {
 
     // The byte by which a key goes on from a place.
     fn turn(&self, place: Option<usize>, key: &Key) -> u8
-        requires { IsShallow (places_of self.now) }
+        requires shallow { IsShallow (places_of self.now) }
+        requires there { IsSome (places_of self.now place) }
         ensures { (shape : Shape) → places_of self.now place ≡ Some shape
             → result ≡ slice_index key.now shape.depth }
     {
         match self.branch(place) {
-            None => 0,
+            None => unreachable!(),
             Some(branch) => key[branch.depth],
         }
     }
@@ -435,11 +436,10 @@ impl Radix {
     {
         match place {
             None => self.root.redirect(byte, child),
-            Some(at) => {
-                if let Some(branch) = self.branches.get_mut(at) {
-                    branch.redirect(byte, child);
-                }
-            }
+            Some(at) => match self.branches.get_mut(at) {
+                None => unreachable!(),
+                Some(branch) => branch.redirect(byte, child),
+            },
         }
     }
 

@@ -1,7 +1,6 @@
 use Rattle.std.proofs.Common.{◌∙◌, arith, ap, sym, Some, refl}
 use Rattle.rax_tree.specs.Radix.{places_of}
-use Rattle.rax_tree.proofs.Walks.{some_case}
-use Rattle.rax_tree.proofs.Pruned.{pruning_below, pruned_up, pruned_cut, pruned_higher}
+use Rattle.rax_tree.proofs.Pruned.{pruning_below, pruned_stands, pruned_up, pruned_cut}
 use Rattle.rax_tree.proofs.radix.Radix.+prune.Goals as goal
 
 pub prune-requires : goal.prune-requires
@@ -17,11 +16,15 @@ returns-then-not-is_bare t c =
     pruned_up (places_of c.args.self.now) (places_of c.prune.new.self) c.args.key.now c.args.levels c.args.place c.in-Some-Fork.at c.requires is c.prune.ensures
     (λ bare. absurd (let t = c.if-not-is_bare.ensures.1 bare in cc))
 
+pub turn-byte-requires-clause-there : goal.turn-byte-requires-clause-there
+turn-byte-requires-clause-there t c =
+    let is = sym c.in-Some-Fork.ensures ∙ ap Some c.in-Some-Fork.field-0-is in
+    pruned_stands (places_of c.args.self.now) (places_of c.prune.new.self) c.args.key.now c.args.levels c.args.place c.in-Some-Fork.at c.requires is c.prune.ensures
+
 pub cut-requires : goal.cut-requires
 cut-requires t c =
     let is = sym c.in-Some-Fork.ensures ∙ ap Some c.in-Some-Fork.field-0-is in
-    some_case (places_of c.args.self.now c.args.place) c.requires.live (λ s here.
-    rw (pruned_higher (places_of c.args.self.now) (places_of c.prune.new.self) c.args.key.now c.args.place c.in-Some-Fork.at c.requires.sound is c.prune.ensures c.args.place s s here here (omega arith)) c.requires.live)
+    pruned_stands (places_of c.args.self.now) (places_of c.prune.new.self) c.args.key.now c.args.levels c.args.place c.in-Some-Fork.at c.requires is c.prune.ensures
 
 pub returns : goal.returns
 returns t c =
