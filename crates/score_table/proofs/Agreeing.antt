@@ -24,9 +24,6 @@ entry_some (Some e) x h = (e, refl, some_same (e.value, e.key) x h)
 pub holds_of : (t : Table ℤ) (at : ℕ) (e : Element ℤ) (x : Scored) → item t at ≡ Some e → (e.value, e.key) ≡ x → Holds t at x.1 x.0
 holds_of t at e x found same = record { hash = e.hash; found = found ∙ (λ i. Some (record { key = (same i).1; hash = e.hash; value = (same i).0 })) }
 
-pub holds_entry : (t : Table ℤ) (at : ℕ) (x : Scored) → Holds t at x.1 x.0 → entry_of (item t at) ≡ Some x
-holds_entry t at x h = ap entry_of h.found
-
 -- one item number of the dictionary changes, and so does the list
 module _ (m : Blocks) (old new : Table ℤ) (xs ys : List Scored) (at : ℕ) (element : Option (Element ℤ)) (k : Keyed m old) (u : Updates old.items new.items at element) (agree : Agree old xs) (f : Follows xs ys (entry_of (item old at)) (entry_of element)) where
   -- another element isn't the one that was there

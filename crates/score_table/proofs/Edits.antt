@@ -30,10 +30,12 @@ no_block v = []
 
 -- ---- blocks that keep their bytes
 
+-- where the blocks of its elements are the same in both stores, a list is alike to itself
 alike_same : (m n : Blocks) (xs : List Scored) → ((x : Scored) → Among xs x → n x.1 ≡ m x.1) → Alike m n xs xs
 alike_same m n [] same = tt
 alike_same m n (x ∷ xs) same = (refl, same x (inl refl), alike_same m n xs (λ y h. same y (inr h)))
 
+-- where the blocks of its elements are the same in both stores, a list has the same keys in both
 ranked_same : (m n : Blocks) (xs : List Scored) → ((x : Scored) → Among xs x → n x.1 ≡ m x.1) → map (key_of n) xs ≡ map (key_of m) xs
 ranked_same m n [] same = refl
 ranked_same m n (x ∷ xs) same =
@@ -42,12 +44,15 @@ ranked_same m n (x ∷ xs) same =
     cc
 
 module _ (m n : Blocks) (s : ScoreTable) (is : IsScoreTable m s) (same : (at : ℕ) (e : Element ℤ) → item s.table at ≡ Some e → n e.key ≡ m e.key) where
+  -- the blocks of the list's elements are the same in both stores
   listed_same : (x : Scored) → Among s.list x → n x.1 ≡ m x.1
   listed_same x h = let p = is.agree.named x (contained_among s.list x h) in same p.0 (record { key = x.1; hash = p.1.hash; value = x.0 }) p.1.found
 
+  -- over the new store the dictionary is sound, and its tables are the same
   keyed_same : Keyed n s.table × (key_tables n s.table ≡ key_tables m s.table)
   keyed_same = Keyed-frame m n s.table is.keyed same
 
+  -- a table of scores is sound over a store in which the blocks of its members are the same
   pub kept_sound : IsScoreTable n s
   kept_sound = record {
     keyed = keyed_same.0;
@@ -55,17 +60,21 @@ module _ (m n : Blocks) (s : ScoreTable) (is : IsScoreTable m s) (same : (at : �
     agree = is.agree;
   }
 
+  -- the scores are the same over a store in which the blocks of its members are the same
   pub kept_scores : scores n s ≡ scores m s
   kept_scores = map_of-frame m n (λ (v : ℤ). v) (λ (v : ℤ). v) s.table is.keyed keyed_same.0 (λ at e found. (same at e found, refl))
 
+  -- the pairs in their order are the same over a store in which the blocks of its members are the same
   pub kept_ranked : ranked n s ≡ ranked m s
   kept_ranked = ranked_same m n s.list listed_same
 
+  -- the dictionary's tables are the same over a store in which the blocks of its members are the same
   pub kept_tables : tables n s ≡ tables m s
   kept_tables = keyed_same.1
 
 -- ---- a member joins
 
+-- two answers of one option are the same
 some_element : (o : Option (Element ℤ)) (a b : Element ℤ) → o ≡ Some a → o ≡ Some b → a ≡ b
 some_element o a b h k = cc
 
@@ -98,15 +107,18 @@ module _ (m : Blocks) (old : ScoreTable) (is : IsScoreTable m old) where
       apart (sym (ap (λ (k : Key). k.0) same) ∙ ap (λ (f : Element ℤ). f.value) it))
 
 module _ (m : Blocks) (old : ScoreTable) (table : Table ℤ) (ys : List Scored) (at place : ℕ) (e : Element ℤ) (is : IsScoreTable m old) (live : IsSome (m e.key)) (adds : Adds old.table table at e) (hashed : e.hash ≡ hash_of old.table.seed (bytes_at m e.key)) (lacks : Lacks m old.table (bytes_at m e.key)) (sorted : IsSorted m ys) (list_is : ys ≡ with_at old.list place (e.value, e.key)) where
+  -- the dictionary that the element joined is sound over the store
   added : Keyed m table
   added = (adds.keyed m is.keyed live hashed lacks).0
 
+  -- the dictionary names each block as often as before, and the new element's block once more
   more : (r : BlockRef) → times r (key_refs table) ≡ times r (key_refs old.table) + times r (e.key ∷ [])
   more r =
       let both = refs_changed no_block old.table table at (Some e) adds.updates r in
       let none : times r (own_of no_block (item old.table at)) ≡ 0 = ap (λ o. times r (own_of no_block o)) adds.vacant in
       omega (arith, both, none)
 
+  -- an element that joins the dictionary and the list joins the table of scores
   pub joined : Grown (hash_of old.table.seed) (key_tables m old.table) (key_tables m table) → IsJoined m old (record { table = table; list = ys }) e.key e.value
   joined grown = record {
     sound = record {
@@ -125,18 +137,23 @@ module _ (m : Blocks) (old : ScoreTable) (table : Table ℤ) (ys : List Scored) 
 -- ---- the block of a new member was placed
 
 module _ (m n : Blocks) (old : ScoreTable) (at : BlockRef) (q : List ℕ) (is : IsScoreTable m old) (placed : n ≡ with_block m at (Some q)) (p : Changes m n [] (at ∷ [])) where
+  -- the blocks of the elements stay the same where a block is placed
   put_same : (i : ℕ) (e : Element ℤ) → item old.table i ≡ Some e → n e.key ≡ m e.key
   put_same i e found = Owned-others m n [] (at ∷ []) (key_refs old.table) (key_refs-owned m old.table is.keyed) p e.key (names_key old.table i e found) refl
 
+  -- the table of scores stays sound where a block is placed
   pub put_sound : IsScoreTable n old
   put_sound = kept_sound m n old is put_same
 
+  -- the placed block holds the bytes of the member
   put_bytes : bytes_at n at ≡ q
   put_bytes = ap (λ (o : Option (List ℕ)). unwrap_or o []) ((λ j. placed j at) ∙ cond-true _ _ _ (ref_eq-refl at))
 
+  -- a dictionary that lacked the member lacks the bytes of the placed block in the new store
   pub put_lacks : Lacks m old.table q → Lacks n old.table (bytes_at n at)
   put_lacks l = subst (Lacks n old.table) (sym put_bytes) (record { each = λ i e found same. l.each i e found (sym (put_same i e found) ∙ same) })
 
+  -- where the placed block joined, the table has its old scores with that of the new member put in
   pub put_joined : (new : ScoreTable) (score : ℤ) → IsJoined n old new at score → IsChanged m n old new (insert (scores m old) q score)
   put_joined new score j = record {
     sound = j.sound;
@@ -155,6 +172,7 @@ value_is t at v e found h = some_same e.value v (ap value_of (sym found) ∙ h)
     some_same : (a b : ℤ) → Some a ≡ Some b → a ≡ b
     some_same a b h = cc
 
+-- the value of the element that stands for a member is the score of the member
 pub found_score : (m : Blocks) (s : ScoreTable) → IsScoreTable m s → (at : ℕ) (q : List ℕ) (st : Stands m s.table at q) (v : ℤ) → st.element.value ≡ v → get (scores m s) q ≡ Some v
 found_score m s is at q st v value = map_of-stands m (λ (v : ℤ). v) s.table at st.element q is.keyed st.found st.bytes ∙ ap Some value
 
@@ -162,6 +180,7 @@ found_score m s is at q st v value = map_of-stands m (λ (v : ℤ). v) s.table a
 pub key_found : (m : Blocks) (t : Table ℤ) (at : ℕ) (q : List ℕ) → Stands m t at q → (key : BlockRef) (v : ℤ) → Holds t at key v → bytes_at m key ≡ q
 key_found m t at q st key v h = ap (λ (e : Element ℤ). bytes_at m e.key) (some_element (item t at) (record { key = key; hash = h.hash; value = v }) st.element h.found st.found) ∙ ap (λ (o : Option (List ℕ)). unwrap_or o []) st.bytes
 
+-- a table that is left as it is has its scores with one put in that the member has already
 pub same_changed : (m : Blocks) (s : ScoreTable) (q : List ℕ) (v : ℤ) → IsScoreTable m s → get (scores m s) q ≡ Some v → IsChanged m m s s (insert (scores m s) q v)
 same_changed m s q v is has = record {
   sound = is;
@@ -172,21 +191,26 @@ same_changed m s q v is has = record {
 }
 
 module _ (m : Blocks) (old : ScoreTable) (table : Table ℤ) (zs ys : List Scored) (at place : ℕ) (was score : ℤ) (q : List ℕ) (is : IsScoreTable m old) (st : Stands m old.table at q) (swaps : Swaps old.table table at was score) where
+  -- the element that stands for the member is the one whose value changes
   pub its : st.element ≡ record { key = swaps.key; hash = swaps.hash; value = was }
   its = some_element (item old.table at) st.element (record { key = swaps.key; hash = swaps.hash; value = was }) st.found swaps.found
 
+  -- the block of the element whose value changes holds the bytes of the member
   bytes_are : m swaps.key ≡ Some q
   bytes_are = ap (λ (e : Element ℤ). m e.key) (sym its) ∙ st.bytes
 
+  -- the list has the block of the member with its old score
   there : Among old.list (was, swaps.key)
   there = among_contained old.list (was, swaps.key) (is.agree.listed at (record { key = swaps.key; hash = swaps.hash; value = was }) swaps.found)
 
+  -- the dictionary names each block as often as before
   same_refs : (r : BlockRef) → times r (key_refs table) ≡ times r (key_refs old.table)
   same_refs r =
       let both = refs_changed no_block old.table table at (Some (record { key = swaps.key; hash = swaps.hash; value = score })) swaps.updates r in
       let here : times r (own_of no_block (item old.table at)) ≡ times r (swaps.key ∷ []) = ap (λ o. times r (own_of no_block o)) swaps.found in
       omega (arith, both, here)
 
+  -- where the dictionary and the list have the new score in place of the old, the table has changed to it
   pub rescored : score ≢ was → zs ≡ with_at old.list place (score, swaps.key) → IsSorted m zs → (removed : Bool) → ListRemoves m (was, q) zs removed ys → IsSorted m ys
       → Keyed m table → key_tables m table ≡ key_tables m old.table → content m table ≡ insert (content m old.table) (key_bytes m (item old.table at)) score
       → IsChanged m m old (record { table = table; list = ys }) (insert (scores m old) q score)
@@ -237,15 +261,19 @@ module _ (m : Blocks) (old : ScoreTable) (table : Table ℤ) (zs ys : List Score
 -- ---- a member is taken out, and its block given back
 
 module _ (m n : Blocks) (old : ScoreTable) (table : Table ℤ) (ys : List Scored) (q : List ℕ) (ref : BlockRef) (score : ℤ) (is : IsScoreTable m old) (r : Removes m old.table table q ref score) (given : n ≡ with_block m ref None) where
+  -- the table of scores without the member, before its block is given back
   abbrev mid : ScoreTable
   mid = record { table = table; list = ys }
 
+  -- the old list has the block of the member that leaves, with its score
   gone_there : Among old.list (score, ref)
   gone_there = among_contained old.list (score, ref) (is.agree.listed r.at (record { key = ref; hash = r.hash; value = score }) r.found)
 
+  -- the score and the bytes of the member that leaves are the key of its element
   key_is : ◌≡◌ {A = Key} (score, q) (key_of m (score, ref))
   key_is = ap (λ (o : Option (List ℕ)). let k : Key = (score, unwrap_or o []) in k) (sym r.bytes)
 
+  -- without the member in the dictionary and in the list, the table is sound over the old store
   taken_out : Keyed m table → IsSorted m ys → (removed : Bool) → ListRemoves m (score, q) old.list removed ys → IsScoreTable m mid
   taken_out keyed sorted removed removes = record {
     keyed = keyed;
@@ -255,6 +283,7 @@ module _ (m n : Blocks) (old : ScoreTable) (table : Table ℤ) (ys : List Scored
         (follows_removed m old.list is.sorted (score, ref) gone_there removed ys (subst (λ k. ListRemoves m k old.list removed ys) key_is removes)));
   }
 
+  -- no element that is left has the block that is given back
   other_key : (i : ℕ) (e : Element ℤ) → item table i ≡ Some e → ref_eq e.key ref ≡ false
   other_key i e h = elim (cases_ref e.key ref) [
     | inl same ↦ absurd (never same)
@@ -267,18 +296,22 @@ module _ (m n : Blocks) (old : ScoreTable) (table : Table ℤ) (ys : List Scored
       never : e.key ≡ ref → ⊥
       never same = apart (is.keyed.apart i r.at e (record { key = ref; hash = r.hash; value = score }) (sym (r.updates.others i apart) ∙ h) r.found (ap m same))
 
+  -- the blocks of the elements that are left stay the same where the block is given back
   others_same : (i : ℕ) (e : Element ℤ) → item table i ≡ Some e → n e.key ≡ m e.key
   others_same i e h = (λ j. given j e.key) ∙ with_block-other m ref e.key None (other_key i e h)
 
+  -- the dictionary names each block as often as before, but the one that is given back once less
   fewer : (p : BlockRef) → times p (key_refs table) + one p ref ≡ times p (key_refs old.table)
   fewer p =
       let both = refs_changed no_block old.table table r.at None r.updates p in
       let was : times p (own_of no_block (item old.table r.at)) ≡ times p (ref ∷ []) = ap (λ o. times p (own_of no_block o)) r.found in
       omega (arith, both, was)
 
+  -- the block that is given back was live
   live : IsSome (m ref)
   live = subst (λ o. IsSome o) (sym r.bytes) refl
 
+  -- where the member left and its block was given back, the table has its old scores without that member
   pub taken : Keyed m table → IsSorted m ys → (removed : Bool) → ListRemoves m (score, q) old.list removed ys → content m table ≡ remove (content m old.table) q → Grown (hash_of old.table.seed) (key_tables m old.table) (key_tables m table)
       → IsChanged m n old mid (remove (scores m old) q)
   taken keyed sorted removed removes map_is grown = record {
@@ -294,6 +327,7 @@ module _ (m n : Blocks) (old : ScoreTable) (table : Table ℤ) (ys : List Scored
 
 -- ---- the elements stay, and the tables change
 
+-- a table whose items stay, and whose buckets come from the old ones by edits, has its old scores
 pub items_changed : (m : Blocks) (old : ScoreTable) (table : Table ℤ) → IsScoreTable m old → table.items ≡ old.table.items → Keyed m table → table.seed ≡ old.table.seed → content m table ≡ content m old.table
     → Grown (hash_of old.table.seed) (key_tables m old.table) (key_tables m table) → IsChanged m m old (record { table = table; list = old.list }) (scores m old)
 items_changed m old table is items keyed seed map_is grown = record {

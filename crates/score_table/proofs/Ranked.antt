@@ -23,6 +23,7 @@ use Rattle.score_table.proofs.Among.{Among, among_contained, contained_among, be
 -- ---- the map of a list
 
 module _ (m : Blocks) where
+  -- from the bytes of each element's member to its score
   abbrev map_in : List Scored → ScoreMap
   map_in [] = empty
   map_in (x ∷ xs) = insert (map_in xs) (bytes_at m x.1) x.0
@@ -31,9 +32,11 @@ module _ (m : Blocks) where
   abbrev AreApart : List Scored → Type 0
   AreApart xs = (x y : Scored) → Among xs x → Among xs y → bytes_at m x.1 ≡ bytes_at m y.1 → x ≡ y
 
+  -- where elements with the same bytes are one, this holds behind the first element too
   apart_behind : (x : Scored) (xs : List Scored) → AreApart (x ∷ xs) → AreApart xs
   apart_behind x xs a y z h g = a y z (inr h) (inr g)
 
+  -- the map of a list has nothing for bytes that the member of no element has
   in_none : (xs : List Scored) (q : List ℕ) → ((x : Scored) → Among xs x → bytes_at m x.1 ≢ q) → get (map_in xs) q ≡ None
   in_none [] q out = get-empty (slice_cmp nat_cmp) q
   in_none (x ∷ xs) q out = elim (cases_put (map_in xs) (bytes_at m x.1) x.0 q) [
@@ -41,6 +44,7 @@ module _ (m : Blocks) where
     | inr other ↦ other.1 ∙ in_none xs q (λ y h. out y (inr h))
   ]
 
+  -- where elements with the same bytes are one, the map of a list has the score of each
   in_some : (xs : List Scored) (y : Scored) → AreApart xs → Among xs y → get (map_in xs) (bytes_at m y.1) ≡ Some y.0
   in_some [] y a h = absurd h
   in_some (x ∷ xs) y a h = elim (cases_put (map_in xs) (bytes_at m x.1) x.0 (bytes_at m y.1)) [
@@ -48,6 +52,7 @@ module _ (m : Blocks) where
     | inr other ↦ other.1 ∙ in_some xs y (apart_behind x xs a) (elim h [ inl e ↦ absurd (other.0 (ap (λ (z : Scored). bytes_at m z.1) (sym e))) | inr g ↦ g ])
   ]
 
+  -- the map of a sorted list in which elements with the same bytes are one has as many members as the list
   many : (xs : List Scored) → IsSorted m xs → AreApart xs → len (map_in xs) ≡ length xs
   many [] s a = len-empty (slice_cmp nat_cmp) ℤ
   many (x ∷ xs) s a =
@@ -59,9 +64,11 @@ module _ (m : Blocks) (s : ScoreTable) (is : IsScoreTable m s) where
   element_in : (x : Scored) → Among s.list x → (at : ℕ) × Holds s.table at x.1 x.0
   element_in x h = is.agree.named x (contained_among s.list x h)
 
+  -- the block of each element of the list is live
   pub listed_live : (x : Scored) → Among s.list x → m x.1 ≡ Some (bytes_at m x.1)
   listed_live x h = let p = element_in x h in live_bytes m x.1 (is.keyed.live p.0 (record { key = x.1; hash = p.1.hash; value = x.0 }) p.1.found)
 
+  -- elements of the list whose members have the same bytes are one
   all_apart : AreApart m s.list
   all_apart x y h g same =
       let p = element_in x h in
@@ -74,6 +81,7 @@ module _ (m : Blocks) (s : ScoreTable) (is : IsScoreTable m s) where
       some_same : (o : Option (Element ℤ)) (a b : Element ℤ) → o ≡ Some a → o ≡ Some b → a ≡ b
       some_same o a b h k = cc
 
+  -- the score of each element of the list is the one that its member has
   pub listed_score : (x : Scored) → Among s.list x → get (scores m s) (bytes_at m x.1) ≡ Some x.0
   listed_score x h = let p = element_in x h in map_of-stands m (λ (v : ℤ). v) s.table p.0 (record { key = x.1; hash = p.1.hash; value = x.0 }) (bytes_at m x.1) is.keyed p.1.found (listed_live x h)
 
@@ -88,6 +96,7 @@ module _ (m : Blocks) (s : ScoreTable) (is : IsScoreTable m s) where
       key_is : {a v : ℤ} {b q : List ℕ} → a ≡ v → b ≡ q → ◌≡◌ {A = Key} (a, b) (v, q)
       key_is h g = cc
 
+  -- the map of the list is the map of the scores
   same_map_in : map_in m s.list ≡ scores m s
   same_map_in = maps_alike (map_in m s.list) (scores m s) (λ q. elim (cases_key m s.table q is.keyed) [
     | inl sp ↦
@@ -106,6 +115,7 @@ module _ (m : Blocks) (s : ScoreTable) (is : IsScoreTable m s) where
 
 -- ---- what stands at a rank
 
+-- the element at a rank of a sorted list has the key at that rank, and there is none only from the length on
 names_at : (m : Blocks) (xs : List Scored) (n : ℕ) → IsSorted m xs → MatchOption (slice_get xs n) (length xs ≤ n) (λ pair. Names m pair (slice_get (map (key_of m) xs) n))
 names_at m [] n s = omega arith
 names_at m (x ∷ xs) zero s = record { live = s.0; same = refl }
@@ -115,9 +125,11 @@ names_at m (x ∷ xs) (suc n) s = more (slice_get xs n) (names_at m xs n s.2)
     more None h = omega (arith, h)
     more (Some y) h = h
 
+-- the element at a rank has the pair at that rank, and there is none only from the number of members on
 pub rank_names : (m : Blocks) (s : ScoreTable) (n : ℕ) → IsScoreTable m s → MatchOption (slice_get s.list n) (len (scores m s) ≤ n) (λ pair. Names m pair (slice_get (ranked m s) n))
 rank_names m s n is = subst (λ k. MatchOption (slice_get s.list n) (k ≤ n) (λ pair. Names m pair (slice_get (ranked m s) n))) (counted m s is) (names_at m s.list n is.sorted)
 
+-- the key at a rank below the length is that of the element there
 key_at : (m : Blocks) (xs : List Scored) (n : ℕ) → n < length xs → slice_get (map (key_of m) xs) n ≡ Some (key_of m (get_or xs n no_element))
 key_at m [] n lt = absurd (omega (arith, lt))
 key_at m (x ∷ xs) zero lt = refl
@@ -131,6 +143,7 @@ ranks_at m s q v place None is has found none = absurd (let p = among_score m s 
 
 -- ---- what an item number has
 
+-- the block and the value of an item number are the pair of that item number
 pub item_names : (m : Blocks) (s : ScoreTable) (at : ℕ) (key : BlockRef) (shown v : ℤ) → IsScoreTable m s → Holds s.table at key shown → value_of (item s.table at) ≡ Some v → Names m (v, key) (pair_at m s at)
 item_names m s at key shown v is h value =
     let e : Element ℤ = record { key = key; hash = h.hash; value = shown } in
@@ -148,6 +161,7 @@ pair_some m (Some e) v q h = let same = some_same (e.value, bytes_at m e.key) (v
     some_same : (a b : Key) → Some a ≡ Some b → a ≡ b
     some_same a b h = cc
 
+-- each member has exactly one item number, and its score there
 pub items_arranged : (m : Blocks) (s : ScoreTable) → IsScoreTable m s → IsArranged m s
 items_arranged m s is = record {
   found = λ v q has. (let p = map_of-has m (λ (v : ℤ). v) s.table q v is.keyed has in
@@ -171,10 +185,12 @@ items_arranged m s is = record {
 
 -- ---- the one list of a map
 
+-- the list has the pair
 abbrev Has : List Key → Key → Type 0
 Has [] k = ⊥
 Has (x ∷ xs) k = (x ≡ k) ⊎ Has xs k
 
+-- a pair that a list contains at an index is one that it has
 has_contained : (xs : List Key) (k : Key) → Contains xs k → Has xs k
 has_contained xs k h = at xs h.0 h.1 h.2
   where
@@ -183,16 +199,19 @@ has_contained xs k h = at xs h.0 h.1 h.2
     at (y ∷ ys) zero lt is = inl is
     at (y ∷ ys) (suc n) lt is = inr (at ys n (omega (arith, lt)) is)
 
+-- a pair that a list has is contained in it at an index
 contained_has : (xs : List Key) (k : Key) → Has xs k → Contains xs k
 contained_has [] k h = absurd h
 contained_has (y ∷ ys) k (inl e) = (0, omega arith, e)
 contained_has (y ∷ ys) k (inr h) = (let p = contained_has ys k h in (suc p.0, omega (arith, p.1), p.2))
 
+-- a pair that stands before all of a list is less than each pair that the list has
 leads_has : (x : Key) (xs : List Key) (k : Key) → Leads x xs → Has xs k → key_cmp x k ≡ Less
 leads_has x [] k l h = absurd h
 leads_has x (y ∷ ys) k l (inl e) = ap (key_cmp x) (sym e) ∙ l.0
 leads_has x (y ∷ ys) k l (inr h) = leads_has x ys k l.1 h
 
+-- two lists in order that have the same pairs are the same
 same_ordered : (xs ys : List Key) → IsOrdered xs → IsOrdered ys → ((k : Key) → Has xs k → Has ys k) → ((k : Key) → Has ys k → Has xs k) → xs ≡ ys
 same_ordered [] [] o p forth back = refl
 same_ordered [] (y ∷ ys) o p forth back = absurd (back y (inl refl))
@@ -218,30 +237,36 @@ same_ordered (x ∷ xs) (y ∷ ys) o p forth back =
       ]
     ]
 
+-- two lists of the pairs of one map in order are the same
 pub ranking_once : (map : ScoreMap) (xs ys : List Key) → IsRanking map xs → IsRanking map ys → xs ≡ ys
 ranking_once map xs ys p q = same_ordered xs ys p.ordered q.ordered
     (λ k h. has_contained ys k ((q.pairs k).1 ((p.pairs k).0 (contained_has xs k h))))
     (λ k h. has_contained xs k ((p.pairs k).1 ((q.pairs k).0 (contained_has ys k h))))
 
 module _ (m : Blocks) where
+  -- a key behind which all elements of a list stand leads their keys
   leads_behind : (k : Key) (xs : List Scored) → AllBehind m k xs → Leads k (map (key_of m) xs)
   leads_behind k [] a = tt
   leads_behind k (x ∷ xs) a = (a.0, leads_behind k xs a.1)
 
+  -- the keys of a sorted list are in order
   ordered_sorted : (xs : List Scored) → IsSorted m xs → IsOrdered (map (key_of m) xs)
   ordered_sorted [] s = tt
   ordered_sorted (x ∷ xs) s = (leads_behind (key_of m x) xs s.1, ordered_sorted xs s.2)
 
+  -- each key of a list is that of an element among it
   has_among : (xs : List Scored) (k : Key) → Has (map (key_of m) xs) k → (x : Scored) × Among xs x × (key_of m x ≡ k)
   has_among [] k h = absurd h
   has_among (x ∷ xs) k (inl e) = (x, inl refl, e)
   has_among (x ∷ xs) k (inr h) = (let p = has_among xs k h in (p.0, inr p.1, p.2))
 
+  -- the key of each element among a list is one of its keys
   among_has : (xs : List Scored) (x : Scored) → Among xs x → Has (map (key_of m) xs) (key_of m x)
   among_has [] x h = absurd h
   among_has (y ∷ ys) x (inl e) = inl (ap (key_of m) e)
   among_has (y ∷ ys) x (inr h) = inr (among_has ys x h)
 
+-- the ranked pairs of a table of scores are the pairs of its map in order
 pub ranking_holds : (m : Blocks) (s : ScoreTable) → IsScoreTable m s → IsRanking (scores m s) (ranked m s)
 ranking_holds m s is = record {
   ordered = ordered_sorted m s.list is.sorted;

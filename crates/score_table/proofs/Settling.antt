@@ -13,12 +13,12 @@ use Rattle.score_list.specs.Sorted.{Key, key_of, IsSorted, HasAt, Misses, Carrie
 use Rattle.score_table.specs.declared.table.ScoreTable.{ScoreTable}
 use Rattle.score_table.specs.Ranking.{IsRanking}
 use Rattle.score_table.specs.Scored.{IsScoreTable, scores, ranked}
-use Rattle.score_table.specs.Relocation.{IsSettled}
+use Rattle.score_table.specs.Relocation.{IsRelocatedTable}
 use Rattle.score_table.proofs.Among.{Among, among_contained, contained_among, among_at, behind_among, less_differs, missed, Follows, it_is, follows_renamed}
 use Rattle.score_table.proofs.Agreeing.{entry_of, agree_follows}
 use Rattle.score_table.proofs.Ranked.{ranking_holds, ranking_once}
 
-pub settled_same : (m : Blocks) (s : ScoreTable) (stays : ℕ → Type 0) → IsScoreTable m s → IsSettled m m s s stays
+pub settled_same : (m : Blocks) (s : ScoreTable) (stays : ℕ → Type 0) → IsScoreTable m s → IsRelocatedTable m m s s stays
 settled_same m s stays is = record {
   sound = is;
   scores_are = refl;
@@ -70,7 +70,7 @@ module _ (m n : Blocks) (s : ScoreTable) (table : Table ℤ) (ys : List Scored) 
               some_same : {a b : Scored} → Some a ≡ Some b → a ≡ b
               some_same h = cc
 
-  pub item_settled : IsSorted n ys → IsSettled m n s (record { table = table; list = ys }) (λ i. i ≢ at)
+  pub item_settled : IsSorted n ys → IsRelocatedTable m n s (record { table = table; list = ys }) (λ i. i ≢ at)
   item_settled sorted = record {
     sound = sound;
     scores_are = scores_same;

@@ -8,7 +8,7 @@ use Rattle.score_table.specs.Scored.{IsScoreTable, scores, ranked, refs, seed_of
 
 -- Blocks of members moved: all means what it meant, a member stands at each item number at which one stood, and these
 -- item numbers keep their blocks.
-pub record IsSettled (before after : Blocks) (old new : ScoreTable) (stays : ℕ → Type 0) : Type 0 where
+pub record IsRelocatedTable (before after : Blocks) (old new : ScoreTable) (stays : ℕ → Type 0) : Type 0 where
   pub sound : IsScoreTable after new
   pub scores_are : scores after new ≡ scores before old
   pub ranked_are : ranked after new ≡ ranked before old

@@ -3,7 +3,7 @@
 ghost use Rattle.std.specs.Prelude.{◌≢◌};
 ghost use Rattle.blocks.specs.Slabs.{Calmer};
 ghost use Rattle.score_table.specs.Scored.{IsScoreTable, IsItem};
-ghost use Rattle.score_table.specs.Relocation.{IsSettled, IsCalm};
+ghost use Rattle.score_table.specs.Relocation.{IsRelocatedTable, IsCalm};
 
 use crate::ScoreTable;
 use blocks::{BlockStore, settle};
@@ -13,7 +13,7 @@ impl ScoreTable {
     fn move_item<B: BlockStore>(&mut self, store: &mut B, item: usize)
         requires sound { IsScoreTable (B.blocks store.old) self.old }
         requires item { IsItem self.old item }
-        ensures settled { IsSettled (B.blocks store.old) (B.blocks store.new) self.old self.new (λ i. i ≢ item) }
+        ensures settled { IsRelocatedTable (B.blocks store.old) (B.blocks store.new) self.old self.new (λ i. i ≢ item) }
         ensures calm { IsCalm (B.heap store.new) self.new item }
         ensures calmer { Calmer (B.heap store.old) (B.heap store.new) }
     {
@@ -32,7 +32,7 @@ impl ScoreTable {
     /// dictionary and in the list. It takes no memory.
     pub fn settle_item<B: BlockStore>(&mut self, store: &mut B, item: usize)
         requires { IsScoreTable (B.blocks store.old) self.old }
-        ensures settled { IsSettled (B.blocks store.old) (B.blocks store.new) self.old self.new (λ i. i ≢ item) }
+        ensures settled { IsRelocatedTable (B.blocks store.old) (B.blocks store.new) self.old self.new (λ i. i ≢ item) }
         ensures calm { IsCalm (B.heap store.new) self.new item }
         ensures calmer { Calmer (B.heap store.old) (B.heap store.new) }
     {
