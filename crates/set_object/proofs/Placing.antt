@@ -38,6 +38,7 @@ use Rattle.set_object.proofs.Listed.{listed_is}
 use Rattle.set_object.specs.declared.members.Packed.{Packed}
 use Rattle.object_codec.specs.Forms.{rank, FitsSet, IsLeast}
 
+-- where each string that stands in a list has at most this length, all of the list have
 pub all_short : (xs : List (List ℕ)) (v : ℕ) → ((q : List ℕ) → among q xs ≡ true → length q ≤ v) → All (λ (x : List ℕ). length x ≤ v) xs
 all_short [] v each = All-nil (λ (x : List ℕ). length x ≤ v)
 all_short (x ∷ xs) v each =
@@ -48,25 +49,32 @@ all_short (x ∷ xs) v each =
 
 -- the block of a packed form was placed
 module _ (m n : Blocks) (at : BlockRef) (bytes : List ℕ) (placed : n ≡ with_block m at (Some bytes)) where
+  -- the placed block holds the bytes that it was placed with
   pub block_is : bytes_at n at ≡ bytes
   block_is = ap (λ o. unwrap_or o []) (placed_bytes m n at bytes placed)
 
 module _ (m n : Blocks) (self : Members) (x : List ℕ) (sound : IsMembers m self) (packed : form_of self ≢ Hashtable) (lacks : has (members m self) x ≡ false) where
+  -- the members of the packed set in the set's own order
   abbrev list : List (List ℕ)
   list = listed_of m self.body
 
+  -- the members of the packed set are the set of its list
   members_list : members m self ≡ set_of list
   members_list = (listed_is m self.limits self.seed self.body sound.body).0
 
+  -- no member stands twice in the list of the packed set
   list_once : IsOnce list
   list_once = (listed_is m self.limits self.seed self.body sound.body).1
 
+  -- the packed set has as many members as its list is long
   list_len : len (members m self) ≡ length list
   list_len = ap len members_list ∙ list_once
 
+  -- with a new member, the packed set has one member more than its list is long
   more_len : len (insert (members m self) x tt) ≡ length list + 1
   more_len = len_put (members m self) x lacks ∙ ap (λ k. k + 1) list_len
 
+  -- the list with a new member at its end makes the set with that member
   more_set : set_of (list ++ x ∷ []) ≡ insert (members m self) x tt
   more_set = set_push list x ∙ ap (λ s. insert s x tt) (sym members_list)
 
@@ -75,9 +83,11 @@ module _ (m n : Blocks) (self : Members) (x : List ℕ) (sound : IsMembers m sel
   each_short q h = longest_each (keys (insert (members m self) x tt)) q (sym (keys_among (insert (members m self) x tt) q) ∙ ap (λ s. has s q) (sym more_set) ∙ has_among (list ++ x ∷ []) q ∙ h)
 
   module _ (risen : IsRisen self.limits (form_of self) (insert (members m self) x tt) Listpack) where
+    -- where the set with the new member is to be a listpack, no member is longer than the limit for listpacks
     more_short : All (λ (q : List ℕ). length q ≤ self.limits.set_value) (list ++ x ∷ [])
     more_short = all_short (list ++ x ∷ []) self.limits.set_value (λ q h. omega (arith, each_short q h, risen.fitting.1))
 
+    -- where the set with the new member is to be a listpack, one of the old members has room for the new one
     pub pack_room : (bytes : List ℕ) → IsPackOf list bytes → Fits bytes x
     pack_room bytes p = pack_fits list bytes x p
         (all_short list 4096 (λ q h. omega (arith, each_short q (left q h), risen.fitting.1, sound.limits.set_value)))
@@ -94,6 +104,7 @@ module _ (m n : Blocks) (self : Members) (x : List ℕ) (sound : IsMembers m sel
             either true k = refl
             either false k = k
 
+    -- a listpack of the old members and the new one, placed in a block, is a body of the set with the new member
     pub pack_placed : (at : BlockRef) (size : ℕ) (bytes : List ℕ) → n ≡ with_block m at (Some bytes) → Changes m n [] (at ∷ []) → size ≡ len (members m self) + 1 → IsPackOf (list ++ x ∷ []) bytes
         → IsPlacedBody m n self (Pack (record { at = at; len = size })) (insert (members m self) x tt)
     pack_placed at size bytes placed p counted is =
@@ -113,9 +124,11 @@ module _ (m n : Blocks) (self : Members) (x : List ℕ) (sound : IsMembers m sel
         }
 
   module _ (risen : IsRisen self.limits (form_of self) (insert (members m self) x tt) Intset) where
+    -- where the set with the new member is to be an intset, that member is the canonical text of a number
     pub is_number : is_some (number_of x) ≡ true
     is_number = numbers_each (keys (insert (members m self) x tt)) x risen.fitting.0 (sym (keys_among (insert (members m self) x tt) x) ∙ has_put (members m self) x x ∙ cond-true _ _ _ (tied-same x x refl))
 
+    -- an intset of the old members and the new one, placed in a block, is a body of the set with the new member
     pub number_placed : (at : BlockRef) (size : ℕ) (k : ℤ) (old bytes : List ℕ) → n ≡ with_block m at (Some bytes) → Changes m n [] (at ∷ []) → size ≡ len (members m self) + 1
         → IsNumberList list old → x ≡ canonical k → mag k < 2 ^ 63 → IsIntset bytes (numbers_of bytes) → numbers_of bytes ≡ with_number (numbers_of old) k
         → IsPlacedBody m n self (Numbers (record { at = at; len = size })) (insert (members m self) x tt)
@@ -152,24 +165,29 @@ module _ (m n : Blocks) (self : Members) (x : List ℕ) (sound : IsMembers m sel
 pub listpack_packed : (limits : Limits) (old : Form) (set : Strings) → IsRisen limits old set Listpack → old ≢ Hashtable
 listpack_packed limits old set risen same = let r : rank old ≡ 2 = ap rank same in omega (arith, r, risen.from_old)
 
+-- a set whose form after a write is an intset was no hash table before
 pub intset_packed : (limits : Limits) (old : Form) (set : Strings) → IsRisen limits old set Intset → old ≢ Hashtable
 intset_packed limits old set risen same = let r : rank old ≡ 2 = ap rank same in omega (arith, r, risen.from_old)
 
 -- ---- the form that is told
 
+-- where all strings have at most this length, so has the longest
 pub longest_within : (xs : List (List ℕ)) (v : ℕ) → All (λ (x : List ℕ). length x ≤ v) xs → longest xs ≤ v
 longest_within [] v all = omega arith
 longest_within (x ∷ xs) v all = omega (arith, All-head (λ (x : List ℕ). length x ≤ v) x xs all, longest_within xs v (All-tail (λ (x : List ℕ). length x ≤ v) x xs all))
 
 module _ (m : Blocks) (limits : Limits) (seed : ℕ) (body : Body) (x : List ℕ) (lacks : has (members_of m body) x ≡ false) (f : Form) where
+  -- an empty body rises to the least form that fits the new member alone
   pub empty_risen : (number : Bool) → body ≡ Empty → number ≡ is_some (number_of x) → IsLeast (FitsSet limits number 1 (length x)) f → IsRisen limits (form_of_body body) (insert (members_of m body) x tt) f
   empty_risen number is by_text h =
       subst (λ (b : Body). IsRisen limits (form_of_body b) (insert (members_of m b) x tt) f) (sym is)
       (risen_numbers limits empty [] x (sym set_nil) once_nil (has_empty x) number 1 (length x) f by_text refl refl (omega arith) h)
 
+  -- a body with an intset rises, by a new member, to the form to which the set of that intset's numbers does
   pub numbers_risen : (p : Packed) → body ≡ Numbers p → IsRisen limits Intset (insert (set_of (number_texts (bytes_at m p.at))) x tt) f → IsRisen limits (form_of_body body) (insert (members_of m body) x tt) f
   numbers_risen p is risen = subst (λ (b : Body). IsRisen limits (form_of_body b) (insert (members_of m b) x tt) f) (sym is) risen
 
+  -- a body with a listpack rises to the least form but an intset that fits one member more and the new one's length
   pub pack_risen : (p : Packed) → body ≡ Pack p → IsBody m limits seed body → IsLeast (FitsSet limits false (p.len + 1) (length x)) f → IsRisen limits (form_of_body body) (insert (members_of m body) x tt) f
   pack_risen p is sound h =
       let s : IsMemberPack limits p.len (bytes_at m p.at) = subst (IsBody m limits seed) is sound in
@@ -179,12 +197,14 @@ module _ (m : Blocks) (limits : Limits) (seed : ℕ) (body : Body) (x : List ℕ
 
 -- the numbers of an intset, and one more
 module _ (limits : Limits) (len : ℕ) (bytes x : List ℕ) (s : IsNumbers limits len bytes) (lacks : has (set_of (number_texts bytes)) x ≡ false) (number : Bool) (by_text : number ≡ is_some (number_of x)) where
+  -- an intset with a new text rises to the least form that fits the count, the longest, and whether that is a number
   pub numbers_more : (most : ℕ) (f : Form) → most ≡ max (longest (number_texts bytes)) (length x) → IsLeast (FitsSet limits number (len + 1) most) f → IsRisen limits Intset (insert (set_of (number_texts bytes)) x tt) f
   numbers_more most f most_is h =
       let xs = number_texts bytes in
       risen_numbers limits (set_of xs) xs x refl (numbers_once (numbers_of bytes) s.intset.rising s.fit) lacks number (len + 1) most f by_text
       (texts_numbers (numbers_of bytes) s.fit) (omega (arith, s.counted, length-map (numbers_of bytes) canonical)) (omega (arith, most_is)) h
 
+  -- an intset that has room stays one where a number is put in
   pub numbers_stay : number ≡ true → len < limits.set_intset → IsRisen limits Intset (insert (set_of (number_texts bytes)) x tt) Intset
   numbers_stay is few =
       let most : ℕ = max (longest (number_texts bytes)) (length x) in
@@ -211,6 +231,7 @@ add_new m self k old r false sound packed lacks list is there =
     both : (b : Bool) → b ≡ true → b ≡ false → ⊥
     both b h k = cc
 
+-- a text that reads as a number is the canonical one of a signed number of 64 bits
 pub is_text_of : (x : List ℕ) → is_some (number_of x) ≡ true → IsI64Text x
 is_text_of x h = elim (number_cases x) [
   | inl none ↦ absurd (both (is_some (number_of x)) h (ap is_some none))
@@ -219,16 +240,3 @@ is_text_of x h = elim (number_cases x) [
   where
     both : (b : Bool) → b ≡ true → b ≡ false → ⊥
     both b h k = cc
-
--- the form of what was placed
-pub risen_as : {E : Type 0} (limits : Limits) (old f g : Form) (set : Strings) (r : Result Body E) → IfOk r (λ body. form_of_body body ≡ f) → g ≡ f → IsRisen limits old set g → IfOk r (λ body. IsRisen limits old set (form_of_body body))
-risen_as limits old f g set (Ok body) is same risen = subst (λ h. IsRisen limits old set h) (same ∙ sym is) risen
-risen_as limits old f g set (Err e) is same risen = tt
-
-pub set_forms : (limits : Limits) (old f : Form) (set : Strings) → IsRisen limits old set f → f ≢ Intset → f ≢ Listpack → f ≢ Hashtable → ⊥
-set_forms limits old Intset set h a b c = a refl
-set_forms limits old Listpack set h a b c = b refl
-set_forms limits old Hashtable set h a b c = c refl
-set_forms limits old Skiplist set h a b c = h.fitting
-set_forms limits old Quicklist set h a b c = h.fitting
-set_forms limits old Stream set h a b c = h.fitting

@@ -36,17 +36,21 @@ use Rattle.set_object.proofs.Bodies.{body_len, len_of}
 
 -- ---- the numbers without one
 
+-- numbers that test as equal are the same
 int_same : (x n : ℤ) → int_eq x n ≡ true → x ≡ n
 int_same x n h = grind (arith, ints)
 
+-- a number tests as equal to itself
 int_self : (n : ℤ) → int_eq n n ≡ true
 int_self n = grind (arith, ints)
 
+-- putting in by a test makes no difference where the same test takes out
 gone : (t u a : Bool) → t ≡ u → cond t false a ≡ cond t false (cond u true a)
 gone true u a same = refl
 gone false true a same = cc
 gone false false a same = refl
 
+-- putting in by one test and taking out by another may change places where the tests never both hold
 stays : (t u a : Bool) → (t ≡ true → u ≡ true → ⊥) → cond u true (cond t false a) ≡ cond t false (cond u true a)
 stays true true a apart = absurd (apart refl refl)
 stays true false a apart = refl
@@ -54,6 +58,7 @@ stays false true a apart = refl
 stays false false a apart = refl
 
 module _ (n : ℤ) (small : mag n < 2 ^ 63) (q : List ℕ) where
+  -- among the texts of the numbers without n stand those of all but the text of n
   among_without : (ns : List ℤ) → AreFit ns → among q (map canonical (without_number ns n)) ≡ cond (tied q (canonical n)) false (among q (map canonical ns))
   among_without [] fit = none (tied q (canonical n))
     where
@@ -72,11 +77,13 @@ module _ (n : ℤ) (small : mag n < 2 ^ 63) (q : List ℕ) where
           let same : x ≡ n = signed_decimal_injective x n (All-head (λ n. mag n < 2 ^ 63) x ns fit) small (sym (tied-true q (canonical x) u) ∙ tied-true q (canonical n) t) in
           two_ways (int_eq x n) (ap (λ y. int_eq y n) same ∙ int_self n) other
 
+-- the texts of the numbers without n make the set of all texts without that of n
 pub numbers_left : (ns : List ℤ) (n : ℤ) → AreFit ns → mag n < 2 ^ 63 → set_of (map canonical (without_number ns n)) ≡ remove (set_of (map canonical ns)) (canonical n)
 numbers_left ns n fit small = taken_is (map canonical ns) (map canonical (without_number ns n)) (canonical n) (λ q. among_without n small q ns fit)
 
 -- ---- the elements without one
 
+-- a list in which no string stands twice stays so without the string at an index
 pub texts_once : (xs : List (List ℕ)) (i : ℕ) (x : List ℕ) → IsOnce xs → slice_get xs i ≡ Some x → IsOnce (removed xs i)
 texts_once xs i x once is =
     let less = len_taken (set_of xs) x (has_among xs x ∙ stands_get xs i x is) in
@@ -91,15 +98,19 @@ texts_once xs i x once is =
 -- ---- the block of a packed set without a member was placed
 
 module _ (m n : Blocks) (self : Members) (x : List ℕ) (sound : IsMembers m self) (there : has (members m self) x ≡ true) (at : BlockRef) (size : ℕ) (bytes : List ℕ) (placed : n ≡ with_block m at (Some bytes)) (changes : Changes m n [] (at ∷ [])) (less : size + 1 ≡ body_len self.body) where
+  -- the members without the one that is taken out
   abbrev left : Strings
   left = remove (members m self) x
 
+  -- as many members are left as are told for the new block
   left_len : len left ≡ size
   left_len = omega (arith, less, len_of m self.limits self.seed self.body sound.body, len_taken (members m self) x there)
 
+  -- the new block holds the bytes that it was placed with
   same_bytes : bytes_at n at ≡ bytes
   same_bytes = block_is m n at bytes placed
 
+  -- where the bytes are an intset of what is left, the new block can take the place of the set's intset
   numbers_fewer : (p : Packed) → self.body ≡ Numbers p → AreNumbersOf left bytes → IsPlacedBody m n self (Numbers (record { at = at; len = size })) left
   numbers_fewer p is now =
       let old : IsNumbers self.limits p.len (bytes_at m p.at) = subst (IsBody m self.limits self.seed) is sound.body in
@@ -116,6 +127,7 @@ module _ (m n : Blocks) (self : Members) (x : List ℕ) (sound : IsMembers m sel
         grown = Grown-same (hash_of self.seed) no_tables no_tables refl;
       }
 
+  -- where the bytes are a listpack of what is left, the new block can take the place of the set's listpack
   texts_fewer : (p : Packed) → self.body ≡ Pack p → ArePackedOf left bytes → IsPlacedBody m n self (Pack (record { at = at; len = size })) left
   texts_fewer p is now =
       let old : IsMemberPack self.limits p.len (bytes_at m p.at) = subst (IsBody m self.limits self.seed) is sound.body in
@@ -143,6 +155,7 @@ module _ (m n : Blocks) (self : Members) (x : List ℕ) (sound : IsMembers m sel
           second true b h = cc
           second false b h = h
 
+  -- where the bytes are what is left in the set's packed form, the new block can take the place of the old one
   pub left_placed : AreBytesOf self.body left bytes → IsPlacedBody m n self (repacked self.body (record { at = at; len = size })) left
   left_placed now = by_body self.body refl now
     where
@@ -151,19 +164,6 @@ module _ (m n : Blocks) (self : Members) (x : List ℕ) (sound : IsMembers m sel
       by_body (Numbers p) is now = numbers_fewer p is now
       by_body (Pack p) is now = texts_fewer p is now
       by_body (Table t) is now = absurd now
-
--- what holds members is packed in a block, in the same form
-pub bytes_packed : (body : Body) (set : Strings) (bytes : List ℕ) → AreBytesOf body set bytes → IsPacked body
-bytes_packed Empty set bytes is = is
-bytes_packed (Numbers p) set bytes is = tt
-bytes_packed (Pack p) set bytes is = tt
-bytes_packed (Table t) set bytes is = is
-
-pub repacked_form : (body : Body) (new : Packed) → form_of_body (repacked body new) ≡ form_of_body body
-repacked_form Empty new = refl
-repacked_form (Numbers p) new = refl
-repacked_form (Pack p) new = refl
-repacked_form (Table t) new = refl
 
 -- the last member was taken out
 pub none_left : (m : Blocks) (self : Members) (set : Strings) → len set ≡ 0 → IsPlacedBody m m self Empty set
@@ -174,6 +174,7 @@ none_left m self set none = record {
   grown = Grown-same (hash_of self.seed) no_tables no_tables refl;
 }
 
+-- a set without a dictionary, of which no member is left, has the form of an intset
 pub form_empty : (f : Form) (n : ℕ) → f ≢ Hashtable → n ≡ 0 → Intset ≡ form_left f n
 form_empty Hashtable n packed none = absurd (packed refl)
 form_empty Intset n packed none = ap (form_left Intset) (sym none)
@@ -182,6 +183,7 @@ form_empty Skiplist n packed none = ap (form_left Skiplist) (sym none)
 form_empty Quicklist n packed none = ap (form_left Quicklist) (sym none)
 form_empty Stream n packed none = ap (form_left Stream) (sym none)
 
+-- a set of which a member is left keeps its form
 pub form_stays : (f : Form) (n : ℕ) → 0 < n → f ≡ form_left f n
 form_stays f zero some = absurd (omega (arith, some))
 form_stays Hashtable (suc n) some = refl
@@ -191,10 +193,6 @@ form_stays Skiplist (suc n) some = refl
 form_stays Quicklist (suc n) some = refl
 form_stays Stream (suc n) some = refl
 
-pub form_kept : {E : Type 0} (r : Result Body E) (f : Form) (n : ℕ) → 0 < n → IfOk r (λ body. form_of_body body ≡ f) → IfOk r (λ body. form_of_body body ≡ form_left f n)
-form_kept (Ok body) f n some is = is ∙ form_stays f n some
-form_kept (Err e) f n some is = tt
-
 -- a packed set that has a member has a block
 pub has_block : (m : Blocks) (body : Body) (x : List ℕ) → has (members_of m body) x ≡ true → form_of_body body ≢ Hashtable → ((p : Packed) → body ≡ Numbers p → ⊥) → ((p : Packed) → body ≡ Pack p → ⊥) → ⊥
 has_block m Empty x there packed numbers pack = two_ways _ there (has_empty x)
@@ -202,6 +200,7 @@ has_block m (Numbers p) x there packed numbers pack = numbers p refl
 has_block m (Pack p) x there packed numbers pack = pack p refl
 has_block m (Table t) x there packed numbers pack = packed refl
 
+-- a body that is no dictionary doesn't have the form of one
 pub packed_form : (body : Body) → ((t : Dict) → body ≡ Table t → ⊥) → form_of_body body ≢ Hashtable
 packed_form Empty packed is = cc
 packed_form (Numbers p) packed is = cc
