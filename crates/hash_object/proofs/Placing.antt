@@ -34,18 +34,22 @@ use Rattle.hash_object.proofs.Forms.{map_short, risen_put}
 
 -- ---- a list with a pair more, or with another value
 
+-- pairs in which a field was given a value mean their old map with that field given it
 pub put_map : (list : List Pair) (index : Option ℕ) (k v : List ℕ) → IsIndex list k index → map_of_pairs (put_in list index k v) ≡ insert (map_of_pairs list) k v
 put_map list None k v none = map_last list k v none
 put_map list (Some i) k v first = map_seconded list i k v first
 
+-- no field stands twice among pairs in which a field was given a value
 pub put_once : (list : List Pair) (index : Option ℕ) (k v : List ℕ) → IsOnce list → IsIndex list k index → IsOnce (put_in list index k v)
 put_once list None k v once none = once_last list k v once none
 put_once list (Some i) k v once first = once_seconded list i v once
 
+-- pairs in which a field was given a value have no text longer than these two and all the old ones
 pub put_longest : (list : List Pair) (index : Option ℕ) (k v : List ℕ) → longest (put_in list index k v) ≤ max (max (length k) (length v)) (longest list)
 put_longest list None k v = omega (arith, longest_last list k v)
 put_longest list (Some i) k v = omega (arith, longest_seconded list i v)
 
+-- the index of a field is below the number of the pairs
 pub index_within : (list : List Pair) (k : List ℕ) (index : Option ℕ) → IsIndex list k index → IfSome index (λ i. i < length list)
 index_within list k None none = tt
 index_within list k (Some i) first = first_inside k list i first
@@ -55,6 +59,7 @@ pub index_there : (list : List Pair) (k : List ℕ) (index : Option ℕ) → IsI
 index_there list k None none = ap is_some (get_pairs list k ∙ none)
 index_there list k (Some i) first = ap is_some (get_pairs list k ∙ first_second k list i first)
 
+-- a field has no index exactly where the map of the pairs lacks it
 pub index_new : (list : List Pair) (k : List ℕ) (index : Option ℕ) (is_none : Bool) → IsIndex list k index → is_some index ≡ not is_none → is_none ≡ not (contains_key (map_of_pairs list) k)
 index_new list k index is_none is some = twice is_none ∙ ap not (sym (index_there list k index is ∙ some))
   where
@@ -73,15 +78,19 @@ put_len map list index k v is at = len-insert nat_list_cmp_total map k v ∙ ap 
 -- ---- the bytes of a packed hash
 
 module _ (m : Blocks) (limits : Limits) (body : Body) (p : Packed) (bytes : List ℕ) (body_is : body ≡ Pack p) (read : m p.at ≡ Some bytes) where
+  -- the bytes read from a packed hash's block are a listpack of as many fields as it counts, within the limits
   pub pack_read : (seed : ℕ) → IsBody m limits seed body → IsFieldPack limits p.len bytes
   pack_read seed is = subst (IsFieldPack limits p.len) (ap (λ o. unwrap_or o []) read) (subst (IsBody m limits seed) body_is is)
 
+  -- the pairs of a packed hash are those of the bytes read from its block
   pub list_read : listed_of m body ≡ pairs bytes
   list_read = ap (listed_of m) body_is ∙ ap (λ o. pairs (unwrap_or o [])) read
 
+  -- the fields of a packed hash are the map of the pairs in the bytes read from its block
   pub map_read : fields_of m body ≡ map_of_pairs (pairs bytes)
   map_read = ap (fields_of m) body_is ∙ ap (λ o. map_of_pairs (pairs (unwrap_or o []))) read
 
+  -- a packed hash has a field exactly where it has an index among the pairs of the bytes read
   pub field_there : (k : List ℕ) (index : Option ℕ) → IsIndex (pairs bytes) k index → contains_key (fields_of m body) k ≡ is_some index
   field_there k index is = ap (λ map. contains_key map k) map_read ∙ index_there (pairs bytes) k index is
 
@@ -99,6 +108,7 @@ none_there m (Table t) k packed none = absurd (packed refl)
 -- ---- a packed hash with a field more or another value
 
 module _ (m : Blocks) (self : Fields) (k v : List ℕ) (index : Option ℕ) (sound : IsFields m self) (packed : form_of self ≢ Hashtable) (here : IsIndex (listed_of m self.body) k index) where
+  -- the list of a packed hash means its fields, has none of them twice, and is within the limits
   place_listed : IsListed m self.limits self.body
   place_listed = is_listed m self.limits self.seed self.body sound.body packed
 
@@ -106,6 +116,7 @@ module _ (m : Blocks) (self : Fields) (k v : List ℕ) (index : Option ℕ) (sou
   pub place_count : (held more : ℕ) → held ≡ len (fields m self) → more ≡ cond (is_some index) 0 1 → held + more ≡ len (insert (fields m self) k v)
   place_count held more count one = omega (arith, count, one, put_len (fields m self) (listed_of m self.body) index k v place_listed.fields_are here)
 
+  -- after a field was given a value a packed hash has at most 4097 fields
   pub place_few : (held more : ℕ) → held ≡ len (fields m self) → more ≡ cond (is_some index) 0 1 → held + more ≤ 4097
   place_few held more count one =
       let few : more ≤ 1 = omega (arith, one, at_most (is_some index)) in
@@ -115,6 +126,7 @@ module _ (m : Blocks) (self : Fields) (k v : List ℕ) (index : Option ℕ) (sou
       at_most true = omega arith
       at_most false = omega arith
 
+  -- the least form for the new number of fields and the new texts is that to which the packed hash rises
   pub place_rises : (count : ℕ) (f : Form) → count ≡ len (insert (fields m self) k v) → IsLeast (FitsHash self.limits count (max (length k) (length v))) f → IsRisen self.limits (form_of self) (insert (fields m self) k v) f
   place_rises count f counted least =
       subst (λ old. IsRisen self.limits old (insert (fields m self) k v) f) (sym (listpack_of self.body packed))
@@ -133,16 +145,19 @@ more_is index is_none more some is = is ∙ by_test is_none ∙ ap (λ b. cond b
     by_test true = refl
     by_test false = refl
 
+-- what holds of a form holds of that of a placed body which has this form
 pub form_of_placed : {E : Type 0} (r : Result Body E) (f : Form) (P : Form → Type 0) → P f → IfOk r (λ body. form_of_body body ≡ f) → IfOk r (λ body. P (form_of_body body))
 form_of_placed (Ok body) f P fits is = subst P (sym is) fits
 form_of_placed (Err e) f P fits is = tt
 
 -- ---- the block of a listpack was placed
 
+-- a block has the bytes with which it was placed
 block_is : (m n : Blocks) (at : BlockRef) (bytes : List ℕ) → n ≡ with_block m at (Some bytes) → bytes_at n at ≡ bytes
 block_is m n at bytes placed = ap (λ o. unwrap_or o []) (placed_bytes m n at bytes placed)
 
 module _ (m n : Blocks) (self : Fields) (at : BlockRef) (count : ℕ) (bytes : List ℕ) (placed : n ≡ with_block m at (Some bytes)) (changes : Changes m n [] (at ∷ [])) where
+  -- a listpack of a map's fields and values within the limits, placed in a block, is a body of that map
   pub pack_is_placed : (map : FieldMap) → IsFieldPack self.limits count bytes → map_of_pairs (pairs bytes) ≡ map → IsPlacedBody m n self (Pack (record { at = at; len = count })) map
   pack_is_placed map whole is =
       let same : bytes_at n at ≡ bytes = block_is m n at bytes placed in
@@ -154,6 +169,7 @@ module _ (m n : Blocks) (self : Fields) (at : BlockRef) (count : ℕ) (bytes : L
       }
 
   module _ (k : List ℕ) (sound : IsFields m self) where
+    -- a listpack of the hash's pairs with a field given a value, within the limits, is a placed body of that map
     pub put_placed : (v : List ℕ) (index : Option ℕ) → form_of self ≢ Hashtable → IsIndex (listed_of m self.body) k index → count ≡ len (insert (fields m self) k v) → count ≤ self.limits.hash_entries
         → max (length k) (length v) ≤ self.limits.hash_value → IsPairPack bytes → pairs bytes ≡ put_in (listed_of m self.body) index k v
         → IsPlacedBody m n self (Pack (record { at = at; len = count })) (insert (fields m self) k v)
@@ -170,6 +186,7 @@ module _ (m n : Blocks) (self : Fields) (at : BlockRef) (count : ℕ) (bytes : L
           short = omega (arith, ap longest is, put_longest list index k v, short, listed.short);
         }) map_is
 
+    -- a listpack of the hash's pairs without that of a field is a placed body of the map without this field
     pub fewer_placed : (p : Packed) (i : ℕ) → self.body ≡ Pack p → IsFirst k (listed_of m self.body) i → count + 1 ≡ p.len → IsPairPack bytes → pairs bytes ≡ removed (pairs (bytes_at m p.at)) i
         → IsPlacedBody m n self (Pack (record { at = at; len = count })) (remove (fields m self) k)
     fewer_placed p i body_is first less pack is =
@@ -191,6 +208,7 @@ first_in_pack m self k p i body_is first = first_inside k (pairs (bytes_at m p.a
 
 -- ---- the last field was taken out
 
+-- for a map without a field the empty body is placed, and no block changes
 pub none_left : (m : Blocks) (self : Fields) (map : FieldMap) → len map ≡ 0 → IsPlacedBody m m self Empty map
 none_left m self map none = record {
   sound = tt;
@@ -199,6 +217,7 @@ none_left m self map none = record {
   grown = Grown-same (hash_of self.seed) no_tables no_tables refl;
 }
 
+-- where the only field of a packed hash is taken out, the empty body is placed for what is left
 pub last_placed : (m : Blocks) (self : Fields) (k : List ℕ) (p : Packed) (i : ℕ) → IsFields m self → self.body ≡ Pack p → IsFirst k (listed_of m self.body) i → p.len ≡ 1 → IsPlacedBody m m self Empty (remove (fields m self) k)
 last_placed m self k p i sound body_is first single =
     let old : IsFieldPack self.limits p.len (bytes_at m p.at) = subst (IsBody m self.limits self.seed) body_is sound.body in
@@ -210,6 +229,7 @@ last_placed m self k p i sound body_is first single =
 
 -- ---- a dictionary was filled
 
+-- a dictionary filled from an empty one with the hash's seed is a placed body of its fields and values
 pub table_placed : (m n : Blocks) (self : Fields) (t : FieldTable) (map : FieldMap) → IsHashed m n (no_fields self.seed) t map → IsPlacedBody m n self (Table t) map
 table_placed m n self t map h = record {
   sound = record { keyed = h.keyed; seed_is = h.seed };

@@ -17,13 +17,14 @@ use Rattle.hash_object.specs.declared.fields.Packed.{Packed}
 use Rattle.hash_object.specs.declared.fields.Body.TheVariants.{Pack}
 use Rattle.hash_object.specs.Hashed.{FieldTable, fields_in, blocks_of}
 use Rattle.hash_object.specs.Fields.{IsBody, IsFieldPack, fields_of}
-use Rattle.hash_object.specs.Relocation.{IsSettled, IsCalm, block_in}
+use Rattle.hash_object.specs.Relocation.{IsRelocatedTable, IsCalm, block_in}
 use Rattle.hash_object.proofs.Tables.{value_block, has_key, has_value, names}
 use Rattle.collection_walk.proofs.Named.{self, entry_within}
 use Rattle.hash_object.proofs.Listed.{Slots}
 use Rattle.hash_object.proofs.Marks.{key_slot, value_slot, even_is, odd_is, halves}
 
-pub settled_same : (m : Blocks) (t : FieldTable) (stays : ℕ → Type 0) → Keyed m t → Owned (blocks_of t) m → IsSettled m m t t stays
+-- where no block moves, a dictionary means what it meant, and the blocks of all marks stay
+pub settled_same : (m : Blocks) (t : FieldTable) (stays : ℕ → Type 0) → Keyed m t → Owned (blocks_of t) m → IsRelocatedTable m m t t stays
 settled_same m t stays k owned = record {
   keyed = k;
   fields_are = refl;
@@ -68,18 +69,22 @@ apart_from r was none = elim (cases_ref was r) [
 ]
 
 module _ (m n : Blocks) (old new : FieldTable) (at : ℕ) (e g : Element BlockRef) (was ref : BlockRef) (k : Keyed m old) (owned : Owned (blocks_of old) m) (found : item old at ≡ Some e) (mine : 0 < times was (e.key ∷ e.value ∷ [])) (p : Changes m n (was ∷ []) (ref ∷ [])) where
+  -- the block that moved stands at most once among the dictionary's blocks
   was_once : times was (blocks_of old) ≤ 1
   was_once = omega (arith, owned was, live-once m was)
 
+  -- the block that moved is one of the dictionary's
   was_within : (q : BlockRef) → times q (was ∷ []) ≤ times q (blocks_of old)
   was_within q = elim (cases_ref was q) [
     | inl same ↦ omega (arith, ap (λ r. times r (was ∷ [])) same, ap (λ r. times r (e.key ∷ e.value ∷ [])) same, ap (λ r. times r (blocks_of old)) same, self was, mine, entry_within value_block old at e found was)
     | inr other ↦ omega (arith, ap one_if other)
   ]
 
+  -- the dictionary's blocks other than the one that moved keep their bytes
   kept : (r : BlockRef) → IsIn r (blocks_of old) → times was (r ∷ []) ≡ 0 → n r ≡ m r
   kept r isin none = Owned-others m n (was ∷ []) (ref ∷ []) (blocks_of old) owned p r isin (apart_from r was none)
 
+  -- the blocks of the elements at other item numbers keep their bytes
   pub others_kept : (i : ℕ) (f : Element BlockRef) → i ≢ at → item old i ≡ Some f → (n f.key ≡ m f.key) × (n f.value ≡ m f.value)
   others_kept i f apart there =
       let both = two_within old.items i at f e was apart there found in
@@ -87,18 +92,22 @@ module _ (m n : Blocks) (old new : FieldTable) (at : ℕ) (e g : Element BlockRe
 
   module _ (u : Updates old.items new.items at (Some g)) (l : Keyed n new) (tables : key_tables n new ≡ key_tables m old) (seed : new.seed ≡ old.seed) (top : new.top ≡ old.top) (key_is : n g.key ≡ m e.key) (value_is : n g.value ≡ m e.value)
       (balance : (q : BlockRef) → times q (g.key ∷ g.value ∷ []) + times q (was ∷ []) ≡ times q (e.key ∷ e.value ∷ []) + times q (ref ∷ [])) where
+    -- two answers of one option are the same
     is_one : (o : Option (Element BlockRef)) (a b : Element BlockRef) → o ≡ Some a → o ≡ Some b → a ≡ b
     is_one o a b h q = cc
 
+    -- the dictionary's blocks are the old ones with the new block in place of the one that moved
     refs_moved : (q : BlockRef) → times q (blocks_of new) + times q (was ∷ []) ≡ times q (blocks_of old) + times q (ref ∷ [])
     refs_moved q =
         let both = refs_changed value_block old new at (Some g) u q in
         let here : times q (names (item old at)) ≡ times q (e.key ∷ e.value ∷ []) = ap (λ o. times q (names o)) found in
         omega (arith, both, here, balance q)
 
+    -- the block that moved is live before the move
     was_owned : Owned (was ∷ []) m
     was_owned q = omega (arith, was_within q, owned q)
 
+    -- between the two stores the old dictionary's blocks give way to the new one's, and nothing else changes
     moved_changes : Changes m n (blocks_of old) (blocks_of new)
     moved_changes = Changes-counted m n (blocks_of old) (blocks_of new) owned (record {
       balance = λ q. omega (arith, counts.balance q, refs_moved q);
@@ -108,6 +117,7 @@ module _ (m n : Blocks) (old new : FieldTable) (at : ℕ) (e g : Element BlockRe
         counts : Counts m n (was ∷ []) (ref ∷ [])
         counts = Counts-changed m n (was ∷ []) (ref ∷ []) was_owned p
 
+    -- where the new block has the bytes of the one that moved, the dictionary has the same fields and values
     fields_kept : fields_in n new ≡ fields_in m old
     fields_kept = map_of-same m n (λ at. bytes_at m at) (λ at. bytes_at n at) old new k l
         (λ i f there. elim (cases_eq i at) [
@@ -120,7 +130,8 @@ module _ (m n : Blocks) (old new : FieldTable) (at : ℕ) (e g : Element BlockRe
           | inr other ↦ (let was' = sym (u.others i other) ∙ there in (i, f, was', (others_kept i f other was').0))
         ])
 
-    pub entry_settled : (stays : ℕ → Type 0) → ((mark : ℕ) → stays mark → block_in new.items mark ≡ block_in old.items mark) → IsSettled m n old new stays
+    -- where a block of one element moved, the dictionary means what it meant, and the marks given keep their blocks
+    pub entry_settled : (stays : ℕ → Type 0) → ((mark : ℕ) → stays mark → block_in new.items mark ≡ block_in old.items mark) → IsRelocatedTable m n old new stays
     entry_settled stays others = record {
       keyed = l;
       fields_are = fields_kept;
@@ -137,6 +148,7 @@ module _ (m n : Blocks) (old new : FieldTable) (at : ℕ) (e g : Element BlockRe
 
 -- at the marks but one the blocks stay
 module _ (old new : FieldTable) (at : ℕ) (e g : Element BlockRef) (found : item old at ≡ Some e) (u : Updates old.items new.items at (Some g)) where
+  -- where one element changes and keeps its value's block, only the mark of its field can have another block
   pub stays_field : g.value ≡ e.value → (mark : ℕ) → mark ≢ 2 * at → block_in new.items mark ≡ block_in old.items mark
   stays_field same mark other = (let p = halves mark in elim p.1 [
     | inl even ↦ ap (block_in new.items) even ∙ even_is new.items p.0 ∙ ap key_slot (u.others p.0 (λ here. other (omega (arith, even, here)))) ∙ sym (ap (block_in old.items) even ∙ even_is old.items p.0)
@@ -149,6 +161,7 @@ module _ (old new : FieldTable) (at : ℕ) (e g : Element BlockRef) (found : ite
         | inr apart ↦ ap value_slot (u.others k apart)
       ]
 
+  -- where one element changes and keeps its field's block, only the mark of its value can have another block
   pub stays_value : g.key ≡ e.key → (mark : ℕ) → mark ≢ 2 * at + 1 → block_in new.items mark ≡ block_in old.items mark
   stays_value same mark other = (let p = halves mark in elim p.1 [
     | inl even ↦ ap (block_in new.items) even ∙ even_is new.items p.0 ∙ slots p.0 ∙ sym (ap (block_in old.items) even ∙ even_is old.items p.0)
@@ -170,7 +183,7 @@ twins_apart m t at e owned found = (
 
 -- the block of a field moved
 pub field_settled : (m n : Blocks) (old new : FieldTable) (at : ℕ) (key ref value : BlockRef) → Keyed m old → Owned (blocks_of old) m → Holds old at key value → n ref ≡ m key → Changes m n (key ∷ []) (ref ∷ []) → Renames old new at ref
-    → IsSettled m n old new (λ mark. mark ≢ 2 * at)
+    → IsRelocatedTable m n old new (λ mark. mark ≢ 2 * at)
 field_settled m n old new at key ref value k owned h same p r =
     let e : Element BlockRef = record { key = key; hash = h.hash; value = value } in
     let g : Element BlockRef = record { key = ref; hash = h.hash; value = value } in
@@ -194,7 +207,7 @@ same_value o key other hash code v w h q = value_of (record { key = key; hash = 
 
 -- the block of a value moved
 pub value_settled : (m n : Blocks) (old new : FieldTable) (at : ℕ) (was ref : BlockRef) → Keyed m old → Owned (blocks_of old) m → n ref ≡ m was → Changes m n (was ∷ []) (ref ∷ []) → (s : Swaps old new at was ref)
-    → ((blocks : Blocks) → Keyed blocks old → Keyed blocks new) → ((blocks : Blocks) → key_tables blocks new ≡ key_tables blocks old) → IsSettled m n old new (λ mark. mark ≢ 2 * at + 1)
+    → ((blocks : Blocks) → Keyed blocks old → Keyed blocks new) → ((blocks : Blocks) → key_tables blocks new ≡ key_tables blocks old) → IsRelocatedTable m n old new (λ mark. mark ≢ 2 * at + 1)
 value_settled m n old new at was ref k owned same p s keyed tables =
     let e : Element BlockRef = record { key = s.key; hash = s.hash; value = was } in
     let g : Element BlockRef = record { key = s.key; hash = s.hash; value = ref } in
@@ -214,11 +227,13 @@ value_settled m n old new at was ref k owned same p s keyed tables =
 is_block : (heap : Heap) (o : Option BlockRef) (a r : BlockRef) → o ≡ Some a → o ≡ Some r → wants heap a ≡ false → wants heap r ≡ false
 is_block heap o a r h q calm = (let same : a ≡ r = cc in subst (λ x. wants heap x ≡ false) same calm)
 
+-- where the block of an element's field wants no move, the mark of that field wants none
 pub calm_field : (heap : Heap) (t : FieldTable) (at : ℕ) (g : Element BlockRef) → item t at ≡ Some g → wants heap g.key ≡ false → IsCalm heap t (2 * at) (2 * at + 1)
 calm_field heap t at g found calm mark r low high there =
     let same : 2 * at ≡ mark = omega (arith, low, high) in
     is_block heap (block_in t.items mark) g.key r (ap (block_in t.items) (sym same) ∙ even_is t.items at ∙ ap key_slot found) there calm
 
+-- where the block of an element's value wants no move, the mark of that value wants none
 pub calm_value : (heap : Heap) (t : FieldTable) (at : ℕ) (g : Element BlockRef) → item t at ≡ Some g → wants heap g.value ≡ false → IsCalm heap t (2 * at + 1) (2 * at + 2)
 calm_value heap t at g found calm mark r low high there =
     let same : 2 * at + 1 ≡ mark = omega (arith, low, high) in
@@ -233,7 +248,8 @@ calm_none heap t mark none other r low high there = (let same : mark ≡ other =
 
 -- ---- one after the other
 
-pub settled_more : (a b c : Blocks) (t u v : FieldTable) (start k : ℕ) → start ≤ k → IsSettled a b t u (λ i. (i < start) ⊎ (k ≤ i)) → IsSettled b c u v (λ i. i ≢ k) → IsSettled a c t v (λ i. (i < start) ⊎ (k + 1 ≤ i))
+-- moves at marks from a start to below k and then at k are moves at marks from the start to below k + 1
+pub settled_more : (a b c : Blocks) (t u v : FieldTable) (start k : ℕ) → start ≤ k → IsRelocatedTable a b t u (λ i. (i < start) ⊎ (k ≤ i)) → IsRelocatedTable b c u v (λ i. i ≢ k) → IsRelocatedTable a c t v (λ i. (i < start) ⊎ (k + 1 ≤ i))
 settled_more a b c t u v start k low p q = record {
   keyed = q.keyed;
   fields_are = q.fields_are ∙ p.fields_are;
@@ -248,13 +264,15 @@ settled_more a b c t u v start k low p q = record {
   ];
 }
 
+-- marks from a start to k want no move where those below k wanted none and k wants none after a move at k alone
 pub calm_more : (before after : Heap) (u v : FieldTable) (start k : ℕ) → Calmer before after → ((i : ℕ) → i ≢ k → block_in v.items i ≡ block_in u.items i) → IsCalm before u start k → IsCalm after v k (k + 1) → IsCalm after v start (k + 1)
 calm_more before after u v start k calmer others calm here i r low high there = elim (cases_eq i k) [
   | inl same ↦ here i r (omega (arith, same)) high there
   | inr other ↦ calmer.calm r (calm i r low (omega (arith, high, other)) (sym (others i other) ∙ there))
 ]
 
-pub settled_weaker : (a b : Blocks) (t u : FieldTable) (stays fewer : ℕ → Type 0) → ((i : ℕ) → fewer i → stays i) → IsSettled a b t u stays → IsSettled a b t u fewer
+-- a settled dictionary of which the blocks of some marks stay is a settled one of which those of fewer stay
+pub settled_weaker : (a b : Blocks) (t u : FieldTable) (stays fewer : ℕ → Type 0) → ((i : ℕ) → fewer i → stays i) → IsRelocatedTable a b t u stays → IsRelocatedTable a b t u fewer
 settled_weaker a b t u stays fewer weaker p = record {
   keyed = p.keyed;
   fields_are = p.fields_are;
@@ -270,11 +288,14 @@ settled_weaker a b t u stays fewer weaker p = record {
 
 -- the block of a listpack was named anew
 module _ (m n : Blocks) (limits : Limits) (seed : ℕ) (old new : Packed) (same : n new.at ≡ m old.at) (len : new.len ≡ old.len) where
+  -- the new block of a listpack has the bytes of the old one
   bytes_same : bytes_at n new.at ≡ bytes_at m old.at
   bytes_same = ap (λ o. unwrap_or o []) same
 
+  -- a packed body stays sound where its listpack has a new block of the same bytes
   pub pack_moved : IsBody m limits seed (Pack old) → IsBody n limits seed (Pack new)
   pack_moved is = subst (λ k. IsFieldPack limits k (bytes_at n new.at)) (sym len) (subst (IsFieldPack limits old.len) (sym bytes_same) is)
 
+  -- a packed body keeps its fields where its listpack has a new block of the same bytes
   pub pack_mean : fields_of n (Pack new) ≡ fields_of m (Pack old)
   pack_mean = ap (λ o. fields_of (λ _. o) (Pack old)) same

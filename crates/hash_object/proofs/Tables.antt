@@ -27,33 +27,41 @@ value_block at = at ∷ []
 abbrev pub names : Option (Element BlockRef) → List BlockRef
 names = own_of value_block
 
+-- the block of an element's field is one of the dictionary's
 pub has_key : (t : FieldTable) (at : ℕ) (e : Element BlockRef) → item t at ≡ Some e → IsIn e.key (blocks_of t)
 has_key t at e found = omega (arith, entry_within value_block t at e found e.key, self e.key)
 
+-- the block of an element's value is one of the dictionary's
 pub has_value : (t : FieldTable) (at : ℕ) (e : Element BlockRef) → item t at ≡ Some e → IsIn e.value (blocks_of t)
 has_value t at e found = omega (arith, entry_within value_block t at e found e.value, self e.value)
 
 -- ---- blocks that keep their bytes
 
 module _ (m n : Blocks) (t : FieldTable) (k : Keyed m t) (same : (r : BlockRef) → IsIn r (blocks_of t) → n r ≡ m r) where
+  -- where a dictionary's blocks keep their bytes, so does the block of each element's field
   key_same : (at : ℕ) (e : Element BlockRef) → item t at ≡ Some e → n e.key ≡ m e.key
   key_same at e found = same e.key (has_key t at e found)
 
+  -- where its blocks keep their bytes, a dictionary stays keyed, and the tables of its key bytes are the same
   pub table_kept : Keyed n t × (key_tables n t ≡ key_tables m t)
   table_kept = Keyed-frame m n t k key_same
 
+  -- where its blocks keep their bytes, a dictionary has the same fields and values
   pub fields_kept : fields_in n t ≡ fields_in m t
   fields_kept = map_of-frame m n (λ at. bytes_at m at) (λ at. bytes_at n at) t k table_kept.0 (λ at e found. (key_same at e found, ap (λ o. unwrap_or o []) (same e.value (has_value t at e found))))
 
+  -- where its blocks keep their bytes, a dictionary lacks each field that it lacked
   pub lacks_kept : (q : List ℕ) → Lacks m t q → Lacks n t q
   lacks_kept q l = record { each = λ at e found is. l.each at e found (sym (key_same at e found) ∙ is) }
 
 -- ---- what is found
 
 module _ (m : Blocks) (t : FieldTable) (k : Keyed m t) where
+  -- a field has as its value the bytes of the value's block of the element at which the field stands
   pub found_value : (at : ℕ) (q : List ℕ) (e : Element BlockRef) → Stands m t at q → item t at ≡ Some e → get (fields_in m t) q ≡ Some (bytes_at m e.value)
   found_value at q e s found = map_of-stands m (λ v. bytes_at m v) t at e q k found (stands_bytes m t at q e s found)
 
+  -- the map of a dictionary has no value for a field that no element has
   pub fields_lacks : (q : List ℕ) → Lacks m t q → get (fields_in m t) q ≡ None
   fields_lacks q l = map_of-lacks m (λ v. bytes_at m v) t q k l
 
@@ -71,21 +79,26 @@ module _ (m : Blocks) (t : FieldTable) (k : Keyed m t) where
 pub value_live : (m : Blocks) (t : FieldTable) (at : ℕ) (e : Element BlockRef) → Owned (blocks_of t) m → item t at ≡ Some e → IsSome (m e.value)
 value_live m t at e owned found = live-is m e.value (omega (arith, owned e.value, has_value t at e found))
 
+-- an option that equals some text is there
 some_is : (o : Option (List ℕ)) (x : List ℕ) → o ≡ Some x → IsSome o
 some_is o x h = subst (λ p. IsSome p) (sym h) refl
 
 -- ---- the blocks of a field and its value were placed
 
 module _ (m n : Blocks) (old : FieldTable) (key at : BlockRef) (field value : List ℕ) (k : Keyed m old) (owned : Owned (blocks_of old) m) (p : Changes m n [] (key ∷ at ∷ [])) (key_is : n key ≡ Some field) (at_is : n at ≡ Some value) where
+  -- where the blocks of a field and its value are placed, the dictionary's own keep their bytes
   put_same : (r : BlockRef) → IsIn r (blocks_of old) → n r ≡ m r
   put_same r isin = Owned-others m n [] (key ∷ at ∷ []) (blocks_of old) owned p r isin refl
 
+  -- where the blocks of a field and its value are placed, the dictionary as it was stays keyed
   pub put_keyed : Keyed n old
   put_keyed = (table_kept m n old k put_same).0
 
+  -- where the dictionary lacked the field, it lacks the bytes of the field's new block
   pub put_lacks : Lacks m old field → Lacks n old (bytes_at n key)
   put_lacks l = subst (Lacks n old) (sym (ap (λ o. unwrap_or o []) key_is)) (lacks_kept m n old k put_same field l)
 
+  -- with an element of the two new blocks added, the dictionary has its old fields and the new one with its value
   pub put_hashed : (new : FieldTable) (i : ℕ) (e : Element BlockRef) → e.key ≡ key → e.value ≡ at → Adds old new i e → Keyed n new → Grown (hash_of old.seed) (key_tables n old) (key_tables n new)
       → IsHashed m n old new (insert (fields_in m old) field value)
   put_hashed new i e by_key by_value adds keyed grown = record {
@@ -109,34 +122,43 @@ module _ (m n : Blocks) (old : FieldTable) (key at : BlockRef) (field value : Li
 -- ---- a value's block was placed, and the old one given back
 
 module _ (m a n : Blocks) (old new : FieldTable) (i : ℕ) (was at : BlockRef) (value : List ℕ) (k : Keyed m old) (owned : Owned (blocks_of old) m) (p : Changes m a [] (at ∷ [])) (placed : a ≡ with_block m at (Some value)) (s : Swaps old new i was at) where
+  -- where the new block of a value is placed, the dictionary's own keep their bytes
   swap_same : (r : BlockRef) → IsIn r (blocks_of old) → a r ≡ m r
   swap_same r isin = Owned-others m a [] (at ∷ []) (blocks_of old) owned p r isin refl
 
+  -- where the new block of a value is placed, the dictionary as it was stays keyed
   pub swap_keyed : Keyed a old
   swap_keyed = (table_kept m a old k swap_same).0
 
+  -- the old block of the value is one of the dictionary's
   was_in : IsIn was (blocks_of old)
   was_in = has_value old i (record { key = s.key; hash = s.hash; value = was }) s.found
 
+  -- the old block of the value is live after the new one was placed
   pub was_live : IsSome (a was)
   was_live = subst (λ o. IsSome o) (sym (swap_same was was_in)) (live-is m was (omega (arith, owned was, was_in)))
 
+  -- the new dictionary's blocks and the value's old one are the old dictionary's and the value's new one
   swap_count : (r : BlockRef) → times r (blocks_of new) + one r was ≡ times r (at ∷ blocks_of old)
   swap_count r =
       let both = refs_changed value_block old new i (Some (record { key = s.key; hash = s.hash; value = at })) s.updates r in
       let here : times r (own_of value_block (item old i)) ≡ times r (s.key ∷ was ∷ []) = ap (λ o. times r (own_of value_block o)) s.found in
       omega (arith, both, here)
 
+  -- the placing of the value's new block adds that one to the dictionary's blocks
   swap_changes : Changes m a (blocks_of old) (at ∷ blocks_of old)
   swap_changes = Changes-beside m a [] (at ∷ []) (blocks_of old) (at ∷ blocks_of old) p owned (λ r. times r (blocks_of old)) (λ r. omega arith) (λ r. omega arith)
 
+  -- the value's new block and the old dictionary's blocks are live, and none of them is there twice
   swap_owned : Owned (at ∷ blocks_of old) a
   swap_owned = Changes-owned m a (blocks_of old) (at ∷ blocks_of old) swap_changes
 
   module _ (given : n ≡ with_block a was None) (l : Keyed a new) where
+    -- where the old block of the value is given back, the new dictionary's blocks keep their bytes
     left_same : (r : BlockRef) → IsIn r (blocks_of new) → n r ≡ a r
     left_same r isin = (λ j. given j r) ∙ with_block-other a was r None (other_than r was (omega (arith, swap_count r, swap_owned r, live-once a r, isin)))
 
+    -- the dictionary has its old fields and values, but the new value at the field of the element that changed
     pub swap_hashed : key_tables a new ≡ key_tables a old → IsHashed m n old new (insert (fields_in m old) (key_of m (item old i)) value)
     swap_hashed same = record {
       keyed = (table_kept a n new l left_same).0;
@@ -157,25 +179,31 @@ module _ (m a n : Blocks) (old new : FieldTable) (i : ℕ) (was at : BlockRef) (
 -- ---- a field was taken out, and both its blocks given back
 
 module _ (m : Blocks) (old mid : FieldTable) (field : List ℕ) (key value : BlockRef) (k : Keyed m old) (owned : Owned (blocks_of old) m) (r : Removes m old mid field key value) where
+  -- the blocks that are left and the two of the field that was taken out are the old dictionary's
   taken_count : (q : BlockRef) → times q (blocks_of mid) + times q (key ∷ value ∷ []) ≡ times q (blocks_of old)
   taken_count q =
       let both = refs_changed value_block old mid r.at None r.updates q in
       let here : times q (own_of value_block (item old r.at)) ≡ times q (key ∷ value ∷ []) = ap (λ o. times q (own_of value_block o)) r.found in
       omega (arith, both, here)
 
+  -- the two blocks of the field that was taken out are live, and not the same one
   pub taken_owned : Owned (key ∷ value ∷ []) m
   taken_owned q = omega (arith, taken_count q, owned q)
 
+  -- the field that was taken out had the bytes of its value's block as its value
   pub taken_had : get (fields_in m old) field ≡ Some (bytes_at m value)
   taken_had = map_of-had m (λ v. bytes_at m v) old mid k field key value r
 
   module _ (n : Blocks) (new : FieldTable) (l : Keyed m mid) (p : Changes m n (key ∷ value ∷ []) []) where
+    -- where both blocks of the field are given back, the blocks that are left keep their bytes
     others_same : (q : BlockRef) → IsIn q (blocks_of mid) → n q ≡ m q
     others_same q isin = Owned-others m n (key ∷ value ∷ []) [] (blocks_of old) owned p q (omega (arith, isin, taken_count q)) (omega (arith, isin, taken_count q, owned q, live-once m q))
 
+    -- where both blocks of the field are given back, the dictionary that is left stays keyed
     pub taken_keyed : Keyed n mid
     taken_keyed = (table_kept m n mid l others_same).0
 
+    -- the dictionary, shrunk or not since, has its old fields and values without the field that was taken out
     pub taken_hashed : Grown (hash_of old.seed) (key_tables m old) (key_tables m mid) → Keyed n new → new.items ≡ mid.items → new.seed ≡ mid.seed → Grown (hash_of mid.seed) (key_tables n mid) (key_tables n new)
         → IsHashed m n old new (remove (fields_in m old) field)
     taken_hashed grown keyed items seed shrunk = record {
@@ -193,6 +221,7 @@ module _ (m : Blocks) (old mid : FieldTable) (field : List ℕ) (key value : Blo
 
 -- ---- one after the other
 
+-- one change of a dictionary and then another are one change, to the fields and values of the second
 pub hashed_then : (a b c : Blocks) (t u v : FieldTable) (s w : FieldMap) → IsHashed a b t u s → IsHashed b c u v w → IsHashed a c t v w
 hashed_then a b c t u v s w p q = record {
   keyed = q.keyed;
@@ -202,10 +231,6 @@ hashed_then a b c t u v s w p q = record {
   grown = Grown-then (hash_of t.seed) (key_tables a t) (key_tables b u) (key_tables c v) p.grown (subst (λ n. Grown (hash_of n) (key_tables b u) (key_tables c v)) p.seed q.grown);
 }
 
--- the blocks of a dictionary are live
-pub hashed_owned : (a b : Blocks) (t u : FieldTable) (s : FieldMap) → IsHashed a b t u s → Owned (blocks_of u) b
-hashed_owned a b t u s h = Changes-owned a b (blocks_of t) (blocks_of u) h.changes
-
 -- what changes no reference changes nothing
 pub all_same : (m n : Blocks) → Changes m n [] [] → n ≡ m
 all_same m n p = λ i r. p.kept r refl refl i
@@ -214,6 +239,7 @@ all_same m n p = λ i r. p.kept r refl refl i
 pub new_is : (t : FieldTable) (seed : ℕ) → t.items ≡ [] → t.older ≡ [] → t.newer ≡ [] → t.position ≡ 0 → t.seed ≡ seed → t.top ≡ 0 → t ≡ no_fields seed
 new_is t seed items older newer position seed_is top = λ i. record { items = items i; older = older i; newer = newer i; position = position i; seed = seed_is i; top = top i }
 
+-- a new dictionary has no field, and no block changes for it
 pub new_hashed : (m : Blocks) (t : FieldTable) (seed : ℕ) → t ≡ no_fields seed → Keyed m t → IsHashed m m (no_fields seed) t empty
 new_hashed m t seed is keyed = record {
   keyed = keyed;

@@ -77,7 +77,7 @@ block_in (Some e ∷ items) (suc (suc mark)) = block_in items mark
 
 -- Blocks of fields and values moved: the dictionary means what it meant, an element stands at each item number at which
 -- one stood, and the blocks of these marks stay.
-pub record IsSettled (before after : Blocks) (old new : FieldTable) (stays : ℕ → Type 0) : Type 0 where
+pub record IsRelocatedTable (before after : Blocks) (old new : FieldTable) (stays : ℕ → Type 0) : Type 0 where
   pub keyed : Keyed after new
   pub fields_are : fields_in after new ≡ fields_in before old
   pub tables_are : key_tables after new ≡ key_tables before old

@@ -8,7 +8,7 @@ ghost use Rattle.rehash_dict.specs.Keyed.{Keyed};
 ghost use Rattle.hash_object.specs.declared.fields.Body.TheVariants.{Table};
 ghost use Rattle.hash_object.specs.Hashed.{blocks_of};
 ghost use Rattle.hash_object.specs.Fields.{IsFields, refs};
-ghost use Rattle.hash_object.specs.Relocation.{IsRelocated, PassesPart, IsSettled, IsCalm, marks, marks_from, marks_end, vacant_marks, vacant_below, units, units_in, block_in};
+ghost use Rattle.hash_object.specs.Relocation.{IsRelocated, PassesPart, IsRelocatedTable, IsCalm, marks, marks_from, marks_end, vacant_marks, vacant_below, units, units_in, block_in};
 ghost use Rattle.collection_walk.specs.Marks.{ArePassed, is_within};
 
 use crate::Fields;
@@ -98,7 +98,7 @@ fn settle_field<B: BlockStore>(store: &mut B, table: &mut Dict<BlockRef>, at: us
     requires keyed { Keyed (B.blocks store.old) table.old }
     requires owned { Owned (blocks_of table.old) (B.blocks store.old) }
     requires entry { IsSome (item table.old at) }
-    ensures settled { IsSettled (B.blocks store.old) (B.blocks store.new) table.old table.new (λ mark. mark ≢ 2 * at) }
+    ensures settled { IsRelocatedTable (B.blocks store.old) (B.blocks store.new) table.old table.new (λ mark. mark ≢ 2 * at) }
     ensures calm { IsCalm (B.heap store.new) table.new (2 * at) (2 * at + 1) }
     ensures calmer { Calmer (B.heap store.old) (B.heap store.new) }
 {
@@ -111,7 +111,7 @@ fn settle_value<B: BlockStore>(store: &mut B, table: &mut Dict<BlockRef>, at: us
     requires keyed { Keyed (B.blocks store.old) table.old }
     requires owned { Owned (blocks_of table.old) (B.blocks store.old) }
     requires entry { IsSome (item table.old at) }
-    ensures settled { IsSettled (B.blocks store.old) (B.blocks store.new) table.old table.new (λ mark. mark ≢ 2 * at + 1) }
+    ensures settled { IsRelocatedTable (B.blocks store.old) (B.blocks store.new) table.old table.new (λ mark. mark ≢ 2 * at + 1) }
     ensures calm { IsCalm (B.heap store.new) table.new (2 * at + 1) (2 * at + 2) }
     ensures calmer { Calmer (B.heap store.old) (B.heap store.new) }
 {
@@ -124,7 +124,7 @@ fn settle_mark<B: BlockStore>(store: &mut B, table: &mut Dict<BlockRef>, mark: u
     requires keyed { Keyed (B.blocks store.old) table.old }
     requires owned { Owned (blocks_of table.old) (B.blocks store.old) }
     requires fits { mark < 2 ^ 65 }
-    ensures settled { IsSettled (B.blocks store.old) (B.blocks store.new) table.old table.new (λ other. other ≢ mark) }
+    ensures settled { IsRelocatedTable (B.blocks store.old) (B.blocks store.new) table.old table.new (λ other. other ≢ mark) }
     ensures calm { IsCalm (B.heap store.new) table.new mark (mark + 1) }
     ensures calmer { Calmer (B.heap store.old) (B.heap store.new) }
 {
@@ -145,7 +145,7 @@ fn settle_marks<B: BlockStore>(store: &mut B, table: &mut Dict<BlockRef>, part: 
     requires owned { Owned (blocks_of table.old) (B.blocks store.old) }
     requires order { part.start ≤ part.end }
     requires fits { part.end ≤ 2 ^ 65 }
-    ensures settled { IsSettled (B.blocks store.old) (B.blocks store.new) table.old table.new (λ mark. (mark < part.start) ⊎ (part.end ≤ mark)) }
+    ensures settled { IsRelocatedTable (B.blocks store.old) (B.blocks store.new) table.old table.new (λ mark. (mark < part.start) ⊎ (part.end ≤ mark)) }
     ensures calm { IsCalm (B.heap store.new) table.new part.start part.end }
     ensures calmer { Calmer (B.heap store.old) (B.heap store.new) }
 {

@@ -133,6 +133,16 @@ impl Held {
         self.hash.get(&self.store, field).is_none()
     }
 
+    // Whether a field has this item number and this text.
+    fn is_at(&self, item: usize, field: &[u8]) -> bool {
+        if !self.hash.is_entry(item) {
+            return false;
+        }
+        let (found, _) = self.hash.at(&self.store, item);
+        let mut room = Buffer::new();
+        text(found, &mut room) == field
+    }
+
     // Whether each field is new in its turn, has its value then, and the hash its form.
     fn rises(&mut self, rows: &[(&[u8], &[u8], Form)]) -> Result<bool, Memory> {
         for (field, value, form) in rows {
@@ -479,7 +489,7 @@ fn a_listpack_is_one_page(rt: HostRuntime) -> Result<(), Fail> {
     Ok(())
 }
 
-// The fields of a dictionary have item numbers, and a page.
+// The fields of a dictionary have item numbers, and a page. A conversion puts those of a listpack in in its order.
 #[test]
 fn fields_have_item_numbers(rt: HostRuntime) -> Result<(), Fail> {
     let mut held = Held::new(rt.alloc(), limits(3, 64));
@@ -488,7 +498,8 @@ fn fields_have_item_numbers(rt: HostRuntime) -> Result<(), Fail> {
     assert_eq!(rt; page(rt.alloc(), &held.hash, 0, 5)?.items.len(), 5);
     assert!(rt; held.remove(b"3")?);
     assert_eq!(rt; held.hash.top(), 5);
-    assert!(rt; !held.hash.is_entry(3) && held.hash.is_entry(4));
+    assert!(rt; !held.hash.is_entry(3) && held.is_at(4, b"4"));
+    assert!(rt; held.is_at(0, b"0") && held.is_at(1, b"1") && held.is_at(2, b"2"));
     assert!(rt; held.meets(4));
     Ok(())
 }
