@@ -50,11 +50,6 @@ get_within [] i key h = cc
 get_within (x ∷ xs) zero key h = omega arith
 get_within (x ∷ xs) (suc i) key h = omega (arith, get_within xs i key h)
 
-pub get_some : (xs : List Key) (i : ℕ) → i < length xs → IsSome (slice_get xs i)
-get_some [] i h = absurd (omega (arith, h))
-get_some (x ∷ xs) zero h = refl
-get_some (x ∷ xs) (suc i) h = get_some xs i (omega (arith, h))
-
 pub contained_at : (xs : List Key) (i : ℕ) (key : Key) → i < length xs → slice_index_or xs i key ≡ key → slice_get xs i ≡ Some key
 contained_at [] i key h is = absurd (omega (arith, h))
 contained_at (x ∷ xs) zero key h is = ap (λ (k : Key). Some k) is

@@ -4,12 +4,13 @@ use Rattle.std.specs.Prelude.{nat_lt, min, if◌then◌else◌, IfSome}
 use Rattle.blocks.specs.declared.Moved.{Moved}
 use Rattle.blocks.specs.Blocks.{Blocks}
 use Rattle.blocks.specs.Slabs.{Heap}
+use Rattle.collection_walk.proofs.Counted.{passed_below, within_count}
 use Rattle.collection_walk.proofs.Passing.{passed_within, goes_on, part_passed}
 use Rattle.zset_object.specs.declared.scored.Scored.{Scored}
 use Rattle.zset_object.specs.Scored.{IsScored, refs}
 use Rattle.zset_object.specs.Relocation.{marks, marks_end, PassesPart}
 use Rattle.collection_walk.specs.Marks.{is_passed, is_within, ArePassed}
-use Rattle.zset_object.proofs.Marks.{mark_below, passed_below, marks_counted, within_count}
+use Rattle.zset_object.proofs.Marks.{mark_below, marks_counted}
 
 -- a part of the marks was passed
 pub passes_part : (before : Blocks) (heap : Heap) (old new : Scored) (from room count start end : ℕ) (answer : Moved) → IsScored before old → count ≡ marks_end old → start ≡ min from count → end ≡ min count (start + room) → 32 ≤ room

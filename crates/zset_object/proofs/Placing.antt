@@ -39,21 +39,27 @@ use Rattle.zset_object.proofs.Bodies.{IsListed, is_listed, form_listpack}
 -- ---- the bytes of a packed sorted set
 
 module _ (m : Blocks) (limits : Limits) (body : Body) (p : Packed) (bytes : List ℕ) (body_is : body ≡ Pack p) (read : m p.at ≡ Some bytes) where
+  -- the bytes read from a packed sorted set's block are a listpack of as many members as it counts, within the limits
   pub pack_read : (seed : ℕ) → IsBody m limits seed body → IsMemberPack limits p.len bytes
   pack_read seed is = subst (IsMemberPack limits p.len) (ap (λ o. unwrap_or o []) read) (subst (IsBody m limits seed) body_is is)
 
+  -- the pairs of a packed sorted set are those of the bytes read from its block
   pub list_read : listed_of m body ≡ pairs bytes
   list_read = ap (listed_of m) body_is ∙ ap (λ o. pairs (unwrap_or o [])) read
 
+  -- the scores of a packed sorted set are those in the bytes read from its block
   pub map_read : scores_of m body ≡ scores_in bytes
   map_read = ap (scores_of m) body_is ∙ ap (λ o. scores_in (unwrap_or o [])) read
 
+  -- the scores and members of a packed sorted set in order are the keys in the bytes read from its block
   pub keys_read : ranked_of m body ≡ keys_in bytes
   keys_read = ap (ranked_of m) body_is ∙ ap (λ o. keys_in (unwrap_or o [])) read
 
+  -- a packed sorted set has a member exactly where it has an index among the pairs of the bytes read
   pub member_there : (k : List ℕ) (index : Option ℕ) → IsIndex (pairs bytes) k index → contains_key (scores_of m body) k ≡ is_some index
   member_there k index is = ap (λ map. contains_key map k) map_read ∙ index_there (pairs bytes) k index is
 
+  -- the index of a member among the pairs of the bytes read is its rank, and without an index it has no score
   pub rank_read : (k : List ℕ) (index : Option ℕ) → IsIndex (pairs bytes) k index → MatchOption index (get (scores_of m body) k ≡ None) (λ r. HasRank (scores_of m body) (ranked_of m body) k r)
   rank_read k index is =
       subst (λ (x : ScoreMap × List Key). MatchOption index (get x.0 k ≡ None) (λ r. HasRank x.0 x.1 k r)) (λ j. (sym map_read j, sym keys_read j)) (rank_in (pairs bytes) k index is)
@@ -66,6 +72,7 @@ none_there m (Table t) k packed none = absurd (packed refl)
 
 -- ---- a packed sorted set with a member's new score
 
+-- a member has no index exactly where the map of the scores lacks it
 pub index_new : (list : List Pair) (k : List ℕ) (index : Option ℕ) (is_none : Bool) → IsIndex list k index → is_some index ≡ not is_none → is_none ≡ not (contains_key (map_of_keys (keys_of list)) k)
 index_new list k index is_none is some = twice is_none ∙ ap not (sym (index_there list k index is ∙ some))
   where
@@ -73,6 +80,7 @@ index_new list k index is_none is some = twice is_none ∙ ap not (sym (index_th
     twice true = refl
     twice false = refl
 
+-- after a member was given a score there is one member more where it had no index, and else none
 put_len : (map : ScoreMap) (list : List Pair) (index : Option ℕ) (k : List ℕ) (v : ℤ) → map ≡ map_of_keys (keys_of list) → IsIndex list k index → len (insert map k v) ≡ len map + cond (is_some index) 0 1
 put_len map list index k v is at = len-insert nat_list_cmp_total map k v ∙ ap (λ b. cond b (len map) (len map + 1)) (ap (λ m. contains_key m k) is ∙ index_there list k index at) ∙ by_test (is_some index) (len map)
   where
@@ -89,6 +97,7 @@ more_is index is_none more some is = is ∙ by_test is_none ∙ ap (λ b. cond b
     by_test false = refl
 
 module _ (m : Blocks) (self : Scored) (k : List ℕ) (v : ℤ) (index : Option ℕ) (sound : IsScored m self) (packed : form_of self ≢ Skiplist) (here : IsIndex (listed_of m self.body) k index) where
+  -- the list of a packed sorted set means its scores, has no member twice, and is within the limits
   place_listed : IsListed m self.limits self.body
   place_listed = is_listed m self.limits self.seed self.body sound.body packed
 
@@ -96,6 +105,7 @@ module _ (m : Blocks) (self : Scored) (k : List ℕ) (v : ℤ) (index : Option �
   pub place_count : (held more : ℕ) → held ≡ len (scores m self) → more ≡ cond (is_some index) 0 1 → held + more ≡ len (insert (scores m self) k v)
   place_count held more count one = omega (arith, count, one, put_len (scores m self) (listed_of m self.body) index k v place_listed.scores_are here)
 
+  -- after a member was given a score a packed sorted set has at most 4097 members
   pub place_few : (held more : ℕ) → held ≡ len (scores m self) → more ≡ cond (is_some index) 0 1 → held + more ≤ 4097
   place_few held more count one =
       let few : more ≤ 1 = omega (arith, one, at_most (is_some index)) in
@@ -105,11 +115,13 @@ module _ (m : Blocks) (self : Scored) (k : List ℕ) (v : ℤ) (index : Option �
       at_most true = omega arith
       at_most false = omega arith
 
+  -- the least form for the new number of members and this member is that to which the packed sorted set rises
   pub place_rises : (count : ℕ) (f : Form) → count ≡ len (insert (scores m self) k v) → IsLeast (FitsZset self.limits count (length k)) f → IsRisen self.limits (form_of self) (insert (scores m self) k v) f
   place_rises count f counted least =
       subst (λ old. IsRisen self.limits old (insert (scores m self) k v) f) (sym (form_listpack self.body packed))
       (risen_put self.limits (scores m self) k v count f counted (omega (arith, ap (λ map. longest_member (entries map)) place_listed.scores_are, map_short self.limits.zset_value (keys_of (listed_of m self.body)) place_listed.short)) least)
 
+-- what holds of a form holds of that of a placed body which has this form
 pub form_of_placed : {E : Type 0} (r : Result Body E) (f : Form) (P : Form → Type 0) → P f → IfOk r (λ body. form_of_body body ≡ f) → IfOk r (λ body. P (form_of_body body))
 form_of_placed (Ok body) f P fits is = subst P (sym is) fits
 form_of_placed (Err e) f P fits is = tt
@@ -117,6 +129,7 @@ form_of_placed (Err e) f P fits is = tt
 -- ---- the block of a listpack was placed
 
 module _ (m n : Blocks) (limits : Limits) (seed : ℕ) (at : BlockRef) (count : ℕ) (bytes : List ℕ) (placed : n ≡ with_block m at (Some bytes)) (changes : Changes m n [] (at ∷ [])) where
+  -- a listpack of a map's members and scores within the limits, placed in a block, is a body of that map
   pub pack_placed : (map : ScoreMap) → IsScorePack bytes → scores_in bytes ≡ map → count ≡ len map → count ≤ limits.zset_entries → longest_in bytes ≤ limits.zset_value → IsPlacedBody m n limits seed (Pack (record { at = at; len = count })) map
   pack_placed map pack is counted few short =
       let same : bytes_at n at ≡ bytes = ap (λ o. unwrap_or o []) (placed_bytes m n at bytes placed) in
@@ -127,6 +140,7 @@ module _ (m n : Blocks) (limits : Limits) (seed : ℕ) (at : BlockRef) (count : 
         grown = Grown-same (hash_of seed) table.no_tables table.no_tables refl;
       }
 
+  -- a listpack without a member's pair, placed in a block, is a body of the scores without that member
   pub fewer_placed : (body : Body) (k : List ℕ) (p : Packed) (i : ℕ) → body ≡ Pack p → IsBody m limits seed body → IsFirst k (listed_of m body) i → count + 1 ≡ p.len → IsPairPack bytes → pairs bytes ≡ removed (pairs (bytes_at m p.at)) i
       → IsPlacedBody m n limits seed (Pack (record { at = at; len = count })) (remove (scores_of m body) k)
   fewer_placed body k p i body_is sound first less pack list =
@@ -144,6 +158,7 @@ first_in_pack m body k p i body_is first = first_inside k (pairs (bytes_at m p.a
 
 -- ---- the last member was taken out
 
+-- where the only member of a packed sorted set is taken out, the empty body is placed for what is left
 pub last_placed : (m : Blocks) (limits : Limits) (seed : ℕ) (body : Body) (k : List ℕ) (p : Packed) (i : ℕ) → IsBody m limits seed body → body ≡ Pack p → IsFirst k (listed_of m body) i → p.len ≡ 1 → IsPlacedBody m m limits seed Empty (remove (scores_of m body) k)
 last_placed m limits seed body k p i sound body_is first single =
     let old : IsMemberPack limits p.len (bytes_at m p.at) = subst (IsBody m limits seed) body_is sound in
@@ -167,6 +182,7 @@ placed_settled m (Table t) is = absurd cc
 
 -- ---- tables
 
+-- a sound table of scores that owns no block and has no bucket is a placed one, and no block changes
 pub new_placed : (m : Blocks) (seed : ℕ) (t : ScoreTable) (map : ScoreMap) → table.IsScoreTable m t → table.scores m t ≡ map → table.refs t ≡ [] → table.tables m t ≡ table.no_tables → table.seed_of t ≡ seed → IsPlacedTable m m seed t map
 new_placed m seed t map sound none refs tables seed_is = record {
   sound = record { sound = sound; seed_is = seed_is };
@@ -175,6 +191,7 @@ new_placed m seed t map sound none refs tables seed_is = record {
   grown = Grown-same (hash_of seed) table.no_tables (table.tables m t) tables;
 }
 
+-- a placed table of scores that is then changed is a placed one of its new scores
 pub placed_then : (a b c : Blocks) (seed : ℕ) (t u : ScoreTable) (s w : ScoreMap) → IsPlacedTable a b seed t s → table.IsChanged b c t u w → IsPlacedTable a c seed u w
 placed_then a b c seed t u s w p q = record {
   sound = record { sound = q.sound; seed_is = q.seed ∙ p.sound.seed_is };
@@ -183,6 +200,7 @@ placed_then a b c seed t u s w p q = record {
   grown = Grown-then (hash_of seed) table.no_tables (table.tables b t) (table.tables c u) p.grown (subst (λ n. Grown (hash_of n) (table.tables b t) (table.tables c u)) p.sound.seed_is q.grown);
 }
 
+-- one change of a table of scores and then another are one change, to the scores of the second
 pub table_then : (a b c : Blocks) (t u v : ScoreTable) (s w : ScoreMap) → table.IsChanged a b t u s → table.IsChanged b c u v w → table.IsChanged a c t v w
 table_then a b c t u v s w p q = record {
   sound = q.sound;
@@ -192,6 +210,7 @@ table_then a b c t u v s w p q = record {
   seed = q.seed ∙ p.seed;
 }
 
+-- a placed table of scores is a placed body of the same scores
 pub table_body : (m n : Blocks) (limits : Limits) (seed : ℕ) (t : ScoreTable) (map : ScoreMap) → IsPlacedTable m n seed t map → IsPlacedBody m n limits seed (Table t) map
 table_body m n limits seed t map h = record { sound = h.sound; scores_are = h.scores_are; changes = h.changes; grown = h.grown }
 

@@ -5,14 +5,14 @@ use Rattle.blocks.proofs.Change.{Changes-then}
 use Rattle.object_codec.specs.declared.limits.Limits.{Limits}
 use Rattle.score_table.specs.declared.table.ScoreTable.{ScoreTable}
 use Rattle.score_table.specs.Scored.{refs}
-use Rattle.score_table.specs.Relocation.{IsSettled}
+use Rattle.score_table.specs.Relocation.{IsRelocatedTable}
 use Rattle.zset_object.specs.declared.scored.Packed.{Packed}
 use Rattle.zset_object.specs.declared.scored.Body.TheVariants.{Pack}
 use Rattle.zset_object.specs.Scored.{IsBody, IsMemberPack, scores_of, ranked_of}
 
 -- ---- one member's block after the other
 
-pub settled_more : (a b c : Blocks) (t u v : ScoreTable) (start k : ℕ) → start ≤ k → IsSettled a b t u (λ i. (i < start) ⊎ (k ≤ i)) → IsSettled b c u v (λ i. i ≢ k) → IsSettled a c t v (λ i. (i < start) ⊎ (k + 1 ≤ i))
+pub settled_more : (a b c : Blocks) (t u v : ScoreTable) (start k : ℕ) → start ≤ k → IsRelocatedTable a b t u (λ i. (i < start) ⊎ (k ≤ i)) → IsRelocatedTable b c u v (λ i. i ≢ k) → IsRelocatedTable a c t v (λ i. (i < start) ⊎ (k + 1 ≤ i))
 settled_more a b c t u v start k low p q = record {
   sound = q.sound;
   scores_are = q.scores_are ∙ p.scores_are;
@@ -28,7 +28,7 @@ settled_more a b c t u v start k low p q = record {
   ];
 }
 
-pub settled_weaker : (a b : Blocks) (t u : ScoreTable) (stays fewer : ℕ → Type 0) → ((i : ℕ) → fewer i → stays i) → IsSettled a b t u stays → IsSettled a b t u fewer
+pub settled_weaker : (a b : Blocks) (t u : ScoreTable) (stays fewer : ℕ → Type 0) → ((i : ℕ) → fewer i → stays i) → IsRelocatedTable a b t u stays → IsRelocatedTable a b t u fewer
 settled_weaker a b t u stays fewer weaker p = record {
   sound = p.sound;
   scores_are = p.scores_are;
@@ -49,9 +49,3 @@ module _ (m n : Blocks) (limits : Limits) (seed : ℕ) (old new : Packed) (same 
 
   pub pack_moved : IsBody m limits seed (Pack old) → IsBody n limits seed (Pack new)
   pack_moved is = subst (λ k. IsMemberPack limits k (bytes_at n new.at)) (sym len) (subst (IsMemberPack limits old.len) (sym bytes_same) is)
-
-  pub pack_means : scores_of n (Pack new) ≡ scores_of m (Pack old)
-  pack_means = ap (λ o. scores_of (λ _. o) (Pack old)) same
-
-  pub pack_ranked : ranked_of n (Pack new) ≡ ranked_of m (Pack old)
-  pack_ranked = ap (λ o. ranked_of (λ _. o) (Pack old)) same

@@ -1,10 +1,9 @@
 -- Bounded calls that move the blocks of a sorted set: the mark of each block, and what such a call passes and leaves.
-use Rattle.std.specs.Prelude.{◌≡◌, ℕ, ℤ, zero, suc, List, [], ◌∷◌, ◌++◌, Option, Some, None}
+use Rattle.std.specs.Prelude.{◌≡◌, ℕ, List, [], ◌∷◌}
 use Rattle.blocks.specs.declared.Moved.{Moved}
 use Rattle.blocks.specs.Blocks.{Blocks, Changes}
 use Rattle.blocks.specs.Slabs.{Heap}
-use Rattle.rehash_dict.specs.Table.{Table as ItemTable, Element, item}
-use Rattle.collection_walk.specs.Marks.{items_from, is_passed, ArePassed, IsCounted}
+use Rattle.collection_walk.specs.Marks.{items_from, vacant_below, is_passed, ArePassed, IsCounted}
 use Rattle.zset_object.specs.declared.scored.Body.{Body}
 use Rattle.zset_object.specs.declared.scored.Body.TheVariants.{Empty, Pack, Table}
 use Rattle.zset_object.specs.declared.scored.Scored.{Scored}
@@ -28,16 +27,6 @@ end_in (Table t) = t.table.top
 -- a number above each mark
 abbrev pub marks_end : Scored → ℕ
 marks_end s = end_in s.body
-
--- an item number where it is vacant
-abbrev pub vacant_mark : ℕ → Option (Element ℤ) → List ℕ
-vacant_mark n None = n ∷ []
-vacant_mark n (Some e) = []
-
--- the vacant item numbers below a number
-abbrev pub vacant_below : ItemTable ℤ → ℕ → List ℕ
-vacant_below t zero = []
-vacant_below t (suc n) = vacant_mark n (item t n) ++ vacant_below t n
 
 abbrev pub vacant_in : Body → List ℕ
 vacant_in Empty = []

@@ -3,10 +3,10 @@
 ghost use Rattle.std.specs.Prelude.{◌≡◌, ◌+◌, ◌-◌, ◌^◌, ◌<◌, ◌≤◌, ◌⊎◌, min, length};
 ghost use Rattle.blocks.specs.Slabs.{wants, Calmer};
 ghost use Rattle.score_table.specs.Scored.{IsScoreTable};
-ghost use Rattle.score_table.specs.Relocation.{IsSettled};
+ghost use Rattle.score_table.specs.Relocation.{IsRelocatedTable};
 ghost use Rattle.zset_object.specs.Scored.{IsScored, refs};
-ghost use Rattle.zset_object.specs.Relocation.{IsRelocated, PassesPart, marks, marks_end, vacant_marks, vacant_below};
-ghost use Rattle.collection_walk.specs.Marks.{ArePassed, IsCalm, is_within, items_from};
+ghost use Rattle.zset_object.specs.Relocation.{IsRelocated, PassesPart, marks, marks_end, vacant_marks};
+ghost use Rattle.collection_walk.specs.Marks.{ArePassed, IsCalm, is_within, items_from, vacant_below};
 
 use crate::Scored;
 use crate::scored::Body;
@@ -18,7 +18,7 @@ use score_table::ScoreTable;
 fn settle_items<B: BlockStore>(store: &mut B, table: &mut ScoreTable, part: Part)
     requires sound { IsScoreTable (B.blocks store.old) table.old }
     requires order { part.start ≤ part.end }
-    ensures settled { IsSettled (B.blocks store.old) (B.blocks store.new) table.old table.new (λ i. (i < part.start) ⊎ (part.end ≤ i)) }
+    ensures settled { IsRelocatedTable (B.blocks store.old) (B.blocks store.new) table.old table.new (λ i. (i < part.start) ⊎ (part.end ≤ i)) }
     ensures calm { IsCalm (B.heap store.new) table.new.table part.start part.end }
     ensures calmer { Calmer (B.heap store.old) (B.heap store.new) }
 {

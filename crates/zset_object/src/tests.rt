@@ -163,6 +163,16 @@ impl Held {
         self.score(member).is_none() && self.rank(member).is_none()
     }
 
+    // Whether a member has this item number and this text.
+    fn is_at(&self, item: usize, member: &[u8]) -> bool {
+        if !self.set.is_entry(item) {
+            return false;
+        }
+        let (found, _) = self.set.at(&self.store, item);
+        let mut room = Buffer::new();
+        text(found, &mut room) == member
+    }
+
     // Whether each member is new in its turn, has its score then, and the sorted set its form.
     fn rises(&mut self, rows: &[(&[u8], i64, Form)]) -> Result<bool, Memory> {
         for (member, score, form) in rows {
@@ -504,6 +514,22 @@ fn members_have_item_numbers(rt: HostRuntime) -> Result<(), Fail> {
     assert_eq!(rt; held.set.top(), 5);
     assert!(rt; !held.set.is_entry(3) && held.set.is_entry(4));
     assert!(rt; held.meets(4));
+    Ok(())
+}
+
+// A conversion puts the members of a listpack in in its order, which is that of their scores, and the new member after them.
+#[test]
+fn a_conversion_keeps_the_order(rt: HostRuntime) -> Result<(), Fail> {
+    let mut held = Held::new(rt.alloc(), limits(3, 64));
+    let rows: [(&[u8], i64, Form); 4] = [
+        (b"c", 3, Form::Listpack),
+        (b"b", 2, Form::Listpack),
+        (b"a", 1, Form::Listpack),
+        (b"d", 0, Form::Skiplist),
+    ];
+    assert!(rt; held.rises(&rows)?);
+    assert!(rt; held.is_at(0, b"a") && held.is_at(1, b"b"));
+    assert!(rt; held.is_at(2, b"c") && held.is_at(3, b"d"));
     Ok(())
 }
 

@@ -1,5 +1,5 @@
 use Rattle.std.proofs.Common.{arith}
-use Rattle.zset_object.proofs.Marks.{all_units}
+use Rattle.collection_walk.proofs.Counted.{all_units}
 use Rattle.zset_object.proofs.relocating.table_units.Goals as goal
 
 pub returns : goal.returns
