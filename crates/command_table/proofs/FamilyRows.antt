@@ -3,13 +3,13 @@ use Rattle.std.proofs.Common.{◌≡◌, List, length, drop, true, Result, Ok, E
 use Rattle.std.specs.Prelude.{◌+◌, ◌==◌, nat_le}
 use Rattle.std.proofs.lemmas.List.{drop-drop}
 use Rattle.plain_world.specs.Words.{Words}
-use Rattle.plain_model.specs.Shapes.{Kind, AllTold, and_then, fixed, Choice, chosen, with_choices}
+use Rattle.plain_model.specs.Shapes.{Kind, AllTold, and_then, fixed, NamedOption, options_read, with_options}
 use Rattle.plain_model.specs.declared.command.Command.{Command}
 use Rattle.plain_world.specs.declared.refusal.Refusal.{Refusal}
 use Rattle.command_table.specs.declared.fault.ReadingFault.{ReadingFault}
 use Rattle.command_table.specs.declared.fault.ReadingFault.TheVariants.{Refused, Memory}
 use Rattle.command_table.specs.Readings.{told_at, Tells, TellsAs}
-use Rattle.command_table.proofs.Shapes.{fixed_at, with_choices_at}
+use Rattle.command_table.proofs.Shapes.{fixed_at, with_options_at}
 
 module _ {A : Type 0} (family : A → Command) where
   -- a command of a family among all commands
@@ -25,9 +25,9 @@ module _ {A : Type 0} (family : A → Command) where
       lifted (fixed kinds make (drop 1 words)) answer (subst P (sym (fixed_at kinds words 1 make shape)) h)
 
   -- a row of these words, and then options
-  pub choices_row : {C : Type 0} (kinds : List Kind) (choices : List (Choice C)) (none : C) (make : AllTold kinds → C → Result A Refusal) (words : Words) (answer : Result A ReadingFault) → nat_le (length kinds) (length (drop 1 words)) ≡ true → Tells (and_then (told_at kinds words 1) (λ first. and_then (chosen choices none 0 (drop (1 + length kinds) words)) (make first))) answer → TellsAs family (and_then (with_choices kinds choices none make (drop 1 words)) (λ command. Ok (family command))) answer
-  choices_row kinds choices none make words answer shape h =
+  pub options_row : {C : Type 0} (kinds : List Kind) (named : List (NamedOption C)) (none : C) (make : AllTold kinds → C → Result A Refusal) (words : Words) (answer : Result A ReadingFault) → nat_le (length kinds) (length (drop 1 words)) ≡ true → Tells (and_then (told_at kinds words 1) (λ first. and_then (options_read named none 0 (drop (1 + length kinds) words)) (make first))) answer → TellsAs family (and_then (with_options kinds named none make (drop 1 words)) (λ command. Ok (family command))) answer
+  options_row kinds named none make words answer shape h =
       let P : Result A Refusal → Type 0 = λ r. Tells r answer in
       let behind : drop (length kinds) (drop 1 words) ≡ drop (1 + length kinds) words = drop-drop (length kinds) 1 words in
-      let row = with_choices_at kinds words 1 choices none make shape ∙ ap (λ rest. and_then (told_at kinds words 1) (λ first. and_then (chosen choices none 0 rest) (make first))) behind in
-      lifted (with_choices kinds choices none make (drop 1 words)) answer (subst P (sym row) h)
+      let row = with_options_at kinds words 1 named none make shape ∙ ap (λ rest. and_then (told_at kinds words 1) (λ first. and_then (options_read named none 0 rest) (make first))) behind in
+      lifted (with_options kinds named none make (drop 1 words)) answer (subst P (sym row) h)

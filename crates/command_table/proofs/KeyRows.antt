@@ -3,8 +3,8 @@ use Rattle.std.proofs.Common.{◌≡◌, ℕ, List, [], ◌∷◌, length, drop,
 use Rattle.std.specs.Prelude.{ℤ, nat_le, if◌then◌else◌}
 use Rattle.std.specs.Result.{MatchResult, IsOkAnd}
 use Rattle.plain_world.specs.Words.{Words}
-use Rattle.plain_model.specs.Shapes.{Plain, Whole, told, and_then, chosen}
-use Rattle.plain_model.specs.KeyWords.{expire_words, expire_of, clash, expire_choices, no_expire_options}
+use Rattle.plain_model.specs.Shapes.{Plain, Whole, told, and_then, options_read}
+use Rattle.plain_model.specs.KeyWords.{expire_words, expire_of, clash, expire_options, no_expire_options}
 use Rattle.plain_model.specs.Meant.{meant}
 use Rattle.plain_model.specs.declared.command.Command.TheVariants.{Keys}
 use Rattle.plain_model.specs.declared.keys.KeyCommand.{KeyCommand}
@@ -16,7 +16,7 @@ use Rattle.command_table.specs.declared.table.KeyName.{KeyName}
 use Rattle.command_table.specs.Readings.{at, Tells, TellsAs, expire_parts}
 use Rattle.command_table.specs.Rows.{fits, key_row}
 use Rattle.command_table.proofs.Shapes.{made_of}
-use Rattle.command_table.proofs.FamilyRows.{choices_row}
+use Rattle.command_table.proofs.FamilyRows.{options_row}
 
 -- the answer is what the row of this name makes of the words behind the first
 abbrev pub IsRead : KeyName → Words → Result KeyCommand ReadingFault → Type 0
@@ -66,9 +66,9 @@ told_first key (Err refusal) make = refl
 pub expire_row : (make : List ℕ → ℤ → ExpireOptions → KeyCommand) (words : Words) (first : Result (List ℕ × ℤ × ExpireOptions) ReadingFault) (answer : Result KeyCommand ReadingFault) → nat_le 2 (length (drop 1 words)) ≡ true → Tells (expire_parts words) first → MatchResult first (λ a. IsOkAnd answer (λ b. b ≡ make a.0 a.1 a.2)) (λ e. answer ≡ Err e) → TellsAs Keys (and_then (expire_words make (drop 1 words)) (λ command. Ok (Keys command))) answer
 expire_row make words first answer shape h m =
     let key = at words 1 in
-    let options = chosen expire_choices no_expire_options 0 (drop 3 words) in
+    let options = options_read expire_options no_expire_options 0 (drop 3 words) in
     let number = told Whole (at words 2) in
     let all = made_of (λ a. a) (put_together make key) (λ a. make a.0 a.1 a.2) (λ c. c) (λ a. refl) (expire_parts words) first answer h m in
     let P : Result KeyCommand Refusal → Type 0 = λ r. Tells r answer in
     let whole = told_first key number (λ k n. and_then options (expire_of make k n)) ∙ put_parts make key number options in
-    choices_row Keys (Plain ∷ Whole ∷ []) expire_choices no_expire_options (λ a o. expire_of make a.0 a.1.0 o) words answer shape (subst P (sym whole) all)
+    options_row Keys (Plain ∷ Whole ∷ []) expire_options no_expire_options (λ a o. expire_of make a.0 a.1.0 o) words answer shape (subst P (sym whole) all)

@@ -5,5 +5,5 @@ pub mod FamilyRows
 pub mod StringRows
 pub mod KeyRows
 pub mod Names
-pub mod Chosen
-pub mod OwnWords
+pub mod OptionWords
+pub mod Shorts

@@ -1,11 +1,11 @@
 -- What the words of a shape tell, by their places. One lemma for each shape, whatever is made of the words.
 use Rattle.std.proofs.Common.{◌≡◌, ℕ, ◌+◌, ◌<◌, ◌≤◌, List, [], ◌∷◌, length, drop, Bool, true, false, Result, Ok, Err, refl, sym, ap, subst, ◌∙◌, arith, add-one, length-drop}
-use Rattle.std.specs.Prelude.{◌%◌, ◌-◌, ◌==◌, ◌&&◌, nat_lt, nat_le, if◌then◌else◌}
+use Rattle.std.specs.Prelude.{◌%◌, ◌-◌, ◌==◌, ◌&&◌, nat_le, if◌then◌else◌}
 use Rattle.std.specs.Result.{MatchResult, IsOkAnd}
 use Rattle.std.proofs.Math.Seq.{drop-cons}
-use Rattle.std.proofs.lemmas.Bool.{eqb-true, leb-true, ltb-true}
+use Rattle.std.proofs.lemmas.Bool.{eqb-true, leb-true}
 use Rattle.plain_world.specs.Words.{Words}
-use Rattle.plain_model.specs.Shapes.{Kind, AllTold, told, all_told, and_then, fixed, repeated, with_choices, Choice, chosen}
+use Rattle.plain_model.specs.Shapes.{Kind, AllTold, told, all_told, and_then, fixed, with_options, NamedOption, options_read}
 use Rattle.plain_world.specs.declared.refusal.Refusal.{Refusal}
 use Rattle.plain_world.specs.declared.refusal.Refusal.TheVariants.{WrongNumberOfArguments}
 use Rattle.command_table.specs.declared.fault.ReadingFault.{ReadingFault}
@@ -35,19 +35,12 @@ module _ {A : Type 0} (kinds : List Kind) (words : Words) (i : ℕ) where
       ap (λ b. if b then and_then (all_told kinds (drop i words)) make else Err WrongNumberOfArguments) e
       ∙ ap (λ r. and_then r make) (all_told_at kinds words i (omega arith))
 
-  -- these words, and then groups
-  pub repeated_at : (size : ℕ) (make : AllTold kinds → Words → Result A Refusal) → (nat_lt (length kinds) (length (drop i words)) && ((length (drop i words) - length kinds) % size == 0)) ≡ true → repeated kinds size make (drop i words) ≡ and_then (told_at kinds words i) (λ first. make first (drop (length kinds) (drop i words)))
-  repeated_at size make e =
-      let many : length kinds < length (drop i words) = ltb-true _ _ (both _ _ e) in
-      ap (λ b. if b then and_then (all_told kinds (drop i words)) (λ first. make first (drop (length kinds) (drop i words))) else Err WrongNumberOfArguments) e
-      ∙ ap (λ r. and_then r (λ first. make first (drop (length kinds) (drop i words)))) (all_told_at kinds words i (omega arith))
-
   -- these words, and then options
-  pub with_choices_at : {C : Type 0} (choices : List (Choice C)) (none : C) (make : AllTold kinds → C → Result A Refusal) → nat_le (length kinds) (length (drop i words)) ≡ true → with_choices kinds choices none make (drop i words) ≡ and_then (told_at kinds words i) (λ first. and_then (chosen choices none 0 (drop (length kinds) (drop i words))) (make first))
-  with_choices_at choices none make e =
+  pub with_options_at : {C : Type 0} (named : List (NamedOption C)) (none : C) (make : AllTold kinds → C → Result A Refusal) → nat_le (length kinds) (length (drop i words)) ≡ true → with_options kinds named none make (drop i words) ≡ and_then (told_at kinds words i) (λ first. and_then (options_read named none 0 (drop (length kinds) (drop i words))) (make first))
+  with_options_at named none make e =
       let many : length kinds ≤ length (drop i words) = leb-true _ _ e in
-      ap (λ b. if b then and_then (all_told kinds (drop i words)) (λ first. and_then (chosen choices none 0 (drop (length kinds) (drop i words))) (make first)) else Err WrongNumberOfArguments) e
-      ∙ ap (λ r. and_then r (λ first. and_then (chosen choices none 0 (drop (length kinds) (drop i words))) (make first))) (all_told_at kinds words i many)
+      ap (λ b. if b then and_then (all_told kinds (drop i words)) (λ first. and_then (options_read named none 0 (drop (length kinds) (drop i words))) (make first)) else Err WrongNumberOfArguments) e
+      ∙ ap (λ r. and_then r (λ first. and_then (options_read named none 0 (drop (length kinds) (drop i words))) (make first))) (all_told_at kinds words i many)
 
 module _ {A B T C : Type 0} (wrap : A → T) (make : T → Result C Refusal) (f : A → B) (wraps : B → C) (right : (a : A) → make (wrap a) ≡ Ok (wraps (f a))) where
   made_of_ok : (means : Result T Refusal) (a : A) (answer : Result B ReadingFault) → means ≡ Ok (wrap a) → IsOkAnd answer (λ b. b ≡ f a) → TellsAs wraps (and_then means make) answer

@@ -1,23 +1,20 @@
 -- What words tell, from what reading them answers.
-use Rattle.std.proofs.Common.{◌≡◌, ℕ, ◌<◌, List, [], ◌∷◌, length, Bool, true, false, Some, None, Ok, Err, ap, sym, ◌∙◌, w64, refl, arith}
+use Rattle.std.proofs.Common.{◌≡◌, ℕ, ◌<◌, List, [], ◌∷◌, length, Bool, true, false, Some, Ok, Err, ap, sym, ◌∙◌, w64, refl, arith}
 use Rattle.std.specs.Prelude.{ℤ, FitsSigned, ◌&&◌, ◌^◌, nat_lt, if◌then◌else◌}
 use Rattle.std.specs.Str.{all_ascii_digits}
 use Rattle.std.specs.Str.Parse.{digits_value}
 use Rattle.std.proofs.lemmas.Bool.{lt-ltb, ltb-true}
 use Rattle.std.proofs.lemmas.Str.Parse.{IsNumeralModel, numerals_by_value, tells_all_ascii_digits}
-use Rattle.int_text.specs.Decimal.{canonical, IsI64Text, IsU64Text}
+use Rattle.int_text.specs.Decimal.{canonical, IsU64Text}
 use Rattle.plain_world.specs.Words.{Words}
 use Rattle.plain_model.specs.StringWords.{pairs_of}
 use Rattle.plain_model.specs.Shapes.{Whole, Cursor, told, whole, are_digits}
-use Rattle.plain_world.specs.declared.refusal.Refusal.TheVariants.{NotAnInteger, InvalidCursor}
+use Rattle.plain_world.specs.declared.refusal.Refusal.TheVariants.{InvalidCursor}
 use Rattle.int_text.proofs.NumberOf.{reads_number_of}
 use Rattle.command_table.proofs.Tables.{both}
 
 pub number_told : (word : List ℕ) (n : ℤ) → FitsSigned w64 n → word ≡ canonical n → told Whole word ≡ Ok n
 number_told word n fits e = ap whole (reads_number_of word (Some n) ((fits, e), tt))
-
-pub no_number_told : (word : List ℕ) → ¬ (IsI64Text word) → told Whole word ≡ Err NotAnInteger
-no_number_told word none = ap whole (reads_number_of word None (tt, none))
 
 -- what the definition's test of digits tells
 abbrev digits : IsNumeralModel (λ ds. all_ascii_digits ds ≡ true) (digits_value 10)

@@ -2,10 +2,10 @@
 use Rattle.std.specs.Prelude.{◌≡◌, ℕ, ◌+◌, ℤ, List, [], ◌∷◌, length, drop, slice_index_or, codes, nat_le, Option}
 use Rattle.std.specs.Prelude.{Some, None, Result, Ok, Err, if◌then◌else◌}
 use Rattle.plain_world.specs.Words.{Words, in_lower_case}
-use Rattle.plain_model.specs.Shapes.{Kind, Whole, Span, Told, AllTold, told, all_told, and_then, choice_of, chosen}
+use Rattle.plain_model.specs.Shapes.{Kind, Whole, Span, Told, AllTold, told, all_told, and_then, option_of, options_read}
 use Rattle.plain_model.specs.Meant.{meant}
-use Rattle.plain_model.specs.StringWords.{time_choices, set_choices, getex_choices}
-use Rattle.plain_model.specs.KeyWords.{expire_choices, no_expire_options, clash}
+use Rattle.plain_model.specs.StringWords.{time_options, set_options, getex_options}
+use Rattle.plain_model.specs.KeyWords.{expire_options, no_expire_options, clash}
 use Rattle.plain_model.specs.declared.command.Command.{Command}
 use Rattle.plain_model.specs.declared.keys.ExpireOptions.{ExpireOptions}
 use Rattle.plain_model.specs.declared.times.Time.{Time}
@@ -60,7 +60,7 @@ time_name Milliseconds Epoch = codes "pxat"
 -- the option that gives a time, which a word names
 abbrev pub IsTimeOption : List ℕ → Option (TimeUnit × TimeOrigin) → Type 0
 IsTimeOption word (Some option) = in_lower_case word ≡ time_name option.0 option.1
-IsTimeOption word None = choice_of (time_choices (λ time (before : Time). time)) (in_lower_case word) ≡ None
+IsTimeOption word None = option_of (time_options (λ time (before : Time). time)) (in_lower_case word) ≡ None
 
 -- the option of SET that a word names
 abbrev pub IsSetOption : List ℕ → Option SetOption → Type 0
@@ -69,19 +69,19 @@ IsSetOption word (Some set.Xx) = in_lower_case word ≡ codes "xx"
 IsSetOption word (Some set.Get) = in_lower_case word ≡ codes "get"
 IsSetOption word (Some set.KeepTtl) = in_lower_case word ≡ codes "keepttl"
 IsSetOption word (Some (set.Until unit from)) = in_lower_case word ≡ time_name unit from
-IsSetOption word None = choice_of set_choices (in_lower_case word) ≡ None
+IsSetOption word None = option_of set_options (in_lower_case word) ≡ None
 
 -- the option of GETEX that a word names
 abbrev pub IsGetExOption : List ℕ → Option GetExOption → Type 0
 IsGetExOption word (Some getex.Persist) = in_lower_case word ≡ codes "persist"
 IsGetExOption word (Some (getex.Until unit from)) = in_lower_case word ≡ time_name unit from
-IsGetExOption word None = choice_of getex_choices (in_lower_case word) ≡ None
+IsGetExOption word None = option_of getex_options (in_lower_case word) ≡ None
 
 -- the key, the number and the options of EXPIRE and its like
 abbrev pub expire_parts : Words → Result (List ℕ × ℤ × ExpireOptions) Refusal
 expire_parts words =
     and_then (told Whole (at words 2))
-    (λ n. and_then (chosen expire_choices no_expire_options 0 (drop 3 words))
+    (λ n. and_then (options_read expire_options no_expire_options 0 (drop 3 words))
     (λ options. if clash options then Err Syntax else Ok (at words 1, n, options)))
 
 -- The answer is what a request with these words means: its command, or its refusal. Want of memory is free.

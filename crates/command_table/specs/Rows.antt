@@ -21,20 +21,20 @@ abbrev pub fits : Shape → ℕ → Bool
 fits (shape.Fixed count) words = words == count
 fits (shape.Words first) words = nat_lt first words
 fits (shape.Pairs first) words = nat_lt first words && ((words - first) % 2 == 0)
-fits (shape.Choices first) words = nat_le first words
+fits (shape.Options first) words = nat_le first words
 fits (shape.Between least most) words = nat_le least words && nat_le words most
 fits shape.Any words = true
 
 -- the name in lower case, and the shape
 abbrev pub string_row : StringName → List ℕ × Shape
 string_row string.Get = (codes "get", shape.Fixed 1)
-string_row string.Set = (codes "set", shape.Choices 2)
+string_row string.Set = (codes "set", shape.Options 2)
 string_row string.SetNx = (codes "setnx", shape.Fixed 2)
 string_row string.SetEx = (codes "setex", shape.Fixed 3)
 string_row string.PSetEx = (codes "psetex", shape.Fixed 3)
 string_row string.GetSet = (codes "getset", shape.Fixed 2)
 string_row string.GetDel = (codes "getdel", shape.Fixed 1)
-string_row string.GetEx = (codes "getex", shape.Choices 1)
+string_row string.GetEx = (codes "getex", shape.Options 1)
 string_row string.MGet = (codes "mget", shape.Words 0)
 string_row string.MSet = (codes "mset", shape.Pairs 0)
 string_row string.MSetNx = (codes "msetnx", shape.Pairs 0)
@@ -53,10 +53,10 @@ key_row key.Unlink = (codes "unlink", shape.Words 0)
 key_row key.Exists = (codes "exists", shape.Words 0)
 key_row key.Touch = (codes "touch", shape.Words 0)
 key_row key.TypeOf = (codes "type", shape.Fixed 1)
-key_row key.Expire = (codes "expire", shape.Choices 2)
-key_row key.PExpire = (codes "pexpire", shape.Choices 2)
-key_row key.ExpireAt = (codes "expireat", shape.Choices 2)
-key_row key.PExpireAt = (codes "pexpireat", shape.Choices 2)
+key_row key.Expire = (codes "expire", shape.Options 2)
+key_row key.PExpire = (codes "pexpire", shape.Options 2)
+key_row key.ExpireAt = (codes "expireat", shape.Options 2)
+key_row key.PExpireAt = (codes "pexpireat", shape.Options 2)
 key_row key.Ttl = (codes "ttl", shape.Fixed 1)
 key_row key.PTtl = (codes "pttl", shape.Fixed 1)
 key_row key.ExpireTime = (codes "expiretime", shape.Fixed 1)
@@ -64,12 +64,12 @@ key_row key.PExpireTime = (codes "pexpiretime", shape.Fixed 1)
 key_row key.Persist = (codes "persist", shape.Fixed 1)
 key_row key.Rename = (codes "rename", shape.Fixed 2)
 key_row key.RenameNx = (codes "renamenx", shape.Fixed 2)
-key_row key.CopyKey = (codes "copy", shape.Choices 2)
+key_row key.CopyKey = (codes "copy", shape.Options 2)
 key_row key.MoveKey = (codes "move", shape.Fixed 2)
 key_row key.RandomKey = (codes "randomkey", shape.Fixed 0)
 key_row key.Object = (codes "object", shape.Fixed 2)
 key_row key.KeysLike = (codes "keys", shape.Fixed 1)
-key_row key.Scan = (codes "scan", shape.Choices 1)
+key_row key.Scan = (codes "scan", shape.Options 1)
 
 abbrev pub connection_row : ConnectionName → List ℕ × Shape
 connection_row connection.Ping = (codes "ping", shape.Between 0 1)
@@ -77,8 +77,8 @@ connection_row connection.Echo = (codes "echo", shape.Fixed 1)
 connection_row connection.Quit = (codes "quit", shape.Any)
 connection_row connection.Select = (codes "select", shape.Fixed 1)
 connection_row connection.DbSize = (codes "dbsize", shape.Fixed 0)
-connection_row connection.FlushDb = (codes "flushdb", shape.Choices 0)
-connection_row connection.FlushAll = (codes "flushall", shape.Choices 0)
+connection_row connection.FlushDb = (codes "flushdb", shape.Options 0)
+connection_row connection.FlushAll = (codes "flushall", shape.Options 0)
 connection_row connection.Memory = (codes "memory", shape.Fixed 1)
 connection_row connection.Debug = (codes "debug", shape.Fixed 2)
 

@@ -2,7 +2,7 @@
 
 ghost use Rattle.std.specs.Prelude.{◌≡◌, ◌<◌, ◌∷◌, [], length, drop, true, Ok};
 ghost use Rattle.plain_model.specs.Meant.{meant};
-ghost use Rattle.plain_model.specs.Shapes.{and_then, chosen};
+ghost use Rattle.plain_model.specs.Shapes.{and_then, options_read};
 ghost use Rattle.plain_model.specs.ConnectionWords.{ping_words, flush_words, memory_of, debug_of};
 ghost use Rattle.plain_model.specs.declared.command.Command.TheVariants as commands;
 ghost use Rattle.command_table.specs.Readings.{Tells, TellsAs, at};

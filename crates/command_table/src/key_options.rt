@@ -1,8 +1,8 @@
 //! The options of EXPIRE and its like, of COPY, of SCAN, and of FLUSHDB and FLUSHALL.
 
 ghost use Rattle.std.specs.Prelude.{◌≡◌};
-ghost use Rattle.plain_model.specs.KeyWords.{expire_choices, copy_choices, scan_choices, no_expire_options, no_copy_options, no_scan_options, clash};
-ghost use Rattle.plain_model.specs.ConnectionWords.{flush_choices};
+ghost use Rattle.plain_model.specs.KeyWords.{expire_options, copy_options, scan_options, no_expire_options, no_copy_options, no_scan_options, clash};
+ghost use Rattle.plain_model.specs.ConnectionWords.{flush_options};
 
 use crate::ReadingFault;
 use crate::options::{Options, own_copy, own_count, own_database};
@@ -12,7 +12,7 @@ use resp_frames::Request;
 use std::alloc::Global;
 
 impl Options for ExpireOptions {
-    ghost choices = { expire_choices };
+    ghost named = { expire_options };
 
     fn with_option(
         self,
@@ -38,7 +38,7 @@ impl Options for ExpireOptions {
 }
 
 impl Options for CopyOptions {
-    ghost choices = { copy_choices };
+    ghost named = { copy_options };
 
     fn with_option(
         self,
@@ -71,7 +71,7 @@ impl Options for CopyOptions {
 }
 
 impl Options for ScanOptions {
-    ghost choices = { scan_choices };
+    ghost named = { scan_options };
 
     fn with_option(
         self,
@@ -97,7 +97,7 @@ impl Options for ScanOptions {
 }
 
 impl Options for () {
-    ghost choices = { flush_choices };
+    ghost named = { flush_options };
 
     fn with_option(
         self,

@@ -2,8 +2,8 @@
 
 ghost use Rattle.std.specs.Prelude.{◌≡◌, ◌<◌, [], ◌∷◌, length, drop, true, Ok};
 ghost use Rattle.plain_model.specs.Meant.{meant};
-ghost use Rattle.plain_model.specs.Shapes.{Cursor, and_then, chosen};
-ghost use Rattle.plain_model.specs.KeyWords.{copy_choices, no_copy_options, scan_choices, no_scan_options, object_of};
+ghost use Rattle.plain_model.specs.Shapes.{Cursor, and_then, options_read};
+ghost use Rattle.plain_model.specs.KeyWords.{copy_options, no_copy_options, scan_options, no_scan_options, object_of};
 ghost use Rattle.plain_model.specs.declared.command.Command.TheVariants as commands;
 ghost use Rattle.plain_model.specs.declared.keys.KeyCommand.{KeyCommand};
 ghost use Rattle.command_table.specs.Readings.{Tells, TellsAs, at, told_at, expire_parts};
@@ -35,7 +35,7 @@ fn expire(alloc: Global, request: &Request<'_>) -> Result<(Bytes, i64, ExpireOpt
 // COPY: two keys and options.
 fn copy(alloc: Global, request: &Request<'_>) -> Result<KeyCommand, ReadingFault>
     requires { 2 < length request.now }
-    ensures { Tells (and_then (chosen copy_choices no_copy_options 0 (drop 3 request.now)) (λ options. Ok (KeyCommand.Copy (at request.now 1) (at request.now 2) options))) result }
+    ensures { Tells (and_then (options_read copy_options no_copy_options 0 (drop 3 request.now)) (λ options. Ok (KeyCommand.Copy (at request.now 1) (at request.now 2) options))) result }
 {
     let options = read_options(alloc, no_copy_options(), request, 3)?;
     let (from, to) = key_and_value(alloc, request)?;
@@ -57,7 +57,7 @@ fn object(alloc: Global, request: &Request<'_>) -> Result<KeyCommand, ReadingFau
 // SCAN: a cursor and options.
 fn scan(alloc: Global, request: &Request<'_>) -> Result<KeyCommand, ReadingFault>
     requires { 1 < length request.now }
-    ensures { Tells (and_then (told_at (Cursor ∷ []) request.now 1) (λ a. and_then (chosen scan_choices no_scan_options 0 (drop 2 request.now)) (λ options. Ok (KeyCommand.Scan a.0 options)))) result }
+    ensures { Tells (and_then (told_at (Cursor ∷ []) request.now 1) (λ a. and_then (options_read scan_options no_scan_options 0 (drop 2 request.now)) (λ options. Ok (KeyCommand.Scan a.0 options)))) result }
 {
     let from = cursor(request, 1)?;
     let options = read_options(alloc, no_scan_options(), request, 2)?;

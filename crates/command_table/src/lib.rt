@@ -7,6 +7,7 @@ mod key_options;
 mod keys;
 mod options;
 mod reading;
+mod short;
 mod strings;
 mod table;
 #[cfg(test)]
@@ -18,3 +19,4 @@ mod words;
 
 pub use fault::ReadingFault;
 pub use reading::read;
+pub use short::{Short, short_of};

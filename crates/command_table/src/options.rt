@@ -2,7 +2,7 @@
 
 ghost use Rattle.std.specs.Prelude.{◌≡◌, ◌<◌, ◌≤◌, ◌+◌, List, length, drop};
 ghost use Rattle.plain_world.specs.Words.{in_lower_case};
-ghost use Rattle.plain_model.specs.Shapes.{Plain, Span, Database, Count, Choice, choice_of, choose, chosen};
+ghost use Rattle.plain_model.specs.Shapes.{Plain, Span, Database, Count, NamedOption, option_of, read_option, options_read};
 ghost use Rattle.command_table.specs.Readings.{Tells, at, own_word};
 
 use crate::ReadingFault;
@@ -14,7 +14,7 @@ use std::alloc::Global;
 /// What the options of a command say, so far as they are read.
 pub trait Options: Drop {
     /// The options.
-    ghost choices: { List (Choice Self) };
+    ghost named: { List (NamedOption Self) };
 
     /// Reads the option at a place: what they say with it, and how many words behind it are its own.
     fn with_option(
@@ -24,7 +24,7 @@ pub trait Options: Drop {
         index: usize,
     ) -> Result<(Self, usize), ReadingFault>
         requires { index < length request.now }
-        ensures { Tells (choose self (choice_of choices (in_lower_case (at request.now index))) (drop (index + 1) request.now)) result };
+        ensures { Tells (read_option self (option_of named (in_lower_case (at request.now index))) (drop (index + 1) request.now)) result };
 }
 
 /// Reads the options from a place on.
@@ -35,7 +35,7 @@ pub fn read_options<O: Options>(
     from: usize,
 ) -> Result<O, ReadingFault>
     requires { from ≤ length request.now }
-    ensures { Tells (chosen O.choices none 0 (drop from request.now)) result }
+    ensures { Tells (options_read O.named none 0 (drop from request.now)) result }
 {
     let mut options = none;
     let mut index = from;

@@ -2,8 +2,8 @@
 
 ghost use Rattle.std.specs.Prelude.{◌≡◌, ◌<◌, [], ◌∷◌, length, drop, true, ◌==◌, ◌||◌, ◌+◌, nat_le};
 ghost use Rattle.plain_model.specs.Meant.{meant};
-ghost use Rattle.plain_model.specs.Shapes.{Plain, Whole, Offset, and_then, chosen};
-ghost use Rattle.plain_model.specs.StringWords.{set_choices, no_set_choices, set_of, getex_choices, no_getex_choices, getex_of, set_range_of, decrease_of};
+ghost use Rattle.plain_model.specs.Shapes.{Plain, Whole, Offset, and_then, options_read};
+ghost use Rattle.plain_model.specs.StringWords.{set_options, no_set_options, set_of, getex_options, no_getex_options, getex_of, set_range_of, decrease_of};
 ghost use Rattle.plain_world.specs.Words.{longest};
 ghost use Rattle.plain_model.specs.declared.command.Command.TheVariants as commands;
 ghost use Rattle.command_table.specs.Readings.{Tells, TellsAs, at, told_at};
@@ -24,7 +24,7 @@ use std::alloc::Global;
 // SET: a key, a value and options.
 fn set(alloc: Global, request: &Request<'_>) -> Result<StringCommand, ReadingFault>
     requires { 2 < length request.now }
-    ensures { Tells (and_then (chosen set_choices no_set_choices 0 (drop 3 request.now)) (set_of (at request.now 1) (at request.now 2))) result }
+    ensures { Tells (and_then (options_read set_options no_set_options 0 (drop 3 request.now)) (set_of (at request.now 1) (at request.now 2))) result }
 {
     let options = read_options(alloc, no_set_options(), request, 3)?;
     if options.nx && options.xx || options.twice {
@@ -45,7 +45,7 @@ fn set(alloc: Global, request: &Request<'_>) -> Result<StringCommand, ReadingFau
 // GETEX: a key and options.
 fn get_ex(alloc: Global, request: &Request<'_>) -> Result<StringCommand, ReadingFault>
     requires { 1 < length request.now }
-    ensures { Tells (and_then (chosen getex_choices no_getex_choices 0 (drop 2 request.now)) (getex_of (at request.now 1))) result }
+    ensures { Tells (and_then (options_read getex_options no_getex_options 0 (drop 2 request.now)) (getex_of (at request.now 1))) result }
 {
     let options = read_options(alloc, no_getex_options(), request, 2)?;
     if options.twice {

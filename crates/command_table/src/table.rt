@@ -5,7 +5,7 @@ ghost use Rattle.plain_world.specs.Words.{in_lower_case};
 ghost use Rattle.command_table.specs.Rows.{fits, found_in, Finds, IsTable};
 
 use self::Name::{Connection, Keys, Strings};
-use self::Shape::{Any, Between, Choices, Fixed, Pairs, Words};
+use self::Shape::{Any, Between, Fixed, Options, Pairs, Words};
 use self::StringName::{
     Append, Decr, DecrBy, Get, GetDel, GetEx, GetRange, GetSet, Incr, IncrBy, MGet, MSet, MSetNx,
     PSetEx, Set, SetEx, SetNx, SetRange, StrLen,
@@ -22,7 +22,7 @@ pub enum Shape {
     /// So many, and then one or more pairs.
     Pairs(usize),
     /// So many, and then options.
-    Choices(usize),
+    Options(usize),
     /// At least so many, and at most so many.
     Between(usize, usize),
     /// Any.
@@ -107,7 +107,7 @@ pub struct Row(&'static [u8], Name, Shape);
 
 const OF_3: [Row; 4] = [
     Row(b"get", Strings(Get), Fixed(1)),
-    Row(b"set", Strings(Set), Choices(2)),
+    Row(b"set", Strings(Set), Options(2)),
     Row(b"del", Keys(KeyName::Del), Words(0)),
     Row(b"ttl", Keys(KeyName::Ttl), Fixed(1)),
 ];
@@ -119,10 +119,10 @@ const OF_4: [Row; 13] = [
     Row(b"decr", Strings(Decr), Fixed(1)),
     Row(b"type", Keys(KeyName::TypeOf), Fixed(1)),
     Row(b"pttl", Keys(KeyName::PTtl), Fixed(1)),
-    Row(b"copy", Keys(KeyName::CopyKey), Choices(2)),
+    Row(b"copy", Keys(KeyName::CopyKey), Options(2)),
     Row(b"move", Keys(KeyName::MoveKey), Fixed(2)),
     Row(b"keys", Keys(KeyName::KeysLike), Fixed(1)),
-    Row(b"scan", Keys(KeyName::Scan), Choices(1)),
+    Row(b"scan", Keys(KeyName::Scan), Options(1)),
     Row(b"ping", Connection(ConnectionName::Ping), Between(0, 1)),
     Row(b"echo", Connection(ConnectionName::Echo), Fixed(1)),
     Row(b"quit", Connection(ConnectionName::Quit), Any),
@@ -131,7 +131,7 @@ const OF_4: [Row; 13] = [
 const OF_5: [Row; 5] = [
     Row(b"setnx", Strings(SetNx), Fixed(2)),
     Row(b"setex", Strings(SetEx), Fixed(3)),
-    Row(b"getex", Strings(GetEx), Choices(1)),
+    Row(b"getex", Strings(GetEx), Options(1)),
     Row(b"touch", Keys(KeyName::Touch), Words(0)),
     Row(b"debug", Connection(ConnectionName::Debug), Fixed(2)),
 ];
@@ -146,7 +146,7 @@ const OF_6: [Row; 16] = [
     Row(b"incrby", Strings(IncrBy), Fixed(2)),
     Row(b"decrby", Strings(DecrBy), Fixed(2)),
     Row(b"exists", Keys(KeyName::Exists), Words(0)),
-    Row(b"expire", Keys(KeyName::Expire), Choices(2)),
+    Row(b"expire", Keys(KeyName::Expire), Options(2)),
     Row(b"unlink", Keys(KeyName::Unlink), Words(0)),
     Row(b"rename", Keys(KeyName::Rename), Fixed(2)),
     Row(b"object", Keys(KeyName::Object), Fixed(2)),
@@ -156,25 +156,25 @@ const OF_6: [Row; 16] = [
 ];
 
 const OF_7: [Row; 3] = [
-    Row(b"pexpire", Keys(KeyName::PExpire), Choices(2)),
+    Row(b"pexpire", Keys(KeyName::PExpire), Options(2)),
     Row(b"persist", Keys(KeyName::Persist), Fixed(1)),
-    Row(b"flushdb", Connection(ConnectionName::FlushDb), Choices(0)),
+    Row(b"flushdb", Connection(ConnectionName::FlushDb), Options(0)),
 ];
 
 const OF_8: [Row; 5] = [
     Row(b"getrange", Strings(GetRange), Fixed(3)),
     Row(b"setrange", Strings(SetRange), Fixed(3)),
-    Row(b"expireat", Keys(KeyName::ExpireAt), Choices(2)),
+    Row(b"expireat", Keys(KeyName::ExpireAt), Options(2)),
     Row(b"renamenx", Keys(KeyName::RenameNx), Fixed(2)),
     Row(
         b"flushall",
         Connection(ConnectionName::FlushAll),
-        Choices(0),
+        Options(0),
     ),
 ];
 
 const OF_9: [Row; 2] = [
-    Row(b"pexpireat", Keys(KeyName::PExpireAt), Choices(2)),
+    Row(b"pexpireat", Keys(KeyName::PExpireAt), Options(2)),
     Row(b"randomkey", Keys(KeyName::RandomKey), Fixed(0)),
 ];
 
@@ -191,7 +191,7 @@ impl Shape {
             Shape::Fixed(count) => words == count,
             Shape::Words(first) => words > first,
             Shape::Pairs(first) => words > first && (words - first) % 2 == 0,
-            Shape::Choices(first) => words >= first,
+            Shape::Options(first) => words >= first,
             Shape::Between(least, most) => least <= words && words <= most,
             Shape::Any => true,
         }

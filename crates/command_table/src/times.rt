@@ -2,7 +2,7 @@
 
 ghost use Rattle.std.specs.Prelude.{◌≡◌, ◌<◌, ◌+◌, length, drop, if◌then◌else◌};
 ghost use Rattle.plain_model.specs.Shapes.{Span};
-ghost use Rattle.plain_model.specs.StringWords.{set_choices, getex_choices, no_set_choices, no_getex_choices, lasting, renewed};
+ghost use Rattle.plain_model.specs.StringWords.{set_options, getex_options, no_set_options, no_getex_options, lasting, renewed};
 ghost use Rattle.plain_model.specs.declared.command.Condition.{Condition};
 ghost use Rattle.command_table.specs.Readings.{TellsAs, IsTimeOption, IsSetOption, IsGetExOption, own_time};
 
@@ -10,7 +10,8 @@ use crate::ReadingFault;
 use crate::options::{Options, own_span};
 use crate::words::is_word;
 use plain_model::{
-    Condition, GetExChoices, Lifetime, Refusal, Renewal, SetChoices, Time, TimeOrigin, TimeUnit,
+    Condition, GetExOptionsRead, Lifetime, Refusal, Renewal, SetOptionsRead, Time, TimeOrigin,
+    TimeUnit,
 };
 use resp_frames::Request;
 use std::alloc::Global;
@@ -101,10 +102,10 @@ fn time_behind(
 }
 
 // One more option gives a lifetime.
-fn lasting(options: SetChoices, lifetime: Lifetime) -> SetChoices
+fn lasting(options: SetOptionsRead, lifetime: Lifetime) -> SetOptionsRead
     ensures { result ≡ lasting lifetime options }
 {
-    SetChoices {
+    SetOptionsRead {
         lifetime,
         twice: options.twice || !matches!(options.lifetime, Lifetime::Forever),
         ..options
@@ -112,28 +113,28 @@ fn lasting(options: SetChoices, lifetime: Lifetime) -> SetChoices
 }
 
 // One more option of GETEX stands.
-fn renewed(options: GetExChoices, renewal: Renewal) -> GetExChoices
+fn renewed(options: GetExOptionsRead, renewal: Renewal) -> GetExOptionsRead
     ensures { result ≡ renewed renewal options }
 {
-    GetExChoices {
+    GetExOptionsRead {
         renewal,
         twice: options.twice || !matches!(options.renewal, Renewal::Unchanged),
     }
 }
 
-impl Options for SetChoices {
-    ghost choices = { set_choices };
+impl Options for SetOptionsRead {
+    ghost named = { set_options };
 
     fn with_option(
         self,
         _alloc: Global,
         request: &Request<'_>,
         index: usize,
-    ) -> Result<(SetChoices, usize), ReadingFault> {
+    ) -> Result<(SetOptionsRead, usize), ReadingFault> {
         match set_option(request.word(index)) {
-            Some(SetOption::Nx) => Ok((SetChoices { nx: true, ..self }, 0)),
-            Some(SetOption::Xx) => Ok((SetChoices { xx: true, ..self }, 0)),
-            Some(SetOption::Get) => Ok((SetChoices { get: true, ..self }, 0)),
+            Some(SetOption::Nx) => Ok((SetOptionsRead { nx: true, ..self }, 0)),
+            Some(SetOption::Xx) => Ok((SetOptionsRead { xx: true, ..self }, 0)),
+            Some(SetOption::Get) => Ok((SetOptionsRead { get: true, ..self }, 0)),
             Some(SetOption::KeepTtl) => Ok((lasting(self, Lifetime::Kept), 0)),
             Some(SetOption::Until(unit, from)) => {
                 let time = time_behind(request, index, unit, from)?;
@@ -144,15 +145,15 @@ impl Options for SetChoices {
     }
 }
 
-impl Options for GetExChoices {
-    ghost choices = { getex_choices };
+impl Options for GetExOptionsRead {
+    ghost named = { getex_options };
 
     fn with_option(
         self,
         _alloc: Global,
         request: &Request<'_>,
         index: usize,
-    ) -> Result<(GetExChoices, usize), ReadingFault> {
+    ) -> Result<(GetExOptionsRead, usize), ReadingFault> {
         match getex_option(request.word(index)) {
             Some(GetExOption::Persist) => Ok((renewed(self, Renewal::Persist), 0)),
             Some(GetExOption::Until(unit, from)) => {
@@ -165,10 +166,10 @@ impl Options for GetExChoices {
 }
 
 /// None of the options of SET.
-pub fn no_set_options() -> SetChoices
-    ensures { result ≡ no_set_choices }
+pub fn no_set_options() -> SetOptionsRead
+    ensures { result ≡ no_set_options }
 {
-    SetChoices {
+    SetOptionsRead {
         nx: false,
         xx: false,
         get: false,
@@ -178,17 +179,17 @@ pub fn no_set_options() -> SetChoices
 }
 
 /// None of the options of GETEX.
-pub fn no_getex_options() -> GetExChoices
-    ensures { result ≡ no_getex_choices }
+pub fn no_getex_options() -> GetExOptionsRead
+    ensures { result ≡ no_getex_options }
 {
-    GetExChoices {
+    GetExOptionsRead {
         renewal: Renewal::Unchanged,
         twice: false,
     }
 }
 
 /// When SET writes.
-pub fn condition(options: SetChoices) -> Condition
+pub fn condition(options: SetOptionsRead) -> Condition
     ensures { result ≡ (if options.nx then Condition.IfMissing else (if options.xx then Condition.IfThere else Condition.Always)) }
 {
     if options.nx {

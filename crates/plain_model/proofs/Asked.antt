@@ -6,17 +6,17 @@ use Rattle.std.specs.Str.Parse.{digits_value}
 use Rattle.std.proofs.lemmas.Bool.Decides.{Decides-eqb}
 use Rattle.std.proofs.lemmas.Bool.{leb-true, ltb-true}
 use Rattle.plain_world.specs.Words.{Words, longest, in_lower_case}
-use Rattle.plain_model.specs.Shapes.{Kind, Plain, Whole, Offset, Span, Database, Count, Steps, Cursor, Told, told, AllTold, and_then, whole, span, database, count, steps, are_digits, cursor, all_told, Row, fixed, repeated, Choice, choice_of, choose, chosen, with_choices}
-use Rattle.plain_model.specs.StringWords.{set_choices, no_set_choices, getex_choices, no_getex_choices, pairs_of, string_rows, set_of, getex_of, set_range_of, decrease_of}
-use Rattle.plain_model.specs.KeyWords.{expire_choices, no_expire_options, expire_of, clash, copy_choices, no_copy_options, scan_choices, no_scan_options, object_of, key_rows}
-use Rattle.plain_model.specs.ConnectionWords.{ping_words, flush_choices, memory_of, debug_of, connection_rows}
+use Rattle.plain_model.specs.Shapes.{Kind, Plain, Whole, Offset, Span, Database, Count, Steps, Cursor, Told, told, AllTold, and_then, whole, span, database, count, steps, are_digits, cursor, all_told, Row, fixed, repeated, NamedOption, option_of, read_option, options_read, with_options}
+use Rattle.plain_model.specs.StringWords.{set_options, no_set_options, getex_options, no_getex_options, pairs_of, string_rows, set_of, getex_of, set_range_of, decrease_of}
+use Rattle.plain_model.specs.KeyWords.{expire_options, no_expire_options, expire_of, clash, copy_options, no_copy_options, scan_options, no_scan_options, object_of, key_rows}
+use Rattle.plain_model.specs.ConnectionWords.{ping_words, flush_options, memory_of, debug_of, connection_rows}
 use Rattle.std.specs.Prelude.{neg_ℤ}
 use Rattle.int_text.specs.Decimal.{is_i64, number_of}
 use Rattle.plain_model.specs.Meant.{of_family, rows, read_by, meant}
 use Rattle.plain_model.specs.declared.command.Command.{Command}
 use Rattle.plain_model.specs.declared.command.Command.TheVariants.{Strings, Keys, Connection}
-use Rattle.plain_model.specs.declared.command.SetChoices.{SetChoices}
-use Rattle.plain_model.specs.declared.command.GetExChoices.{GetExChoices}
+use Rattle.plain_model.specs.declared.command.SetOptionsRead.{SetOptionsRead}
+use Rattle.plain_model.specs.declared.command.GetExOptionsRead.{GetExOptionsRead}
 use Rattle.plain_model.specs.declared.command.StringCommand.{StringCommand}
 use Rattle.plain_model.specs.declared.command.StringCommand.TheVariants as strings
 use Rattle.plain_model.specs.declared.keys.KeyCommand.{KeyCommand}
@@ -36,10 +36,12 @@ use Rattle.plain_model.specs.declared.command.Condition.TheVariants.{Always, IfM
 
 -- what is made after something was told holds, if it holds of whatever is told
 module _ {A B : Type 0} (P : B → Type 0) where
+  -- what is made of a first answer has a property, if whatever is made of each answer that is told has it
   then_told : (first : Result A Refusal) (make : A → Result B Refusal) → ((a : A) → first ≡ Ok a → (b : B) → make a ≡ Ok b → P b) → (b : B) → and_then first make ≡ Ok b → P b
   then_told (Ok a) make h b e = h a refl b e
   then_told (Err refusal) make h b e = cc
 
+-- what a test picks of two answers has a property, if what either of them makes has it
 if_has : {B : Type 0} (P : B → Type 0) (test : Bool) (r s : Result B Refusal) → ((b : B) → r ≡ Ok b → P b) → ((b : B) → s ≡ Ok b → P b) → (b : B) → (if test then r else s) ≡ Ok b → P b
 if_has P true r s h k b e = h b e
 if_has P false r s h k b e = k b e
@@ -49,9 +51,11 @@ if_true : {B : Type 0} (P : B → Type 0) (test : Bool) (r : Result B Refusal) (
 if_true P true r refusal h b e = h refl b e
 if_true P false r refusal h b e = cc
 
+-- a refusal makes nothing, so all that it makes has any property
 never : {B : Type 0} (P : B → Type 0) (refusal : Refusal) (b : B) → Err refusal ≡ Ok b → P b
 never P refusal b e = cc
 
+-- a thing as an answer that isn't refused
 abbrev ok : {B : Type 0} → B → Result B Refusal
 ok b = Ok b
 
@@ -70,34 +74,42 @@ Keeps Count n = 0 < n
 Keeps Steps n = n ≤ 1000000
 Keeps Cursor n = n < 2 ^ 64
 
+-- what words of these kinds keep, each by its own kind
 abbrev pub AllKeep : (kinds : List Kind) → AllTold kinds → Type 0
 AllKeep [] a = Unit {0}
 AllKeep (kind ∷ kinds) a = Keeps kind a.0 × AllKeep kinds a.1
 
+-- a number that is told as a time is above 0
 span_keeps : (n a : ℤ) → span n ≡ Ok a → Keeps Span a
 span_keeps n a e = if_true (Keeps Span) (int_lt (pos 0) n) (Ok n) InvalidExpireTime (λ above b f. made (Keeps Span) n b above f) a e
 
+-- a number that is told as a database is below 16
 database_keeps : (n : ℤ) (a : ℕ) → database n ≡ Ok a → Keeps Database a
 database_keeps (pos n) a e = if_true (Keeps Database) (nat_lt n 16) (Ok n) DatabaseOutOfRange (λ below b f. made (Keeps Database) n b (ltb-true n 16 below) f) a e
 database_keeps (negsuc n) a e = cc
 
+-- a number that is told as how many are to be met is above 0
 count_keeps : (n : ℤ) (a : ℕ) → count n ≡ Ok a → Keeps Count a
 count_keeps (pos n) a e = if_true (Keeps Count) (nat_lt 0 n) (Ok n) Syntax (λ above b f. made (Keeps Count) n b (ltb-true 0 n above) f) a e
 count_keeps (negsuc n) a e = cc
 
+-- a number that is told as how many steps are to be made is at most 1,000,000
 steps_keep : (n : ℤ) (a : ℕ) → steps n ≡ Ok a → Keeps Steps a
 steps_keep (pos n) a e = if_true (Keeps Steps) (nat_le n 1000000) (Ok n) ValueOutOfRange (λ within b f. made (Keeps Steps) n b (leb-true n 1000000 within) f) a e
 steps_keep (negsuc n) a e = cc
 
+-- where two tests hold together the second one holds
 both : (a b : Bool) → (a && b) ≡ true → b ≡ true
 both true b e = e
 both false b e = cc
 
+-- digits that are told as a cursor are a number below 2^64
 cursor_keeps : (word : List ℕ) (a : ℕ) → cursor word ≡ Ok a → Keeps Cursor a
 cursor_keeps word a e =
     let n = digits_value 10 word in
     if_true (Keeps Cursor) (are_digits word && nat_lt n (2 ^ 64)) (Ok n) InvalidCursor (λ holds b f. made (Keeps Cursor) n b (ltb-true n (2 ^ 64) (both (are_digits word) (nat_lt n (2 ^ 64)) holds)) f) a e
 
+-- what a word tells is in the range of its kind
 told_keeps : (kind : Kind) (word : List ℕ) (a : Told kind) → told kind word ≡ Ok a → Keeps kind a
 told_keeps Plain word a e = tt
 told_keeps Whole word a e = tt
@@ -108,6 +120,7 @@ told_keeps Count word a e = then_told (Keeps Count) (whole (number_of word)) cou
 told_keeps Steps word a e = then_told (Keeps Steps) (whole (number_of word)) steps (λ n is b f. steps_keep n b f) a e
 told_keeps Cursor word a e = cursor_keeps word a e
 
+-- what several words tell is in the range of each one's kind
 all_told_keep : (kinds : List Kind) (words : Words) (a : AllTold kinds) → all_told kinds words ≡ Ok a → AllKeep kinds a
 all_told_keep [] words a e = tt
 all_told_keep (kind ∷ kinds) [] a e = cc
@@ -118,54 +131,63 @@ all_told_keep (kind ∷ kinds) (word ∷ words) a e =
 
 -- the options keep what each of them keeps
 module _ {A : Type 0} (Q : A → Type 0) where
-  abbrev pub EachKeeps : List (Choice A) → Type 0
-  EachKeeps choices = AllByRecursion (λ (choice : Choice A). (own : AllTold choice.kinds) (a : A) → AllKeep choice.kinds own → Q a → Q (choice.sets own a)) choices
+  -- each of these options keeps a property of what is set, if its own words are in range
+  abbrev pub EachKeeps : List (NamedOption A) → Type 0
+  EachKeeps named = AllByRecursion (λ (option : NamedOption A). (own : AllTold option.kinds) (a : A) → AllKeep option.kinds own → Q a → Q (option.sets own a)) named
 
-  abbrev ChoiceKeeps : Option (Choice A) → Type 0
-  ChoiceKeeps None = Unit {0}
-  ChoiceKeeps (Some choice) = (own : AllTold choice.kinds) (a : A) → AllKeep choice.kinds own → Q a → Q (choice.sets own a)
+  -- the option, where there is one, keeps a property of what is set, if its own words are in range
+  abbrev OptionKeeps : Option (NamedOption A) → Type 0
+  OptionKeeps None = Unit {0}
+  OptionKeeps (Some option) = (own : AllTold option.kinds) (a : A) → AllKeep option.kinds own → Q a → Q (option.sets own a)
 
-  choice_keeps : (choices : List (Choice A)) (name : List ℕ) → EachKeeps choices → ChoiceKeeps (choice_of choices name)
-  choice_keeps [] name h = tt
-  choice_keeps (choice ∷ choices) name h =
-      elim (bytes_eq name choice.name) as (λ b. ChoiceKeeps (if b then Some choice else choice_of choices name)) [
+  -- the option of a name keeps the property, if each of the options does
+  option_keeps : (named : List (NamedOption A)) (name : List ℕ) → EachKeeps named → OptionKeeps (option_of named name)
+  option_keeps [] name h = tt
+  option_keeps (option ∷ named) name h =
+      elim (bytes_eq name option.name) as (λ b. OptionKeeps (if b then Some option else option_of named name)) [
         | true ↦ h.0
-        | false ↦ choice_keeps choices name h.1
+        | false ↦ option_keeps named name h.1
       ]
 
-  choose_keeps : (before : A) (choice : Option (Choice A)) (words : Words) → ChoiceKeeps choice → Q before → (a : A × ℕ) → choose before choice words ≡ Ok a → Q a.0
-  choose_keeps before None words h q a e = cc
-  choose_keeps before (Some choice) words h q a e =
-      if_has (λ r. Q r.0) (nat_le (length choice.kinds) (length words)) (and_then (all_told choice.kinds words) (λ own. Ok (choice.sets own before, length choice.kinds))) (Err Syntax)
-      (then_told (λ r. Q r.0) (all_told choice.kinds words) (λ own. Ok (choice.sets own before, length choice.kinds)) (λ own are b f.
-      made (λ r. Q r.0) (choice.sets own before, length choice.kinds) b (h own before (all_told_keep choice.kinds words own are) q) f)) (never (λ r. Q r.0) Syntax) a e
+  -- what is set after an option is read has the property, if the option keeps it and it held before
+  read_option_keeps : (before : A) (option : Option (NamedOption A)) (words : Words) → OptionKeeps option → Q before → (a : A × ℕ) → read_option before option words ≡ Ok a → Q a.0
+  read_option_keeps before None words h q a e = cc
+  read_option_keeps before (Some option) words h q a e =
+      if_has (λ r. Q r.0) (nat_le (length option.kinds) (length words)) (and_then (all_told option.kinds words) (λ own. Ok (option.sets own before, length option.kinds))) (Err Syntax)
+      (then_told (λ r. Q r.0) (all_told option.kinds words) (λ own. Ok (option.sets own before, length option.kinds)) (λ own are b f.
+      made (λ r. Q r.0) (option.sets own before, length option.kinds) b (h own before (all_told_keep option.kinds words own are) q) f)) (never (λ r. Q r.0) Syntax) a e
 
-  chosen_keeps : (choices : List (Choice A)) → EachKeeps choices → (before : A) → Q before → (skip : ℕ) (words : Words) (a : A) → chosen choices before skip words ≡ Ok a → Q a
-  chosen_keeps choices h before q skip [] a e = made Q before a q e
-  chosen_keeps choices h before q (suc skip) (word ∷ words) a e = chosen_keeps choices h before q skip words a e
-  chosen_keeps choices h before q zero (word ∷ words) a e =
-      then_told Q (choose before (choice_of choices (in_lower_case word)) words) (λ read. chosen choices read.0 read.1 words)
-      (λ read is b f. chosen_keeps choices h read.0 (choose_keeps before (choice_of choices (in_lower_case word)) words (choice_keeps choices (in_lower_case word) h) q read is) read.1 words b f) a e
+  -- what is set after all options are read has the property, if each keeps it and it held before
+  options_read_keep : (named : List (NamedOption A)) → EachKeeps named → (before : A) → Q before → (skip : ℕ) (words : Words) (a : A) → options_read named before skip words ≡ Ok a → Q a
+  options_read_keep named h before q skip [] a e = made Q before a q e
+  options_read_keep named h before q (suc skip) (word ∷ words) a e = options_read_keep named h before q skip words a e
+  options_read_keep named h before q zero (word ∷ words) a e =
+      then_told Q (read_option before (option_of named (in_lower_case word)) words) (λ read. options_read named read.0 read.1 words)
+      (λ read is b f. options_read_keep named h read.0 (read_option_keeps before (option_of named (in_lower_case word)) words (option_keeps named (in_lower_case word) h) q read is) read.1 words b f) a e
 
 -- what a row makes of words keeps what it makes of what they tell
 module _ {B : Type 0} (P : B → Type 0) where
+  -- whatever this reading makes of words has the property
   abbrev RowKeeps : (Words → Result B Refusal) → Type 0
   RowKeeps read = (words : Words) (c : B) → read words ≡ Ok c → P c
 
+  -- what a row of just these words makes has the property, if all that is made of words in range has it
   fixed_fits : (kinds : List Kind) (make : AllTold kinds → Result B Refusal) → ((a : AllTold kinds) → AllKeep kinds a → (c : B) → make a ≡ Ok c → P c) → RowKeeps (fixed kinds make)
   fixed_fits kinds make h words c e =
       if_has P (length words == length kinds) (and_then (all_told kinds words) make) (Err WrongNumberOfArguments) (then_told P (all_told kinds words) make (λ a is. h a (all_told_keep kinds words a is))) (never P WrongNumberOfArguments) c e
 
+  -- what a row with repeated groups of words makes has the property, if all that is made of any words has it
   repeated_fits : (kinds : List Kind) (size : ℕ) (make : AllTold kinds → Words → Result B Refusal) → ((a : AllTold kinds) (rest : Words) (c : B) → make a rest ≡ Ok c → P c) → RowKeeps (repeated kinds size make)
   repeated_fits kinds size make h words c e =
       if_has P (nat_lt (length kinds) (length words) && ((length words - length kinds) % size == 0)) (and_then (all_told kinds words) (λ first. make first (drop (length kinds) words))) (Err WrongNumberOfArguments)
       (then_told P (all_told kinds words) (λ first. make first (drop (length kinds) words)) (λ a is b. h a (drop (length kinds) words) b)) (never P WrongNumberOfArguments) c e
 
-  chosen_fits : {A : Type 0} (kinds : List Kind) (choices : List (Choice A)) (start : A) (make : AllTold kinds → A → Result B Refusal) (Q : A → Type 0) → EachKeeps Q choices × Q start → ((a : AllTold kinds) → AllKeep kinds a → (o : A) → Q o → (c : B) → make a o ≡ Ok c → P c) → RowKeeps (with_choices kinds choices start make)
-  chosen_fits kinds choices start make Q keep h words c e =
-      if_has P (nat_le (length kinds) (length words)) (and_then (all_told kinds words) (λ first. and_then (chosen choices start 0 (drop (length kinds) words)) (make first))) (Err WrongNumberOfArguments)
-      (then_told P (all_told kinds words) (λ first. and_then (chosen choices start 0 (drop (length kinds) words)) (make first)) (λ a is.
-      then_told P (chosen choices start 0 (drop (length kinds) words)) (make a) (λ o are. h a (all_told_keep kinds words a is) o (chosen_keeps Q choices keep.0 start keep.1 0 (drop (length kinds) words) o are)))) (never P WrongNumberOfArguments) c e
+  -- what a row with options makes has the property, if all that is made of words and options in range has it
+  with_options_fits : {A : Type 0} (kinds : List Kind) (named : List (NamedOption A)) (start : A) (make : AllTold kinds → A → Result B Refusal) (Q : A → Type 0) → EachKeeps Q named × Q start → ((a : AllTold kinds) → AllKeep kinds a → (o : A) → Q o → (c : B) → make a o ≡ Ok c → P c) → RowKeeps (with_options kinds named start make)
+  with_options_fits kinds named start make Q keep h words c e =
+      if_has P (nat_le (length kinds) (length words)) (and_then (all_told kinds words) (λ first. and_then (options_read named start 0 (drop (length kinds) words)) (make first))) (Err WrongNumberOfArguments)
+      (then_told P (all_told kinds words) (λ first. and_then (options_read named start 0 (drop (length kinds) words)) (make first)) (λ a is.
+      then_told P (options_read named start 0 (drop (length kinds) words)) (make a) (λ o are. h a (all_told_keep kinds words a is) o (options_read_keep Q named keep.0 start keep.1 0 (drop (length kinds) words) o are)))) (never P WrongNumberOfArguments) c e
 
 -- a time that words give is above 0
 abbrev pub LastsLong : Lifetime → Type 0
@@ -173,6 +195,7 @@ LastsLong lifetimes.Forever = Unit {0}
 LastsLong lifetimes.Kept = Unit {0}
 LastsLong (lifetimes.Until time) = int_lt (pos 0) time.n ≡ true
 
+-- the time of a renewal, where it has one, is above 0
 abbrev pub RenewsLong : Renewal → Type 0
 RenewsLong renewals.Unchanged = Unit {0}
 RenewsLong renewals.Persist = Unit {0}
@@ -199,17 +222,20 @@ FitsKeys (keys.MoveKey key number) = number < 16
 FitsKeys (keys.Scan cursor options) = (0 < options.count) × (cursor < 2 ^ 64)
 FitsKeys other = Unit {0}
 
+-- SELECT names one of 16 databases, and DEBUG asks for 1,000,000 steps at most
 abbrev pub FitsConnection : ConnectionCommand → Type 0
 FitsConnection (connection.Select number) = number < 16
 FitsConnection (connection.DebugRehash n) = n ≤ 1000000
 FitsConnection (connection.DebugDefrag n) = n ≤ 1000000
 FitsConnection other = Unit {0}
 
+-- a command of any family has its numbers and pieces in range
 abbrev pub FitsCommand : Command → Type 0
 FitsCommand (Strings c) = Fits c
 FitsCommand (Keys c) = FitsKeys c
 FitsCommand (Connection c) = FitsConnection c
 
+-- a piece of SETRANGE that the words don't refuse ends at the greatest length at most, if it has a byte
 range_fits : (key : List ℕ) (at : ℕ) (piece : List ℕ) (c : StringCommand) → set_range_of key at piece ≡ Ok c → Fits c
 range_fits key at piece c e =
     elim (length piece == 0) as (λ b. (length piece == 0) ≡ b → (if b then Ok (strings.SetRange key at piece) else (if nat_le (at + length piece) longest then Ok (strings.SetRange key at piece) else Err ValueOutOfRange)) ≡ Ok c → Fits c) [
@@ -220,37 +246,47 @@ range_fits key at piece c e =
     no_length : (piece : List ℕ) → (length piece == 0) ≡ true → 0 < length piece → ⊥
     no_length piece e h = omega (arith, (Decides-eqb (length piece) 0).0 e)
 
-set_choices_keep : EachKeeps (λ (o : SetChoices). LastsLong o.lifetime) set_choices
-set_choices_keep = (λ own o keeps q. q, (λ own o keeps q. q, (λ own o keeps q. q, (λ own o keeps q. tt, (λ own o keeps q. keeps.0, (λ own o keeps q. keeps.0, (λ own o keeps q. keeps.0, (λ own o keeps q. keeps.0, tt))))))))
+-- no option of SET sets a time that isn't above 0
+set_options_keep : EachKeeps (λ (o : SetOptionsRead). LastsLong o.lifetime) set_options
+set_options_keep = (λ own o keeps q. q, (λ own o keeps q. q, (λ own o keeps q. q, (λ own o keeps q. tt, (λ own o keeps q. keeps.0, (λ own o keeps q. keeps.0, (λ own o keeps q. keeps.0, (λ own o keeps q. keeps.0, tt))))))))
 
-set_fits : (key value : List ℕ) (o : SetChoices) → LastsLong o.lifetime → (c : StringCommand) → set_of key value o ≡ Ok c → Fits c
+-- the time of a SET is above 0, if that of its options is
+set_fits : (key value : List ℕ) (o : SetOptionsRead) → LastsLong o.lifetime → (c : StringCommand) → set_of key value o ≡ Ok c → Fits c
 set_fits key value o long c =
     let own : StringCommand = strings.Set key value (record { condition = if o.nx then IfMissing else (if o.xx then IfThere else Always); get = o.get; lifetime = o.lifetime }) in
     if_has Fits (o.nx && o.xx || o.twice) (Err Syntax) (Ok own) (never Fits Syntax) (λ b. made Fits own b long) c
 
-getex_choices_keep : EachKeeps (λ (o : GetExChoices). RenewsLong o.renewal) getex_choices
-getex_choices_keep = (λ own o keeps q. tt, (λ own o keeps q. keeps.0, (λ own o keeps q. keeps.0, (λ own o keeps q. keeps.0, (λ own o keeps q. keeps.0, tt)))))
+-- no option of GETEX sets a time that isn't above 0
+getex_options_keep : EachKeeps (λ (o : GetExOptionsRead). RenewsLong o.renewal) getex_options
+getex_options_keep = (λ own o keeps q. tt, (λ own o keeps q. keeps.0, (λ own o keeps q. keeps.0, (λ own o keeps q. keeps.0, (λ own o keeps q. keeps.0, tt)))))
 
-getex_fits : (key : List ℕ) (o : GetExChoices) → RenewsLong o.renewal → (c : StringCommand) → getex_of key o ≡ Ok c → Fits c
+-- the time of a GETEX is above 0, if that of its options is
+getex_fits : (key : List ℕ) (o : GetExOptionsRead) → RenewsLong o.renewal → (c : StringCommand) → getex_of key o ≡ Ok c → Fits c
 getex_fits key o long c = if_has Fits o.twice (Err Syntax) (Ok (strings.GetEx key o.renewal)) (never Fits Syntax) (λ b. made Fits (strings.GetEx key o.renewal) b long) c
 
-expire_choices_keep : EachKeeps (λ (o : ExpireOptions). Unit {0}) expire_choices
-expire_choices_keep = (λ own o keeps q. tt, (λ own o keeps q. tt, (λ own o keeps q. tt, (λ own o keeps q. tt, tt))))
+-- nothing is asked of the options of EXPIRE
+expire_options_keep : EachKeeps (λ (o : ExpireOptions). Unit {0}) expire_options
+expire_options_keep = (λ own o keeps q. tt, (λ own o keeps q. tt, (λ own o keeps q. tt, (λ own o keeps q. tt, tt))))
 
-copy_choices_keep : EachKeeps (λ (o : CopyOptions). IsOneOf16 o.db) copy_choices
-copy_choices_keep = (λ own o keeps q. keeps.0, (λ own o keeps q. q, tt))
+-- no option of COPY names a database that isn't one of 16
+copy_options_keep : EachKeeps (λ (o : CopyOptions). IsOneOf16 o.db) copy_options
+copy_options_keep = (λ own o keeps q. keeps.0, (λ own o keeps q. q, tt))
 
-scan_choices_keep : EachKeeps (λ (o : ScanOptions). 0 < o.count) scan_choices
-scan_choices_keep = (λ own o keeps q. q, (λ own o keeps q. keeps.0, (λ own o keeps q. q, tt)))
+-- no option of SCAN sets a count of 0
+scan_options_keep : EachKeeps (λ (o : ScanOptions). 0 < o.count) scan_options
+scan_options_keep = (λ own o keeps q. q, (λ own o keeps q. keeps.0, (λ own o keeps q. q, tt)))
 
-flush_choices_keep : EachKeeps (λ (o : Unit {0}). Unit {0}) flush_choices
-flush_choices_keep = (λ own o keeps q. tt, (λ own o keeps q. tt, tt))
+-- nothing is asked of the options of FLUSHDB and FLUSHALL
+flush_options_keep : EachKeeps (λ (o : Unit {0}). Unit {0}) flush_options
+flush_options_keep = (λ own o keeps q. tt, (λ own o keeps q. tt, tt))
 
+-- whatever PING makes of words is a command in range
 ping_fits : (words : Words) (c : ConnectionCommand) → ping_words words ≡ Ok c → FitsConnection c
 ping_fits [] c e = made FitsConnection (connection.Ping None) c tt e
 ping_fits (text ∷ []) c e = made FitsConnection (connection.Ping (Some text)) c tt e
 ping_fits (text ∷ more ∷ words) c e = cc
 
+-- a DEBUG that is made of words asks for 1,000,000 steps at most
 debug_fits : (second n : List ℕ) (c : ConnectionCommand) → debug_of second n ≡ Ok c → FitsConnection c
 debug_fits second n c e =
     let rehash : ℕ → Result ConnectionCommand Refusal = λ k. Ok (connection.DebugRehash k) in
@@ -261,28 +297,35 @@ debug_fits second n c e =
     (if_has FitsConnection (bytes_eq (in_lower_case second) (codes "defrag")) (and_then (told Steps n) defrag) (Err Syntax)
     (then_told FitsConnection (told Steps n) defrag (λ k is b. made FitsConnection (connection.DebugDefrag k) b (told_keeps Steps n k is))) (never FitsConnection Syntax)) c e
 
+-- whatever a row makes of words has the property
 abbrev pub RowFits : {A : Type 0} → (A → Type 0) → Row A → Type 0
 RowFits {A} P row = (words : Words) (c : A) → row.read words ≡ Ok c → P c
 
+-- the rows of string commands make only commands whose pieces and times are in range
 string_rows_fit : AllByRecursion (RowFits Fits) string_rows
-string_rows_fit = (fixed_fits Fits (Plain ∷ []) (λ a. Ok (strings.Get a.0)) (λ a keeps c. made Fits (strings.Get a.0) c tt), (chosen_fits Fits (Plain ∷ Plain ∷ []) set_choices no_set_choices (λ a o. set_of a.0 a.1.0 o) (λ o. LastsLong o.lifetime) (set_choices_keep, tt) (λ a keeps o long c. set_fits a.0 a.1.0 o long c), (fixed_fits Fits (Plain ∷ Plain ∷ []) (λ a. Ok (strings.SetNx a.0 a.1.0)) (λ a keeps c. made Fits (strings.SetNx a.0 a.1.0) c tt), (fixed_fits Fits (Plain ∷ Span ∷ Plain ∷ []) (λ a. Ok (strings.SetEx a.0 a.1.0 a.1.1.0)) (λ a keeps c. made Fits (strings.SetEx a.0 a.1.0 a.1.1.0) c keeps.1.0), (fixed_fits Fits (Plain ∷ Span ∷ Plain ∷ []) (λ a. Ok (strings.PSetEx a.0 a.1.0 a.1.1.0)) (λ a keeps c. made Fits (strings.PSetEx a.0 a.1.0 a.1.1.0) c keeps.1.0), (fixed_fits Fits (Plain ∷ Plain ∷ []) (λ a. Ok (strings.GetSet a.0 a.1.0)) (λ a keeps c. made Fits (strings.GetSet a.0 a.1.0) c tt), (fixed_fits Fits (Plain ∷ []) (λ a. Ok (strings.GetDel a.0)) (λ a keeps c. made Fits (strings.GetDel a.0) c tt), (chosen_fits Fits (Plain ∷ []) getex_choices no_getex_choices (λ a o. getex_of a.0 o) (λ o. RenewsLong o.renewal) (getex_choices_keep, tt) (λ a keeps o long c. getex_fits a.0 o long c), (repeated_fits Fits [] 1 (λ a words. Ok (strings.MGet words)) (λ a words c. made Fits (strings.MGet words) c tt), (repeated_fits Fits [] 2 (λ a words. Ok (strings.MSet (pairs_of words))) (λ a words c. made Fits (strings.MSet (pairs_of words)) c tt), (repeated_fits Fits [] 2 (λ a words. Ok (strings.MSetNx (pairs_of words))) (λ a words c. made Fits (strings.MSetNx (pairs_of words)) c tt), (fixed_fits Fits (Plain ∷ Plain ∷ []) (λ a. Ok (strings.Append a.0 a.1.0)) (λ a keeps c. made Fits (strings.Append a.0 a.1.0) c tt), (fixed_fits Fits (Plain ∷ []) (λ a. Ok (strings.StrLen a.0)) (λ a keeps c. made Fits (strings.StrLen a.0) c tt), (fixed_fits Fits (Plain ∷ Whole ∷ Whole ∷ []) (λ a. Ok (strings.GetRange a.0 a.1.0 a.1.1.0)) (λ a keeps c. made Fits (strings.GetRange a.0 a.1.0 a.1.1.0) c tt), (fixed_fits Fits (Plain ∷ Offset ∷ Plain ∷ []) (λ a. set_range_of a.0 a.1.0 a.1.1.0) (λ a keeps c. range_fits a.0 a.1.0 a.1.1.0 c), (fixed_fits Fits (Plain ∷ []) (λ a. Ok (strings.Incr a.0)) (λ a keeps c. made Fits (strings.Incr a.0) c tt), (fixed_fits Fits (Plain ∷ []) (λ a. Ok (strings.Decr a.0)) (λ a keeps c. made Fits (strings.Decr a.0) c tt), (fixed_fits Fits (Plain ∷ Whole ∷ []) (λ a. Ok (strings.IncrBy a.0 a.1.0)) (λ a keeps c. made Fits (strings.IncrBy a.0 a.1.0) c tt), (fixed_fits Fits (Plain ∷ Whole ∷ []) (λ a. decrease_of a.0 a.1.0) (λ a keeps c. if_has Fits (is_i64 (neg_ℤ a.1.0)) (Ok (strings.DecrBy a.0 a.1.0)) (Err Overflow) (λ b. made Fits (strings.DecrBy a.0 a.1.0) b tt) (never Fits Overflow) c), tt)))))))))))))))))))
+string_rows_fit = (fixed_fits Fits (Plain ∷ []) (λ a. Ok (strings.Get a.0)) (λ a keeps c. made Fits (strings.Get a.0) c tt), (with_options_fits Fits (Plain ∷ Plain ∷ []) set_options no_set_options (λ a o. set_of a.0 a.1.0 o) (λ o. LastsLong o.lifetime) (set_options_keep, tt) (λ a keeps o long c. set_fits a.0 a.1.0 o long c), (fixed_fits Fits (Plain ∷ Plain ∷ []) (λ a. Ok (strings.SetNx a.0 a.1.0)) (λ a keeps c. made Fits (strings.SetNx a.0 a.1.0) c tt), (fixed_fits Fits (Plain ∷ Span ∷ Plain ∷ []) (λ a. Ok (strings.SetEx a.0 a.1.0 a.1.1.0)) (λ a keeps c. made Fits (strings.SetEx a.0 a.1.0 a.1.1.0) c keeps.1.0), (fixed_fits Fits (Plain ∷ Span ∷ Plain ∷ []) (λ a. Ok (strings.PSetEx a.0 a.1.0 a.1.1.0)) (λ a keeps c. made Fits (strings.PSetEx a.0 a.1.0 a.1.1.0) c keeps.1.0), (fixed_fits Fits (Plain ∷ Plain ∷ []) (λ a. Ok (strings.GetSet a.0 a.1.0)) (λ a keeps c. made Fits (strings.GetSet a.0 a.1.0) c tt), (fixed_fits Fits (Plain ∷ []) (λ a. Ok (strings.GetDel a.0)) (λ a keeps c. made Fits (strings.GetDel a.0) c tt), (with_options_fits Fits (Plain ∷ []) getex_options no_getex_options (λ a o. getex_of a.0 o) (λ o. RenewsLong o.renewal) (getex_options_keep, tt) (λ a keeps o long c. getex_fits a.0 o long c), (repeated_fits Fits [] 1 (λ a words. Ok (strings.MGet words)) (λ a words c. made Fits (strings.MGet words) c tt), (repeated_fits Fits [] 2 (λ a words. Ok (strings.MSet (pairs_of words))) (λ a words c. made Fits (strings.MSet (pairs_of words)) c tt), (repeated_fits Fits [] 2 (λ a words. Ok (strings.MSetNx (pairs_of words))) (λ a words c. made Fits (strings.MSetNx (pairs_of words)) c tt), (fixed_fits Fits (Plain ∷ Plain ∷ []) (λ a. Ok (strings.Append a.0 a.1.0)) (λ a keeps c. made Fits (strings.Append a.0 a.1.0) c tt), (fixed_fits Fits (Plain ∷ []) (λ a. Ok (strings.StrLen a.0)) (λ a keeps c. made Fits (strings.StrLen a.0) c tt), (fixed_fits Fits (Plain ∷ Whole ∷ Whole ∷ []) (λ a. Ok (strings.GetRange a.0 a.1.0 a.1.1.0)) (λ a keeps c. made Fits (strings.GetRange a.0 a.1.0 a.1.1.0) c tt), (fixed_fits Fits (Plain ∷ Offset ∷ Plain ∷ []) (λ a. set_range_of a.0 a.1.0 a.1.1.0) (λ a keeps c. range_fits a.0 a.1.0 a.1.1.0 c), (fixed_fits Fits (Plain ∷ []) (λ a. Ok (strings.Incr a.0)) (λ a keeps c. made Fits (strings.Incr a.0) c tt), (fixed_fits Fits (Plain ∷ []) (λ a. Ok (strings.Decr a.0)) (λ a keeps c. made Fits (strings.Decr a.0) c tt), (fixed_fits Fits (Plain ∷ Whole ∷ []) (λ a. Ok (strings.IncrBy a.0 a.1.0)) (λ a keeps c. made Fits (strings.IncrBy a.0 a.1.0) c tt), (fixed_fits Fits (Plain ∷ Whole ∷ []) (λ a. decrease_of a.0 a.1.0) (λ a keeps c. if_has Fits (is_i64 (neg_ℤ a.1.0)) (Ok (strings.DecrBy a.0 a.1.0)) (Err Overflow) (λ b. made Fits (strings.DecrBy a.0 a.1.0) b tt) (never Fits Overflow) c), tt)))))))))))))))))))
 
+-- the rows of commands on keys make only commands whose databases, counts and cursors are in range
 key_rows_fit : AllByRecursion (RowFits FitsKeys) key_rows
-key_rows_fit = (repeated_fits FitsKeys [] 1 (λ a words. Ok (keys.Del words)) (λ a words c. made FitsKeys (keys.Del words) c tt), (repeated_fits FitsKeys [] 1 (λ a words. Ok (keys.Unlink words)) (λ a words c. made FitsKeys (keys.Unlink words) c tt), (repeated_fits FitsKeys [] 1 (λ a words. Ok (keys.Exists words)) (λ a words c. made FitsKeys (keys.Exists words) c tt), (repeated_fits FitsKeys [] 1 (λ a words. Ok (keys.Touch words)) (λ a words c. made FitsKeys (keys.Touch words) c tt), (fixed_fits FitsKeys (Plain ∷ []) (λ a. Ok (keys.TypeOf a.0)) (λ a keeps c. made FitsKeys (keys.TypeOf a.0) c tt), (chosen_fits FitsKeys (Plain ∷ Whole ∷ []) expire_choices no_expire_options (λ a o. expire_of keys.Expire a.0 a.1.0 o) (λ o. Unit {0}) (expire_choices_keep, tt) (λ a keeps o long c. if_has FitsKeys (clash o) (Err Syntax) (Ok (keys.Expire a.0 a.1.0 o)) (never FitsKeys Syntax) (λ b. made FitsKeys (keys.Expire a.0 a.1.0 o) b tt) c), (chosen_fits FitsKeys (Plain ∷ Whole ∷ []) expire_choices no_expire_options (λ a o. expire_of keys.PExpire a.0 a.1.0 o) (λ o. Unit {0}) (expire_choices_keep, tt) (λ a keeps o long c. if_has FitsKeys (clash o) (Err Syntax) (Ok (keys.PExpire a.0 a.1.0 o)) (never FitsKeys Syntax) (λ b. made FitsKeys (keys.PExpire a.0 a.1.0 o) b tt) c), (chosen_fits FitsKeys (Plain ∷ Whole ∷ []) expire_choices no_expire_options (λ a o. expire_of keys.ExpireAt a.0 a.1.0 o) (λ o. Unit {0}) (expire_choices_keep, tt) (λ a keeps o long c. if_has FitsKeys (clash o) (Err Syntax) (Ok (keys.ExpireAt a.0 a.1.0 o)) (never FitsKeys Syntax) (λ b. made FitsKeys (keys.ExpireAt a.0 a.1.0 o) b tt) c), (chosen_fits FitsKeys (Plain ∷ Whole ∷ []) expire_choices no_expire_options (λ a o. expire_of keys.PExpireAt a.0 a.1.0 o) (λ o. Unit {0}) (expire_choices_keep, tt) (λ a keeps o long c. if_has FitsKeys (clash o) (Err Syntax) (Ok (keys.PExpireAt a.0 a.1.0 o)) (never FitsKeys Syntax) (λ b. made FitsKeys (keys.PExpireAt a.0 a.1.0 o) b tt) c), (fixed_fits FitsKeys (Plain ∷ []) (λ a. Ok (keys.Ttl a.0)) (λ a keeps c. made FitsKeys (keys.Ttl a.0) c tt), (fixed_fits FitsKeys (Plain ∷ []) (λ a. Ok (keys.PTtl a.0)) (λ a keeps c. made FitsKeys (keys.PTtl a.0) c tt), (fixed_fits FitsKeys (Plain ∷ []) (λ a. Ok (keys.ExpireTime a.0)) (λ a keeps c. made FitsKeys (keys.ExpireTime a.0) c tt), (fixed_fits FitsKeys (Plain ∷ []) (λ a. Ok (keys.PExpireTime a.0)) (λ a keeps c. made FitsKeys (keys.PExpireTime a.0) c tt), (fixed_fits FitsKeys (Plain ∷ []) (λ a. Ok (keys.Persist a.0)) (λ a keeps c. made FitsKeys (keys.Persist a.0) c tt), (fixed_fits FitsKeys (Plain ∷ Plain ∷ []) (λ a. Ok (keys.Rename a.0 a.1.0)) (λ a keeps c. made FitsKeys (keys.Rename a.0 a.1.0) c tt), (fixed_fits FitsKeys (Plain ∷ Plain ∷ []) (λ a. Ok (keys.RenameNx a.0 a.1.0)) (λ a keeps c. made FitsKeys (keys.RenameNx a.0 a.1.0) c tt), (chosen_fits FitsKeys (Plain ∷ Plain ∷ []) copy_choices no_copy_options (λ a o. Ok (keys.Copy a.0 a.1.0 o)) (λ o. IsOneOf16 o.db) (copy_choices_keep, tt) (λ a keeps o within c. made FitsKeys (keys.Copy a.0 a.1.0 o) c within), (fixed_fits FitsKeys (Plain ∷ Database ∷ []) (λ a. Ok (keys.MoveKey a.0 a.1.0)) (λ a keeps c. made FitsKeys (keys.MoveKey a.0 a.1.0) c keeps.1.0), (fixed_fits FitsKeys [] (λ a. Ok keys.RandomKey) (λ a keeps c. made FitsKeys keys.RandomKey c tt), (fixed_fits FitsKeys (Plain ∷ Plain ∷ []) (λ a. object_of a.0 a.1.0) (λ a keeps c. if_has FitsKeys (bytes_eq (in_lower_case a.0) (codes "encoding")) (Ok (keys.ObjectEncoding a.1.0)) (Err Syntax) (λ b. made FitsKeys (keys.ObjectEncoding a.1.0) b tt) (never FitsKeys Syntax) c), (fixed_fits FitsKeys (Plain ∷ []) (λ a. Ok (keys.KeysLike a.0)) (λ a keeps c. made FitsKeys (keys.KeysLike a.0) c tt), (chosen_fits FitsKeys (Cursor ∷ []) scan_choices no_scan_options (λ a o. Ok (keys.Scan a.0 o)) (λ o. 0 < o.count) (scan_choices_keep, omega arith) (λ a keeps o above c. made FitsKeys (keys.Scan a.0 o) c (above, keeps.0)), tt))))))))))))))))))))))
+key_rows_fit = (repeated_fits FitsKeys [] 1 (λ a words. Ok (keys.Del words)) (λ a words c. made FitsKeys (keys.Del words) c tt), (repeated_fits FitsKeys [] 1 (λ a words. Ok (keys.Unlink words)) (λ a words c. made FitsKeys (keys.Unlink words) c tt), (repeated_fits FitsKeys [] 1 (λ a words. Ok (keys.Exists words)) (λ a words c. made FitsKeys (keys.Exists words) c tt), (repeated_fits FitsKeys [] 1 (λ a words. Ok (keys.Touch words)) (λ a words c. made FitsKeys (keys.Touch words) c tt), (fixed_fits FitsKeys (Plain ∷ []) (λ a. Ok (keys.TypeOf a.0)) (λ a keeps c. made FitsKeys (keys.TypeOf a.0) c tt), (with_options_fits FitsKeys (Plain ∷ Whole ∷ []) expire_options no_expire_options (λ a o. expire_of keys.Expire a.0 a.1.0 o) (λ o. Unit {0}) (expire_options_keep, tt) (λ a keeps o long c. if_has FitsKeys (clash o) (Err Syntax) (Ok (keys.Expire a.0 a.1.0 o)) (never FitsKeys Syntax) (λ b. made FitsKeys (keys.Expire a.0 a.1.0 o) b tt) c), (with_options_fits FitsKeys (Plain ∷ Whole ∷ []) expire_options no_expire_options (λ a o. expire_of keys.PExpire a.0 a.1.0 o) (λ o. Unit {0}) (expire_options_keep, tt) (λ a keeps o long c. if_has FitsKeys (clash o) (Err Syntax) (Ok (keys.PExpire a.0 a.1.0 o)) (never FitsKeys Syntax) (λ b. made FitsKeys (keys.PExpire a.0 a.1.0 o) b tt) c), (with_options_fits FitsKeys (Plain ∷ Whole ∷ []) expire_options no_expire_options (λ a o. expire_of keys.ExpireAt a.0 a.1.0 o) (λ o. Unit {0}) (expire_options_keep, tt) (λ a keeps o long c. if_has FitsKeys (clash o) (Err Syntax) (Ok (keys.ExpireAt a.0 a.1.0 o)) (never FitsKeys Syntax) (λ b. made FitsKeys (keys.ExpireAt a.0 a.1.0 o) b tt) c), (with_options_fits FitsKeys (Plain ∷ Whole ∷ []) expire_options no_expire_options (λ a o. expire_of keys.PExpireAt a.0 a.1.0 o) (λ o. Unit {0}) (expire_options_keep, tt) (λ a keeps o long c. if_has FitsKeys (clash o) (Err Syntax) (Ok (keys.PExpireAt a.0 a.1.0 o)) (never FitsKeys Syntax) (λ b. made FitsKeys (keys.PExpireAt a.0 a.1.0 o) b tt) c), (fixed_fits FitsKeys (Plain ∷ []) (λ a. Ok (keys.Ttl a.0)) (λ a keeps c. made FitsKeys (keys.Ttl a.0) c tt), (fixed_fits FitsKeys (Plain ∷ []) (λ a. Ok (keys.PTtl a.0)) (λ a keeps c. made FitsKeys (keys.PTtl a.0) c tt), (fixed_fits FitsKeys (Plain ∷ []) (λ a. Ok (keys.ExpireTime a.0)) (λ a keeps c. made FitsKeys (keys.ExpireTime a.0) c tt), (fixed_fits FitsKeys (Plain ∷ []) (λ a. Ok (keys.PExpireTime a.0)) (λ a keeps c. made FitsKeys (keys.PExpireTime a.0) c tt), (fixed_fits FitsKeys (Plain ∷ []) (λ a. Ok (keys.Persist a.0)) (λ a keeps c. made FitsKeys (keys.Persist a.0) c tt), (fixed_fits FitsKeys (Plain ∷ Plain ∷ []) (λ a. Ok (keys.Rename a.0 a.1.0)) (λ a keeps c. made FitsKeys (keys.Rename a.0 a.1.0) c tt), (fixed_fits FitsKeys (Plain ∷ Plain ∷ []) (λ a. Ok (keys.RenameNx a.0 a.1.0)) (λ a keeps c. made FitsKeys (keys.RenameNx a.0 a.1.0) c tt), (with_options_fits FitsKeys (Plain ∷ Plain ∷ []) copy_options no_copy_options (λ a o. Ok (keys.Copy a.0 a.1.0 o)) (λ o. IsOneOf16 o.db) (copy_options_keep, tt) (λ a keeps o within c. made FitsKeys (keys.Copy a.0 a.1.0 o) c within), (fixed_fits FitsKeys (Plain ∷ Database ∷ []) (λ a. Ok (keys.MoveKey a.0 a.1.0)) (λ a keeps c. made FitsKeys (keys.MoveKey a.0 a.1.0) c keeps.1.0), (fixed_fits FitsKeys [] (λ a. Ok keys.RandomKey) (λ a keeps c. made FitsKeys keys.RandomKey c tt), (fixed_fits FitsKeys (Plain ∷ Plain ∷ []) (λ a. object_of a.0 a.1.0) (λ a keeps c. if_has FitsKeys (bytes_eq (in_lower_case a.0) (codes "encoding")) (Ok (keys.ObjectEncoding a.1.0)) (Err Syntax) (λ b. made FitsKeys (keys.ObjectEncoding a.1.0) b tt) (never FitsKeys Syntax) c), (fixed_fits FitsKeys (Plain ∷ []) (λ a. Ok (keys.KeysLike a.0)) (λ a keeps c. made FitsKeys (keys.KeysLike a.0) c tt), (with_options_fits FitsKeys (Cursor ∷ []) scan_options no_scan_options (λ a o. Ok (keys.Scan a.0 o)) (λ o. 0 < o.count) (scan_options_keep, omega arith) (λ a keeps o above c. made FitsKeys (keys.Scan a.0 o) c (above, keeps.0)), tt))))))))))))))))))))))
 
+-- the rows of commands on the connection make only commands whose databases and steps are in range
 connection_rows_fit : AllByRecursion (RowFits FitsConnection) connection_rows
-connection_rows_fit = (ping_fits, (fixed_fits FitsConnection (Plain ∷ []) (λ a. Ok (connection.Echo a.0)) (λ a keeps c. made FitsConnection (connection.Echo a.0) c tt), ((λ words c. made FitsConnection connection.Quit c tt), (fixed_fits FitsConnection (Database ∷ []) (λ a. Ok (connection.Select a.0)) (λ a keeps c. made FitsConnection (connection.Select a.0) c keeps.0), (fixed_fits FitsConnection [] (λ a. Ok connection.DbSize) (λ a keeps c. made FitsConnection connection.DbSize c tt), (chosen_fits FitsConnection [] flush_choices tt (λ a o. Ok connection.FlushDb) (λ o. Unit {0}) (flush_choices_keep, tt) (λ a keeps o long c. made FitsConnection connection.FlushDb c tt), (chosen_fits FitsConnection [] flush_choices tt (λ a o. Ok connection.FlushAll) (λ o. Unit {0}) (flush_choices_keep, tt) (λ a keeps o long c. made FitsConnection connection.FlushAll c tt), (fixed_fits FitsConnection (Plain ∷ []) (λ a. memory_of a.0) (λ a keeps c. if_has FitsConnection (bytes_eq (in_lower_case a.0) (codes "slabs")) (Ok connection.MemorySlabs) (Err Syntax) (λ b. made FitsConnection connection.MemorySlabs b tt) (never FitsConnection Syntax) c), (fixed_fits FitsConnection (Plain ∷ Plain ∷ []) (λ a. debug_of a.0 a.1.0) (λ a keeps c. debug_fits a.0 a.1.0 c), tt)))))))))
+connection_rows_fit = (ping_fits, (fixed_fits FitsConnection (Plain ∷ []) (λ a. Ok (connection.Echo a.0)) (λ a keeps c. made FitsConnection (connection.Echo a.0) c tt), ((λ words c. made FitsConnection connection.Quit c tt), (fixed_fits FitsConnection (Database ∷ []) (λ a. Ok (connection.Select a.0)) (λ a keeps c. made FitsConnection (connection.Select a.0) c keeps.0), (fixed_fits FitsConnection [] (λ a. Ok connection.DbSize) (λ a keeps c. made FitsConnection connection.DbSize c tt), (with_options_fits FitsConnection [] flush_options tt (λ a o. Ok connection.FlushDb) (λ o. Unit {0}) (flush_options_keep, tt) (λ a keeps o long c. made FitsConnection connection.FlushDb c tt), (with_options_fits FitsConnection [] flush_options tt (λ a o. Ok connection.FlushAll) (λ o. Unit {0}) (flush_options_keep, tt) (λ a keeps o long c. made FitsConnection connection.FlushAll c tt), (fixed_fits FitsConnection (Plain ∷ []) (λ a. memory_of a.0) (λ a keeps c. if_has FitsConnection (bytes_eq (in_lower_case a.0) (codes "slabs")) (Ok connection.MemorySlabs) (Err Syntax) (λ b. made FitsConnection connection.MemorySlabs b tt) (never FitsConnection Syntax) c), (fixed_fits FitsConnection (Plain ∷ Plain ∷ []) (λ a. debug_of a.0 a.1.0) (λ a keeps c. debug_fits a.0 a.1.0 c), tt)))))))))
 
+-- a family's rows and the others behind them make only commands in range, if each of both parts does
 family_fits : {A : Type 0} (family : A → Command) (P : A → Type 0) → ((a : A) → P a → FitsCommand (family a)) → (own : List (Row A)) → AllByRecursion (RowFits P) own → (others : List (Row Command)) → AllByRecursion (RowFits FitsCommand) others → AllByRecursion (RowFits FitsCommand) (map (of_family family) own ++ others)
 family_fits family P fits [] h others k = k
 family_fits family P fits (row ∷ own) h others k =
     (λ words c e. then_told FitsCommand (row.read words) (λ command. Ok (family command)) (λ a is b f. made FitsCommand (family a) b (fits a (h.0 words a is)) f) c e, family_fits family P fits own h.1 others k)
 
+-- a family's rows make only commands in range among those of all families, if they do in their own
 family_alone : {A : Type 0} (family : A → Command) (P : A → Type 0) → ((a : A) → P a → FitsCommand (family a)) → (own : List (Row A)) → AllByRecursion (RowFits P) own → AllByRecursion (RowFits FitsCommand) (map (of_family family) own)
 family_alone family P fits [] h = tt
 family_alone family P fits (row ∷ own) h =
     (λ words c e. then_told FitsCommand (row.read words) (λ command. Ok (family command)) (λ a is b f. made FitsCommand (family a) b (fits a (h.0 words a is)) f) c e, family_alone family P fits own h.1)
 
+-- the rows of all commands make only commands whose numbers and pieces are in range
 rows_fit : AllByRecursion (RowFits FitsCommand) rows
 rows_fit =
     let last = map (of_family Connection) connection_rows in
@@ -290,6 +333,7 @@ rows_fit =
     (family_fits Keys FitsKeys (λ a h. h) key_rows key_rows_fit last
     (family_alone Connection FitsConnection (λ a h. h) connection_rows connection_rows_fit))
 
+-- what the row of a name makes of words is in range, if all rows make only commands that are
 found_fits : (all : List (Row Command)) → AllByRecursion (RowFits FitsCommand) all → (name : List ℕ) (words : Words) (c : Command) → read_by all name words ≡ Ok c → FitsCommand c
 found_fits [] h name words c e = cc
 found_fits (row ∷ all) h name words c e = if_has FitsCommand (bytes_eq name row.name) (row.read words) (read_by all name words) (λ b f. h.0 words b f) (λ b f. found_fits all h.1 name words b f) c e
@@ -299,5 +343,6 @@ pub command_fits : (words : Words) (c : Command) → meant words ≡ Ok c → Fi
 command_fits [] c e = cc
 command_fits (name ∷ words) c e = found_fits rows rows_fit (in_lower_case name) words c e
 
+-- a string command that words mean has its times above 0 and its piece within the greatest length
 pub meant_fits : (words : Words) (c : StringCommand) → meant words ≡ Ok (Strings c) → Fits c
 meant_fits words c e = command_fits words (Strings c) e

@@ -2,7 +2,7 @@
 -- "Server management").
 use Rattle.std.specs.Prelude.{List, [], ◌∷◌, None, Some, Result, Ok, Err, codes, ℕ, bytes_eq, if◌then◌else◌}
 use Rattle.plain_world.specs.Words.{Words, in_lower_case}
-use Rattle.plain_model.specs.Shapes.{Plain, Database, Steps, told, and_then, Row, fixed, Choice, with_choices}
+use Rattle.plain_model.specs.Shapes.{Plain, Database, Steps, told, and_then, Row, fixed, NamedOption, with_options}
 use Rattle.plain_model.specs.declared.connection.ConnectionCommand.{ConnectionCommand}
 use Rattle.plain_model.specs.declared.connection.ConnectionCommand.TheVariants as connection
 use Rattle.plain_world.specs.declared.refusal.Refusal.{Refusal}
@@ -18,12 +18,12 @@ ping_words (text ∷ []) = Ok (connection.Ping (Some text))
 ping_words (text ∷ more ∷ words) = Err WrongNumberOfArguments
 
 -- ASYNC and SYNC set nothing
-abbrev pub flush_choices : List (Choice (Unit {0}))
-flush_choices = record { name = codes "async"; kinds = []; sets = λ own c. c }
+abbrev pub flush_options : List (NamedOption (Unit {0}))
+flush_options = record { name = codes "async"; kinds = []; sets = λ own c. c }
     ∷ record { name = codes "sync"; kinds = []; sets = λ own c. c } ∷ []
 
 abbrev pub flush_words : ConnectionCommand → Words → Read
-flush_words command = with_choices [] flush_choices tt (λ a c. Ok command)
+flush_words command = with_options [] flush_options tt (λ a c. Ok command)
 
 -- the second word of MEMORY is SLABS
 abbrev pub memory_of : List ℕ → Read

@@ -1,7 +1,7 @@
 -- What the words of commands on keys mean (Redis command reference, "Generic").
 use Rattle.std.specs.Prelude.{ℕ, List, [], ◌∷◌, ℤ, None, Some, Bool, true, false, ◌&&◌, ◌||◌, Result, Ok, Err, codes, bytes_eq, if◌then◌else◌}
 use Rattle.plain_world.specs.Words.{Words, in_lower_case}
-use Rattle.plain_model.specs.Shapes.{Plain, Whole, Database, Count, Cursor, Row, fixed, repeated, Choice, with_choices}
+use Rattle.plain_model.specs.Shapes.{Plain, Whole, Database, Count, Cursor, Row, fixed, repeated, NamedOption, with_options}
 use Rattle.plain_model.specs.declared.keys.KeyCommand.{KeyCommand}
 use Rattle.plain_model.specs.declared.keys.KeyCommand.TheVariants as keys
 use Rattle.plain_model.specs.declared.keys.ExpireOptions.{ExpireOptions}
@@ -13,8 +13,8 @@ use Rattle.plain_world.specs.declared.refusal.Refusal.TheVariants.{Syntax}
 abbrev pub Read : Type 0
 Read = Result KeyCommand Refusal
 
-abbrev pub expire_choices : List (Choice ExpireOptions)
-expire_choices =
+abbrev pub expire_options : List (NamedOption ExpireOptions)
+expire_options =
     record { name = codes "nx"; kinds = []; sets = λ own o. record { nx = true; xx = o.xx; gt = o.gt; lt = o.lt } }
     ∷ record { name = codes "xx"; kinds = []; sets = λ own o. record { nx = o.nx; xx = true; gt = o.gt; lt = o.lt } }
     ∷ record { name = codes "gt"; kinds = []; sets = λ own o. record { nx = o.nx; xx = o.xx; gt = true; lt = o.lt } }
@@ -35,10 +35,10 @@ expire_of make key n options = if clash options then Err Syntax else Ok (make ke
 
 abbrev pub expire_words : (List ℕ → ℤ → ExpireOptions → KeyCommand) → Words → Read
 expire_words make =
-    with_choices (Plain ∷ Whole ∷ []) expire_choices no_expire_options (λ a options. expire_of make a.0 a.1.0 options)
+    with_options (Plain ∷ Whole ∷ []) expire_options no_expire_options (λ a options. expire_of make a.0 a.1.0 options)
 
-abbrev pub copy_choices : List (Choice CopyOptions)
-copy_choices =
+abbrev pub copy_options : List (NamedOption CopyOptions)
+copy_options =
     record { name = codes "db"; kinds = Database ∷ []; sets = λ own o. record { db = Some own.0; replace = o.replace } }
     ∷ record { name = codes "replace"; kinds = []; sets = λ own o. record { db = o.db; replace = true } }
     ∷ []
@@ -47,8 +47,8 @@ copy_choices =
 abbrev pub no_copy_options : CopyOptions
 no_copy_options = record { db = None; replace = false }
 
-abbrev pub scan_choices : List (Choice ScanOptions)
-scan_choices =
+abbrev pub scan_options : List (NamedOption ScanOptions)
+scan_options =
     record {
       name = codes "match";
       kinds = Plain
@@ -98,7 +98,7 @@ key_rows =
     ∷ record { name = codes "renamenx"; read = fixed (Plain ∷ Plain ∷ []) (λ a. Ok (keys.RenameNx a.0 a.1.0)) }
     ∷ record {
       name = codes "copy";
-      read = with_choices (Plain ∷ Plain ∷ []) copy_choices no_copy_options
+      read = with_options (Plain ∷ Plain ∷ []) copy_options no_copy_options
           (λ a options. Ok (keys.Copy a.0 a.1.0 options));
     }
     ∷ record { name = codes "move"; read = fixed (Plain ∷ Database ∷ []) (λ a. Ok (keys.MoveKey a.0 a.1.0)) }
@@ -107,6 +107,6 @@ key_rows =
     ∷ record { name = codes "keys"; read = fixed (Plain ∷ []) (λ a. Ok (keys.KeysLike a.0)) }
     ∷ record {
       name = codes "scan";
-      read = with_choices (Cursor ∷ []) scan_choices no_scan_options (λ a options. Ok (keys.Scan a.0 options));
+      read = with_options (Cursor ∷ []) scan_options no_scan_options (λ a options. Ok (keys.Scan a.0 options));
     }
     ∷ []

@@ -38,10 +38,12 @@ pub record IsAsked (command : Command) : Type 0 where
   pub request : IsRequest words
   pub means : meant words ≡ Ok command
 
+-- QUIT ends the run (Redis command reference, "QUIT")
 abbrev pub is_quit : Command → Bool
 is_quit (Connection Quit) = true
 is_quit other = false
 
+-- what was asked is QUIT
 abbrev pub quits : Result Command Refusal → Bool
 quits (Ok command) = is_quit command
 quits (Err refusal) = false

@@ -1,7 +1,7 @@
 -- What a list of requests may be answered.
-use Rattle.std.specs.Prelude.{◌≡◌, ℕ, ◌-◌, ◌^◌, List, [], ◌∷◌, map, max, min}
+use Rattle.std.specs.Prelude.{◌≡◌, ℕ, List, [], ◌∷◌, map, max, min}
 use Rattle.plain_world.specs.Words.{Words}
-use Rattle.plain_world.specs.Worlds.{World, live}
+use Rattle.plain_world.specs.Worlds.{World, live, latest}
 use Rattle.plain_model.specs.Steps.{step}
 use Rattle.plain_world.specs.declared.reply.Part.{Part}
 
@@ -28,10 +28,6 @@ run seed old [] new = new ≡ old
 run seed old (turn ∷ turns) new =
     (turn.seen ≡ live old turn.call.moment) × (mid : World)
     × step seed old turn.call.moment turn.call.words turn.reply mid × run seed mid turns new
-
--- the greatest moment in milliseconds
-abbrev pub latest : ℕ
-latest = 2 ^ 63 - 1
 
 -- a moment is the greatest of the clock's answers so far, each cut at the greatest moment
 abbrev pub moment_after : ℕ → ℕ → ℕ

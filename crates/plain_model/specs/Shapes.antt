@@ -119,39 +119,39 @@ repeated kinds size make words =
     else Err WrongNumberOfArguments
 
 -- an option: its name in lower case, its own words, and what it sets
-pub record Choice (A : Type 0) : Type 0 where
+pub record NamedOption (A : Type 0) : Type 0 where
   pub name : List ℕ
   pub kinds : List Kind
   pub sets : AllTold kinds → A → A
 
 module _ {A : Type 0} where
   -- the option of this name
-  abbrev pub choice_of : List (Choice A) → List ℕ → Option (Choice A)
-  choice_of [] name = None
-  choice_of (choice ∷ choices) name = if bytes_eq name choice.name then Some choice else choice_of choices name
+  abbrev pub option_of : List (NamedOption A) → List ℕ → Option (NamedOption A)
+  option_of [] name = None
+  option_of (option ∷ named) name = if bytes_eq name option.name then Some option else option_of named name
 
   -- an option is read: what is set then, and how many words are its own
-  abbrev pub choose : A → Option (Choice A) → Words → Result (A × ℕ) Refusal
-  choose before None words = Err Syntax
-  choose before (Some choice) words =
-      if nat_le (length choice.kinds) (length words)
-      then and_then (all_told choice.kinds words) (λ own. Ok (choice.sets own before, length choice.kinds))
+  abbrev pub read_option : A → Option (NamedOption A) → Words → Result (A × ℕ) Refusal
+  read_option before None words = Err Syntax
+  read_option before (Some option) words =
+      if nat_le (length option.kinds) (length words)
+      then and_then (all_told option.kinds words) (λ own. Ok (option.sets own before, length option.kinds))
       else Err Syntax
 
   -- Options in any order, where so many words are still those of the one before. Of a repeated one the last counts; an
   -- unknown one, and one without all its words, breaks the syntax.
-  abbrev pub chosen : List (Choice A) → A → ℕ → Words → Result A Refusal
-  chosen choices before skip [] = Ok before
-  chosen choices before (suc skip) (word ∷ words) = chosen choices before skip words
-  chosen choices before zero (word ∷ words) =
-      and_then (choose before (choice_of choices (in_lower_case word)) words)
-      (λ read. chosen choices read.0 read.1 words)
+  abbrev pub options_read : List (NamedOption A) → A → ℕ → Words → Result A Refusal
+  options_read named before skip [] = Ok before
+  options_read named before (suc skip) (word ∷ words) = options_read named before skip words
+  options_read named before zero (word ∷ words) =
+      and_then (read_option before (option_of named (in_lower_case word)) words)
+      (λ read. options_read named read.0 read.1 words)
 
   -- a row of these words, and then options
-  abbrev pub with_choices : {B : Type 0} (kinds : List Kind) → List (Choice A) → A
+  abbrev pub with_options : {B : Type 0} (kinds : List Kind) → List (NamedOption A) → A
       → (AllTold kinds → A → Result B Refusal) → Words → Result B Refusal
-  with_choices kinds choices none make words =
+  with_options kinds named none make words =
       if nat_le (length kinds) (length words)
       then and_then (all_told kinds words)
-      (λ first. and_then (chosen choices none 0 (drop (length kinds) words)) (make first))
+      (λ first. and_then (options_read named none 0 (drop (length kinds) words)) (make first))
       else Err WrongNumberOfArguments

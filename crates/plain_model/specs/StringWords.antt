@@ -2,9 +2,9 @@
 use Rattle.std.specs.Prelude.{ℕ, ◌+◌, ◌==◌, List, [], ◌∷◌, length, ℤ, neg_ℤ, Bool, true, false, ◌&&◌, ◌||◌, nat_le, Result, Ok, Err, codes, if◌then◌else◌}
 use Rattle.plain_world.specs.Words.{Words, longest}
 use Rattle.int_text.specs.Decimal.{is_i64}
-use Rattle.plain_model.specs.Shapes.{Plain, Whole, Offset, Span, Row, fixed, repeated, Choice, with_choices}
-use Rattle.plain_model.specs.declared.command.SetChoices.{SetChoices}
-use Rattle.plain_model.specs.declared.command.GetExChoices.{GetExChoices}
+use Rattle.plain_model.specs.Shapes.{Plain, Whole, Offset, Span, Row, fixed, repeated, NamedOption, with_options}
+use Rattle.plain_model.specs.declared.command.SetOptionsRead.{SetOptionsRead}
+use Rattle.plain_model.specs.declared.command.GetExOptionsRead.{GetExOptionsRead}
 use Rattle.plain_model.specs.declared.command.StringCommand.{StringCommand}
 use Rattle.plain_model.specs.declared.command.StringCommand.TheVariants as strings
 use Rattle.plain_model.specs.declared.command.Condition.TheVariants.{Always, IfMissing, IfThere}
@@ -30,16 +30,16 @@ pairs_of (key ∷ []) = []
 pairs_of (key ∷ value ∷ words) = (key, value) ∷ pairs_of words
 
 -- an option that gives a time, which is above 0
-abbrev pub time_choice : {A : Type 0} → List ℕ → TimeUnit → TimeOrigin → (Time → A → A) → Choice A
-time_choice name unit from until =
+abbrev pub time_option : {A : Type 0} → List ℕ → TimeUnit → TimeOrigin → (Time → A → A) → NamedOption A
+time_option name unit from until =
     record { name = name; kinds = Span ∷ []; sets = λ own c. until (record { unit = unit; from = from; n = own.0 }) c }
 
-abbrev pub time_choices : {A : Type 0} → (Time → A → A) → List (Choice A)
-time_choices until =
-    time_choice (codes "ex") Seconds Now until
-    ∷ time_choice (codes "px") Milliseconds Now until
-    ∷ time_choice (codes "exat") Seconds Epoch until
-    ∷ time_choice (codes "pxat") Milliseconds Epoch until
+abbrev pub time_options : {A : Type 0} → (Time → A → A) → List (NamedOption A)
+time_options until =
+    time_option (codes "ex") Seconds Now until
+    ∷ time_option (codes "px") Milliseconds Now until
+    ∷ time_option (codes "exat") Seconds Epoch until
+    ∷ time_option (codes "pxat") Milliseconds Epoch until
     ∷ []
 
 abbrev pub is_given : Lifetime → Bool
@@ -48,12 +48,12 @@ is_given lifetimes.Kept = true
 is_given (lifetimes.Until time) = true
 
 -- one more option gives a lifetime
-abbrev pub lasting : Lifetime → SetChoices → SetChoices
+abbrev pub lasting : Lifetime → SetOptionsRead → SetOptionsRead
 lasting lifetime c =
     record { nx = c.nx; xx = c.xx; get = c.get; lifetime = lifetime; twice = c.twice || is_given c.lifetime }
 
-abbrev pub set_choices : List (Choice SetChoices)
-set_choices =
+abbrev pub set_options : List (NamedOption SetOptionsRead)
+set_options =
     record {
       name = codes "nx";
       kinds = [];
@@ -73,13 +73,13 @@ set_choices =
           record { nx = c.nx; xx = c.xx; get = true; lifetime = c.lifetime; twice = c.twice };
     }
     ∷ record { name = codes "keepttl"; kinds = []; sets = λ own c. lasting lifetimes.Kept c }
-    ∷ time_choices (λ time. lasting (lifetimes.Until time))
+    ∷ time_options (λ time. lasting (lifetimes.Until time))
 
 -- none of the options of SET
-abbrev pub no_set_choices : SetChoices
-no_set_choices = record { nx = false; xx = false; get = false; lifetime = lifetimes.Forever; twice = false }
+abbrev pub no_set_options : SetOptionsRead
+no_set_options = record { nx = false; xx = false; get = false; lifetime = lifetimes.Forever; twice = false }
 
-abbrev pub set_of : List ℕ → List ℕ → SetChoices → Read
+abbrev pub set_of : List ℕ → List ℕ → SetOptionsRead → Read
 set_of key value c =
     if c.nx && c.xx || c.twice then Err Syntax
     else Ok (strings.Set key value
@@ -96,18 +96,18 @@ is_renewed renewals.Persist = true
 is_renewed (renewals.Until time) = true
 
 -- one more option stands
-abbrev pub renewed : Renewal → GetExChoices → GetExChoices
+abbrev pub renewed : Renewal → GetExOptionsRead → GetExOptionsRead
 renewed renewal c = record { renewal = renewal; twice = c.twice || is_renewed c.renewal }
 
-abbrev pub getex_choices : List (Choice GetExChoices)
-getex_choices = record { name = codes "persist"; kinds = []; sets = λ own c. renewed renewals.Persist c }
-    ∷ time_choices (λ time. renewed (renewals.Until time))
+abbrev pub getex_options : List (NamedOption GetExOptionsRead)
+getex_options = record { name = codes "persist"; kinds = []; sets = λ own c. renewed renewals.Persist c }
+    ∷ time_options (λ time. renewed (renewals.Until time))
 
 -- none of the options of GETEX
-abbrev pub no_getex_choices : GetExChoices
-no_getex_choices = record { renewal = renewals.Unchanged; twice = false }
+abbrev pub no_getex_options : GetExOptionsRead
+no_getex_options = record { renewal = renewals.Unchanged; twice = false }
 
-abbrev pub getex_of : List ℕ → GetExChoices → Read
+abbrev pub getex_of : List ℕ → GetExOptionsRead → Read
 getex_of key c = if c.twice then Err Syntax else Ok (strings.GetEx key c.renewal)
 
 -- a piece that would end past the greatest length is refused by the words
@@ -125,7 +125,7 @@ string_rows =
     record { name = codes "get"; read = fixed (Plain ∷ []) (λ a. Ok (strings.Get a.0)) }
     ∷ record {
       name = codes "set";
-      read = with_choices (Plain ∷ Plain ∷ []) set_choices no_set_choices (λ a c. set_of a.0 a.1.0 c);
+      read = with_options (Plain ∷ Plain ∷ []) set_options no_set_options (λ a c. set_of a.0 a.1.0 c);
     }
     ∷ record { name = codes "setnx"; read = fixed (Plain ∷ Plain ∷ []) (λ a. Ok (strings.SetNx a.0 a.1.0)) }
     ∷ record {
@@ -140,7 +140,7 @@ string_rows =
     ∷ record { name = codes "getdel"; read = fixed (Plain ∷ []) (λ a. Ok (strings.GetDel a.0)) }
     ∷ record {
       name = codes "getex";
-      read = with_choices (Plain ∷ []) getex_choices no_getex_choices (λ a c. getex_of a.0 c);
+      read = with_options (Plain ∷ []) getex_options no_getex_options (λ a c. getex_of a.0 c);
     }
     ∷ record { name = codes "mget"; read = repeated [] 1 (λ a keys. Ok (strings.MGet keys)) }
     ∷ record { name = codes "mset"; read = repeated [] 2 (λ a words. Ok (strings.MSet (pairs_of words))) }

@@ -22,7 +22,7 @@ pub enum Condition {
 
 /// What the options of SET say one by one.
 #[derive(Clone, Copy, Debug, PartialEq, Eq)]
-pub struct SetChoices {
+pub struct SetOptionsRead {
     pub nx: bool,
     pub xx: bool,
     pub get: bool,
@@ -34,7 +34,7 @@ pub struct SetChoices {
 
 /// What the options of GETEX say one by one.
 #[derive(Clone, Copy, Debug, PartialEq, Eq)]
-pub struct GetExChoices {
+pub struct GetExOptionsRead {
     /// What the last one says.
     pub renewal: Renewal,
     /// Two of them stand.

@@ -9,7 +9,9 @@ mod laws;
 mod lists;
 mod times;
 
-pub use command::{Command, Condition, GetExChoices, SetChoices, SetOptions, StringCommand};
+pub use command::{
+    Command, Condition, GetExOptionsRead, SetOptions, SetOptionsRead, StringCommand,
+};
 pub use connection::ConnectionCommand;
 pub use ctx::Ctx;
 pub use keys::{CopyOptions, ExpireOptions, KeyCommand, ScanOptions};

@@ -1,3 +1,4 @@
+pub mod Maps
 pub mod Numerals
 pub mod Lives
 pub mod Lines

@@ -8,10 +8,8 @@ use Rattle.std.specs.declared.cmp.Ordering.TheVariants.{Less, Equal, Greater}
 use Rattle.std.specs.Cmp.Lexicographic.{slice_cmp, nat_list_cmp_total}
 use Rattle.std.specs.FinMap.{FinMap, empty, get, insert, retain_keys, get-empty, get-insert, get-remove, get-retain_keys, same_map, slice_cmp-IsAntisymmetric, nat_cmp-IsAntisymmetric}
 use Rattle.std.specs.FinMap as map
+use Rattle.plain_world.proofs.Maps.{maps_alike, get_inserted, insert_over}
 use Rattle.plain_world.specs.Worlds.{Entry, Database, World, no_keys, in_time, is_there, live_keys, live, look, with_base, put, remove, stand}
-
-bases_alike : (m n : Database) → ((q : List ℕ) → get m q ≡ get n q) → m ≡ n
-bases_alike = same_map nat_list_cmp_total (slice_cmp-IsAntisymmetric nat_cmp-IsAntisymmetric)
 
 -- what is seen of what stands at a key
 abbrev pub shown : ℕ → Option Entry → Option Entry
@@ -24,7 +22,7 @@ live_get base moment key = get-retain_keys base (λ k. is_there moment (get base
 
 pub live_insert : (base : Database) (moment : ℕ) (key : List ℕ) (e : Entry) → live_keys (insert base key e) moment ≡ cond (in_time moment e.deadline) (insert (live_keys base moment) key e) (map.remove (live_keys base moment) key)
 live_insert base moment key e =
-    bases_alike _ _ (λ q.
+    maps_alike _ _ (λ q.
     live_get (insert base key e) moment q ∙ ap (shown moment) (get-insert nat_list_cmp_total base key e q)
     ∙ agree (eq_by_cmp (slice_cmp nat_cmp) q key) (in_time moment e.deadline) refl (get base q)
     ∙ sym (chosen (in_time moment e.deadline) q
@@ -43,7 +41,7 @@ live_insert base moment key e =
 
 pub live_removed : (base : Database) (moment : ℕ) (key : List ℕ) → live_keys (map.remove base key) moment ≡ map.remove (live_keys base moment) key
 live_removed base moment key =
-    bases_alike _ _ (λ q.
+    maps_alike _ _ (λ q.
     live_get (map.remove base key) moment q ∙ ap (shown moment) (get-remove nat_list_cmp_total base key q)
     ∙ agree (eq_by_cmp (slice_cmp nat_cmp) q key) (get base q)
     ∙ ap (cond (eq_by_cmp (slice_cmp nat_cmp) q key) None) (sym (live_get base moment q))
@@ -60,7 +58,7 @@ in_time_before first second before (Some deadline) late = le-leb first deadline 
 
 pub live_twice : (base : Database) (first second : ℕ) → first ≤ second → live_keys (live_keys base first) second ≡ live_keys base second
 live_twice base first second before =
-    bases_alike _ _ (λ q. live_get (live_keys base first) second q ∙ ap (shown second) (live_get base first q) ∙ agree (get base q) ∙ sym (live_get base second q))
+    maps_alike _ _ (λ q. live_get (live_keys base first) second q ∙ ap (shown second) (live_get base first q) ∙ agree (get base q) ∙ sym (live_get base second q))
   where
     again : (e : Entry) (early late : Bool) → in_time first e.deadline ≡ early → in_time second e.deadline ≡ late → shown second (cond early (Some e) None) ≡ cond late (Some e) None
     again e true late is later = ap (λ b. cond b (Some e) None) later
@@ -72,11 +70,11 @@ live_twice base first second before =
     agree (Some e) = again e (in_time first e.deadline) (in_time second e.deadline) refl refl
 
 pub live_none : (moment : ℕ) → live_keys no_keys moment ≡ no_keys
-live_none moment = bases_alike _ _ (λ q. live_get no_keys moment q ∙ ap (shown moment) (get-empty (slice_cmp nat_cmp) q) ∙ sym (get-empty (slice_cmp nat_cmp) q))
+live_none moment = maps_alike _ _ (λ q. live_get no_keys moment q ∙ ap (shown moment) (get-empty (slice_cmp nat_cmp) q) ∙ sym (get-empty (slice_cmp nat_cmp) q))
 
 -- where each key is in time the database is live
 pub live_all : (base : Database) (moment : ℕ) → ((key : List ℕ) → shown moment (get base key) ≡ get base key) → live_keys base moment ≡ base
-live_all base moment all = bases_alike _ _ (λ q. live_get base moment q ∙ all q)
+live_all base moment all = maps_alike _ _ (λ q. live_get base moment q ∙ all q)
 
 -- ---- worlds
 
@@ -138,7 +136,7 @@ pub remove_absent : (w : World) (key : List ℕ) → look w key ≡ None → rem
 remove_absent w key none = λ i. record { bases = λ number. each number i; selected = w.selected }
   where
     stays : map.remove (w.bases w.selected) key ≡ w.bases w.selected
-    stays = bases_alike _ _ (λ q. get-remove nat_list_cmp_total (w.bases w.selected) key q ∙ elim (cases_Bool (eq_by_cmp (slice_cmp nat_cmp) q key)) [
+    stays = maps_alike _ _ (λ q. get-remove nat_list_cmp_total (w.bases w.selected) key q ∙ elim (cases_Bool (eq_by_cmp (slice_cmp nat_cmp) q key)) [
       | inl same ↦ cond-true _ _ _ same ∙ sym none ∙ ap (get (w.bases w.selected)) (sym (tied q same))
       | inr other ↦ cond-false _ _ _ other
     ])
@@ -155,4 +153,22 @@ remove_absent w key none = λ i. record { bases = λ number. each number i; sele
     each number = elim (cases_eq number w.selected) [
       | inl here ↦ cond-true _ _ _ (eq-eqb number w.selected here) ∙ stays ∙ ap w.bases (sym here)
       | inr other ↦ cond-false _ _ _ (ne_eqb number w.selected other)
+    ]
+
+-- what is put at a key stands there
+pub look_put : (w : World) (key : List ℕ) (e : Entry) → look (put w key e) key ≡ Some e
+look_put w key e = ap (λ (base : Database). get base key) (cond-true _ _ _ (eq-eqb w.selected w.selected refl)) ∙ get_inserted (w.bases w.selected) key e
+
+-- what is put at a key takes the place of what was put there before
+pub put_twice : (w : World) (key : List ℕ) (d e : Entry) → put (put w key d) key e ≡ put w key e
+put_twice w key d e = λ i. record { bases = λ number. each number i; selected = w.selected }
+  where
+    each : (number : ℕ) → (put (put w key d) key e).bases number ≡ (put w key e).bases number
+    each number = elim (cases_eq number w.selected) [
+      | inl here ↦
+          cond-true _ _ _ (eq-eqb number w.selected here)
+          ∙ ap (λ base. insert base key e) (cond-true _ _ _ (eq-eqb w.selected w.selected refl))
+          ∙ insert_over (w.bases w.selected) key d e
+          ∙ sym (cond-true _ _ _ (eq-eqb number w.selected here))
+      | inr other ↦ cond-false _ _ _ (ne_eqb number w.selected other) ∙ cond-false _ _ _ (ne_eqb number w.selected other) ∙ sym (cond-false _ _ _ (ne_eqb number w.selected other))
     ]

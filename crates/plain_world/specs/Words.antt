@@ -11,6 +11,10 @@ Words = List (List ℕ)
 abbrev pub longest : ℕ
 longest = 536870912
 
+-- the greatest number of words of a request
+abbrev pub most_words : ℕ
+most_words = 1048576
+
 -- a word has at most 512 MiB
 abbrev pub IsWord : List ℕ → Type 0
 IsWord word = length word ≤ longest
@@ -18,7 +22,7 @@ IsWord word = length word ≤ longest
 -- a request has 1 to 1,048,576 words
 pub record IsRequest (words : Words) : Type 0 where
   pub some : 0 < length words
-  pub few : length words ≤ 1048576
+  pub few : length words ≤ most_words
   pub each : AllByRecursion IsWord words
 
 -- a word, with ASCII case ignored

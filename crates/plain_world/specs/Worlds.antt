@@ -1,5 +1,5 @@
 -- What a server holds (Redis command reference, "Data types", "SELECT", "EXPIRE").
-use Rattle.std.specs.Prelude.{◌≡◌, ◌==◌, ℕ, List, Option, None, Some, Bool, true, false, nat_le, if◌then◌else◌, ℤ}
+use Rattle.std.specs.Prelude.{◌≡◌, ◌==◌, ℕ, ◌-◌, ◌^◌, List, Option, None, Some, Bool, true, false, nat_le, if◌then◌else◌, ℤ}
 use Rattle.std.specs.FinSet.{FinSet}
 use Rattle.std.specs.FinMap.{FinMap, empty, get, insert, retain_keys}
 use Rattle.std.specs.FinMap as map
@@ -23,6 +23,10 @@ pub record Entry : Type 0 where
 -- a finite map from keys to what stands there
 abbrev pub Database : Type 0
 Database = FinMap (slice_cmp nat_cmp) Entry
+
+-- the greatest moment in milliseconds
+abbrev pub latest : ℕ
+latest = 2 ^ 63 - 1
 
 -- the databases by their numbers, 0 to 15, and the one that commands use
 pub record World : Type 0 where

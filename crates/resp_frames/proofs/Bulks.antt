@@ -17,9 +17,11 @@ use Rattle.resp_frames.proofs.Numbers.{NumberIs, number_is, length_again, length
 use Rattle.resp_frames.specs.declared.rule.Rule.{Rule}
 use Rattle.resp_frames.specs.declared.rule.Rule.TheVariants as rules
 
+-- the decimal text of a number below 2^64 is a text of a header
 pub decimal_text : (n : ℕ) → n < 2 ^ 64 → IsText (decimal n)
 decimal_text n h = let k : length (decimal n) ≤ 20 = length-decimal-le 20 n (lit< tt) (omega arith) h in record { plain = decimal_plain n h; short = omega arith }
 
+-- the decimal text of a number up to the greatest length of a word is a text of a header
 length_text : (n : ℕ) → n ≤ longest → IsText (decimal n)
 length_text n h = decimal_text n (omega arith)
 
@@ -27,10 +29,12 @@ length_text n h = decimal_text n (omega arith)
 pub as_bulk : (w A : List ℕ) → bulk w ++ A ≡ header 36 (decimal (length w)) ++ (w ++ 13 ∷ 10 ∷ A)
 as_bulk w A = append_assoc (header 36 (decimal (length w))) (w ++ line_end) A ∙ ap (λ l. header 36 (decimal (length w)) ++ l) (append_assoc w line_end A)
 
+-- the first bytes of a word and a rest, as many as the word has, are the word
 take_whole : (w A : List ℕ) → take (length w) (w ++ A) ≡ w
 take_whole [] A = refl
 take_whole (b ∷ w) A = ap (λ l. b ∷ l) (take_whole w A)
 
+-- behind the first bytes of a word and a rest, as many as the word has, stands the rest
 drop_whole : (w A : List ℕ) → drop (length w) (w ++ A) ≡ A
 drop_whole [] A = refl
 drop_whole (b ∷ w) A = drop_whole w A
@@ -40,6 +44,7 @@ marked : (bytes more : List ℕ) → bytes ≡ 36 ∷ more → read_bulk bytes �
 unfolding read_bulk
 marked bytes more e = ap read_bulk e ∙ on_equal 36 36 (read_marked (36 ∷ more)) (Wrong rules.ExpectedDollar (36 ∷ more)) refl ∙ ap read_marked (sym e)
 
+-- where there is no byte, the reading of a bulk string is open
 bulk_none : read_bulk [] ≡ Open
 unfolding read_bulk
 bulk_none = refl
@@ -64,6 +69,7 @@ pub body_short : (len : ℕ) (bytes : List ℕ) → length bytes ≤ len → rea
 unfolding read_body
 body_short len bytes le = ap (after_word (take len bytes)) (drop_all len bytes le)
 
+-- a body that ends at the CR behind its word isn't whole
 pub body_returned : (len : ℕ) (bytes : List ℕ) → length bytes ≡ len + 1 → get_or bytes len 0 ≡ 13 → read_body len bytes ≡ Open
 unfolding read_body
 body_returned len bytes n e =
@@ -71,16 +77,20 @@ body_returned len bytes n e =
     let last : drop len bytes ≡ 13 ∷ [] = drop_more bytes len 0 lt ∙ ap (λ b. b ∷ drop (len + 1) bytes) e ∙ ap (λ l. 13 ∷ l) (drop_all (len + 1) bytes (omega arith)) in
     ap (after_word (take len bytes)) last
 
+-- a body that begins with its whole word is read by what stands behind that word
 body_split : (w A : List ℕ) → read_body (length w) (w ++ A) ≡ after_word w A
 unfolding read_body
 body_split w A = ap (λ l. after_word l (drop (length w) (w ++ A))) (take_whole w A) ∙ ap (after_word w) (drop_whole w A)
 
+-- a whole bulk string is read as its word, and what follows it is left
 pub bulk_again : (w rest : List ℕ) → IsWord w → read_bulk (bulk w ++ rest) ≡ Took w rest
 bulk_again w rest h = ap read_bulk (as_bulk w rest) ∙ after_length (length w) (w ++ 13 ∷ 10 ∷ rest) h ∙ body_split w (13 ∷ 10 ∷ rest)
 
+-- faults of one rule and one place are the same reading
 fault_is : {A : Type 0} (rule rule' : Rule) (from from' : List ℕ) → rule ≡ rule' → from ≡ from' → (let w : Read A = Wrong rule' from' in w) ≡ Wrong rule from
 fault_is rule rule' from from' e f = sym (ap (λ r. Wrong r from) e ∙ ap (Wrong rule') f)
 
+-- a fault of the bulk string at the front is what its reading tells
 pub bulk_first : (bytes : List ℕ) (rule : Rule) (from : List ℕ) → BulkFault bytes rule from → read_bulk bytes ≡ Wrong rule from
 unfolding read_bulk
 bulk_first bytes rule from (other_mark b more r f e ne) = ap read_bulk e ∙ on_other b 36 (read_marked (b ∷ more)) (Wrong rules.ExpectedDollar (b ∷ more)) ne ∙ fault_is rule rules.ExpectedDollar from (b ∷ more) r (f ∙ e)
@@ -108,6 +118,7 @@ record Worded (bytes w rest : List ℕ) : Type 0 where
   whole : bytes ≡ header 36 (decimal (length w)) ++ (w ++ rest)
   small : IsWord w
 
+-- what the reading tells behind a word and its CR holds of the bulk string
 feed_is : (bytes w rest : List ℕ) → Worded bytes w (13 ∷ rest) → BulkIs bytes (after_return w rest)
 feed_is bytes w [] h = tt
 feed_is bytes w (b ∷ rest) h =
@@ -115,6 +126,7 @@ feed_is bytes w (b ∷ rest) h =
     (λ e. (h.small, h.whole ∙ ap (λ c. header 36 (decimal (length w)) ++ (w ++ 13 ∷ c ∷ rest)) e ∙ sym (as_bulk w rest)))
     (λ ne. no_feed w rest b refl refl h.whole h.small ne)
 
+-- what the reading tells behind a word holds of the bulk string
 return_is : (bytes w rest : List ℕ) → Worded bytes w rest → BulkIs bytes (after_word w rest)
 return_is bytes w [] h = tt
 return_is bytes w (b ∷ rest) h =
@@ -128,6 +140,7 @@ length_taken zero bytes b more e = refl
 length_taken (suc n) [] b more e = cc
 length_taken (suc n) (x ∷ bytes) b more e = let r : length (take n bytes) ≡ n = length_taken n bytes b more e in omega (arith, r)
 
+-- what the reading tells behind the header of a length holds of the bulk string
 body_is : (bytes : List ℕ) (len : ℕ) (rest : List ℕ) → len ≤ longest → bytes ≡ header 36 (decimal len) ++ rest → BulkIs bytes (read_body len rest)
 unfolding read_body
 body_is bytes len rest le e =
@@ -140,15 +153,18 @@ body_is bytes len rest le e =
           return_is bytes (take len rest) (b ∷ more) (record { whole = m; small = omega arith })
     ] refl
 
+-- what the reading tells behind a whole header holds of the bulk string, whether its number is a length or not
 word_is : (bytes text rest : List ℕ) (o : Option ℕ) → read_number longest text ≡ o → NumberIs longest text o → IsText text → bytes ≡ header 36 text ++ rest → BulkIs bytes (read_word bytes o rest)
 word_is bytes text rest None is k h e = length_number (bad_number text rest refl refl e h (not_length text is))
 word_is bytes text rest (Some len) is k h e = body_is bytes len rest k.0 (e ∙ ap (λ t. header 36 t ++ rest) k.1)
 
+-- what the reading tells from the header on holds of the bulk string
 then_word : (bytes : List ℕ) (x : Read (List ℕ)) → HeaderIs 36 bytes x → BulkIs bytes (read_on x (λ text rest. read_word bytes (read_number longest text) rest))
 then_word bytes (Took text rest) h = word_is bytes text rest _ refl (number_is longest text) h.0 h.1
 then_word bytes Open h = tt
 then_word bytes (Wrong rule from) h = length_line h
 
+-- what the reading of a bulk string tells holds of the bytes
 pub bulk_is : (bytes : List ℕ) → BulkIs bytes (read_bulk bytes)
 unfolding read_bulk
 bulk_is [] = tt
@@ -160,6 +176,7 @@ bulk_is (b ∷ bytes) =
 
 -- many bulk strings
 
+-- whole bulk strings are read as their words, and what follows them is left
 pub bulks_again : (words : Words) (rest : List ℕ) → AllByRecursion IsWord words → read_bulks (length words) (flat_map bulk words ++ rest) ≡ Took words rest
 unfolding read_bulks
 bulks_again [] rest h = refl
@@ -180,6 +197,7 @@ bulks_open (suc n) (w ∷ words) rest less h e =
     ∙ ap (λ x. read_on x next) (bulk_again w (flat_map bulk words ++ rest) h.0)
     ∙ ap (λ x. read_on x (λ ws end. Took (w ∷ ws) end)) (bulks_open n words rest (omega arith) h.1 e)
 
+-- where fewer words are whole than are due and the rest is wrong, the reading tells that fault
 pub bulks_wrong : (n : ℕ) (words : Words) (rest : List ℕ) (rule : Rule) (from : List ℕ) → length words < n → AllByRecursion IsWord words → read_bulk rest ≡ Wrong rule from → read_bulks n (flat_map bulk words ++ rest) ≡ Wrong rule from
 unfolding read_bulks
 bulks_wrong zero words rest rule from less h e = absurd (omega arith)
@@ -205,6 +223,7 @@ BulksIs n bytes (Took words rest) = (length words ≡ n) × AllByRecursion IsWor
 BulksIs n bytes Open = Unit {0}
 BulksIs n bytes (Wrong rule from) = Fewer n bytes rule from
 
+-- what holds of the reading of so many bulk strings holds of one more with a whole one in front
 more_are : (n : ℕ) (bytes w rest : List ℕ) → IsWord w → bytes ≡ bulk w ++ rest → (x : Read Words) → BulksIs n rest x → BulksIs (suc n) bytes (read_on x (λ words end. Took (w ∷ words) end))
 more_are n bytes w rest small e (Took words end) h =
     let len : length words ≡ n = h.0 in
@@ -221,11 +240,13 @@ more_are n bytes w rest small e (Wrong rule from) h =
       fault = h.fault;
     }
 
+-- what holds of the reading of a bulk string and of that of so many others behind it holds of one more
 then_more : (n : ℕ) (bytes : List ℕ) → ((rest : List ℕ) → BulksIs n rest (read_bulks n rest)) → (x : Read (List ℕ)) → BulkIs bytes x → BulksIs (suc n) bytes (read_on x (λ word rest. read_on (read_bulks n rest) (λ words end. Took (word ∷ words) end)))
 then_more n bytes again (Took w rest) h = more_are n bytes w rest h.0 h.1 (read_bulks n rest) (again rest)
 then_more n bytes again Open h = tt
 then_more n bytes again (Wrong rule from) h = record { words = []; rest = bytes; whole = refl; each = tt; due = omega arith; fault = h }
 
+-- what the reading of so many bulk strings tells holds of the bytes
 pub bulks_is : (n : ℕ) (bytes : List ℕ) → BulksIs n bytes (read_bulks n bytes)
 unfolding read_bulks
 bulks_is zero bytes = (refl, tt, refl)

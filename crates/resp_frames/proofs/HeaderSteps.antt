@@ -39,28 +39,11 @@ endless bytes n c is =
     let P : ℕ → Type 0 = λ m. IsPlainText (take m bytes) in
     inl (refl, refl, record { within = omega arith; plain = subst P is c.plain })
 
-pub unfinished : (bytes : List ℕ) (n : ℕ) → Cuts bytes n → n ≢ longest_header → length bytes ≤ n + 1 → ReadsText bytes (headers.Open n)
-unfinished bytes n c not short = record {
-  text = text_is bytes n c not;
-  within = c.within;
-  whole = elim (cases_lt n (length bytes)) [
-    | inl lt ↦ inr (cut bytes n lt (c.found lt not) ∙ ap (λ l. take n bytes ++ 13 ∷ l) (drop_all (n + 1) bytes short))
-    | inr le ↦ inl (sym (take_all n bytes le))
-  ];
-}
-
 pub no_line_end : (bytes : List ℕ) (n : ℕ) → Cuts bytes n → n ≢ longest_header → n + 1 < length bytes → get_or bytes (n + 1) 0 ≢ 10 → ReadsText bytes (headers.Broken rules.ExpectedCrLf (n + 2))
 no_line_end bytes n c not long other = inr (
   refl,
   record { text = take n bytes; b = get_or bytes (n + 1) 0; within = omega arith; whole = cut_twice bytes n c not long; long = omega (arith, length-take n bytes); good = text_is bytes n c not; other = other },
 )
-
-pub whole_text : (bytes : List ℕ) (n : ℕ) → Cuts bytes n → n ≢ longest_header → n + 1 < length bytes → get_or bytes (n + 1) 0 ≡ 10 → ReadsText bytes (headers.Text n)
-whole_text bytes n c not long is = record {
-  text = text_is bytes n c not;
-  within = omega arith;
-  whole = cut_twice bytes n c not long ∙ ap (λ b. take n bytes ++ 13 ∷ b ∷ drop (n + 2) bytes) is ∙ sym (append_assoc (take n bytes) line_end (drop (n + 2) bytes));
-}
 
 starts : (bytes : List ℕ) (mark : ℕ) → 0 < length bytes → get_or bytes 0 0 ≡ mark → bytes ≡ mark ∷ drop 1 bytes
 starts [] mark h e = absurd (omega arith)

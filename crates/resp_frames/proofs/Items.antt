@@ -17,6 +17,7 @@ use Rattle.resp_frames.proofs.Bulks.{decimal_text, bulk_first, BulksIs, bulks_ag
 use Rattle.resp_frames.specs.declared.rule.Rule.{Rule}
 use Rattle.resp_frames.specs.declared.rule.Rule.TheVariants as rules
 
+-- the decimal text of a number of words that isn't too great is a text of a header
 count_text : (n : ℕ) → n ≤ most_words → IsText (decimal n)
 count_text n h = decimal_text n (omega arith)
 
@@ -25,18 +26,22 @@ marked : (bytes more : List ℕ) → bytes ≡ 42 ∷ more → read_item bytes �
 unfolding read_item
 marked bytes more e = ap read_item e ∙ on_equal 42 42 (read_array (42 ∷ more)) (read_line (42 ∷ more)) refl ∙ ap read_array (sym e)
 
+-- where there is no byte, the reading of an item is open
 pub item_none : read_item [] ≡ Open
 unfolding read_item
 item_none = refl
 
+-- behind a whole header an item is read by the count that its text tells
 after_count : (text rest : List ℕ) (o : Option ℕ) → IsText text → read_count text ≡ o → read_item (header 42 text ++ rest) ≡ read_words (header 42 text ++ rest) text o rest
 after_count text rest o h e =
     let all = header 42 text ++ rest in
     marked all ((text ++ line_end) ++ rest) refl ∙ ap (λ x. read_on x (λ t more. read_words all t (read_count t) more)) (header_again 42 text rest h) ∙ ap (λ c. read_words all text c rest) e
 
+-- the reading of a request from that of its words
 abbrev to_item : Read Words → Read Item
 to_item x = read_on x (λ words end. Took (Asked words) end)
 
+-- by a count above 0 an item is read from so many bulk strings
 after_words : (all text : List ℕ) (n : ℕ) (rest : List ℕ) → 0 < n → read_words all text (Some n) rest ≡ to_item (read_bulks n rest)
 after_words all text zero rest h = absurd (omega arith)
 after_words all text (suc n) rest h = refl
@@ -46,6 +51,7 @@ after_number : (n : ℕ) (rest : List ℕ) → 0 < n → n ≤ most_words → re
 after_number n rest some few =
     after_count (decimal n) rest (Some n) (count_text n few) (count_again n few) ∙ after_words (header 42 (decimal n) ++ rest) (decimal n) n rest some
 
+-- a whole item is read as it is, and what follows it is left
 pub item_again : (x : Item) (rest : List ℕ) → IsItem x → read_item (item_bytes x ++ rest) ≡ Took x rest
 item_again (Asked words) rest h =
     ap read_item (append_assoc (header 42 (decimal (length words))) (flat_map bulk words) rest)
@@ -53,9 +59,11 @@ item_again (Asked words) rest h =
 item_again (Passed text) rest h = after_count text rest (Some 0) h.1 (passed_again text h.0)
 item_again (Line text) rest h = line_again text rest h.0 h.1
 
+-- a request that has begun has a count above 0
 begun_some : (bytes : List ℕ) (n : ℕ) (words : Words) (rest : List ℕ) → Begun bytes n words rest → 0 < n
 begun_some bytes n words rest b = let due : length words < n = b.due in omega arith
 
+-- a request that has begun is read from all its bulk strings
 after_begun : (bytes : List ℕ) (n : ℕ) (words : Words) (rest : List ℕ) → Begun bytes n words rest → read_item bytes ≡ to_item (read_bulks n (flat_map bulk words ++ rest))
 after_begun bytes n words rest b = ap read_item b.whole ∙ after_number n (flat_map bulk words ++ rest) (begun_some bytes n words rest b) b.few
 
@@ -63,15 +71,18 @@ after_begun bytes n words rest b = ap read_item b.whole ∙ after_number n (flat
 pub item_begun : (bytes : List ℕ) (n : ℕ) (words : Words) (rest : List ℕ) → Begun bytes n words rest → read_bulk rest ≡ Open → read_item bytes ≡ Open
 item_begun bytes n words rest b e = after_begun bytes n words rest b ∙ ap to_item (bulks_open n words rest b.due b.each e)
 
+-- the reading of an item is open where there is no byte, or the header of a request isn't whole
 pub item_counting : (bytes : List ℕ) → (bytes ≡ []) ⊎ (bytes ≡ 42 ∷ drop 1 bytes) → read_header bytes ≡ Open → read_item bytes ≡ Open
 item_counting bytes begun e = elim begun [
   | inl none ↦ ap read_item none ∙ item_none
   | inr some ↦ marked bytes (drop 1 bytes) some ∙ ap (λ x. read_on x (λ text rest. read_words bytes text (read_count text) rest)) e
 ]
 
+-- faults of one rule and one place are the same reading
 fault_is : (rule rule' : Rule) (from from' : List ℕ) → rule ≡ rule' → from ≡ from' → (let w : Read Item = Wrong rule' from' in w) ≡ Wrong rule from
 fault_is rule rule' from from' e f = sym (ap (λ r. Wrong r from) e ∙ ap (Wrong rule') f)
 
+-- a fault of the request at the front is what the reading of an item tells
 pub item_first : (bytes : List ℕ) (rule : Rule) (from : List ℕ) → RequestFault bytes rule from → read_item bytes ≡ Wrong rule from
 item_first bytes rule from (count_line h) =
     let begins = line_begins 42 rule bytes from h in
@@ -88,6 +99,7 @@ ItemIs bytes (Took x rest) = IsItem x × (bytes ≡ item_bytes x ++ rest)
 ItemIs bytes Open = Unit {0}
 ItemIs bytes (Wrong rule from) = RequestFault bytes rule from
 
+-- what the reading of bulk strings behind a count above 0 tells holds of the item
 request_is : (bytes : List ℕ) (n : ℕ) (rest : List ℕ) → 0 < n → n ≤ most_words → bytes ≡ header 42 (decimal n) ++ rest → (x : Read Words) → BulksIs n rest x → ItemIs bytes (to_item x)
 request_is bytes n rest some few e (Took words end) h =
     let len : length words ≡ n = h.0 in
@@ -100,21 +112,25 @@ request_is bytes n rest some few e Open h = tt
 request_is bytes n rest some few e (Wrong rule from) h =
     in_word n h.words h.rest (record { whole = e ∙ ap (λ l. header 42 (decimal n) ++ l) h.whole; few = few; due = h.due; each = h.each }) h.fault
 
+-- what the reading tells behind a whole header holds of the item, whether its number is a count or not
 words_is : (bytes text rest : List ℕ) (o : Option ℕ) → read_count text ≡ o → CountIs text o → IsText text → bytes ≡ header 42 text ++ rest → ItemIs bytes (read_words bytes text o rest)
 words_is bytes text rest None is k h e = count_number (bad_number text rest refl refl e h (not_count text is))
 words_is bytes text rest (Some zero) is k h e = ((k, h), e)
 words_is bytes text rest (Some (suc n)) is k h e = request_is bytes (suc n) rest (omega arith) k.0 (e ∙ ap (λ t. header 42 t ++ rest) k.1) (read_bulks (suc n) rest) (bulks_is (suc n) rest)
 
+-- what the reading tells from the header on holds of the item
 then_item : (bytes : List ℕ) (x : Read (List ℕ)) → HeaderIs 42 bytes x → ItemIs bytes (read_on x (λ text rest. read_words bytes text (read_count text) rest))
 then_item bytes (Took text rest) h = words_is bytes text rest (read_count text) refl (count_is text) h.0 h.1
 then_item bytes Open h = tt
 then_item bytes (Wrong rule from) h = count_line h
 
+-- what holds of the reading of an inline request holds of that of an item
 line_item : (bytes : List ℕ) (x : Read Item) → InlineIs bytes x → ItemIs bytes x
 line_item bytes (Took x rest) h = h
 line_item bytes Open h = tt
 line_item bytes (Wrong rule from) h = in_line h
 
+-- what the reading of an item tells holds of the bytes
 pub item_is : (bytes : List ℕ) → ItemIs bytes (read_item bytes)
 unfolding read_item
 item_is [] = tt
@@ -140,9 +156,11 @@ line_within mark bytes rule from (no_line_feed t more b r f e h ne) =
     let m : length (t ++ 13 ∷ from) ≡ length t + length (13 ∷ from) = length-append t (13 ∷ from) in
     omega arith
 
+-- the place of a fault of a header's number stands in the bytes
 number_within : (mark : ℕ) (wrong : Rule) (IsGood : List ℕ → Type 0) (bytes : List ℕ) (rule : Rule) (from : List ℕ) → NumberFault mark wrong IsGood bytes rule from → length from ≤ length bytes
 number_within mark wrong IsGood bytes rule from (bad_number t more r f e h bad) = omega (arith, ap length f)
 
+-- the place of a fault of a bulk string stands in the bytes
 bulk_within : (bytes : List ℕ) (rule : Rule) (from : List ℕ) → BulkFault bytes rule from → length from ≤ length bytes
 bulk_within bytes rule from (other_mark b more r f e ne) = omega (arith, ap length f)
 bulk_within bytes rule from (length_line h) = line_within 36 bytes rule from h
@@ -154,6 +172,7 @@ bulk_within bytes rule from (no_feed w more b r f e h ne) =
     let n : length bytes ≡ length (header 36 (decimal (length w)) ++ (w ++ 13 ∷ from)) = ap length e in
     omega (arith, length-append (header 36 (decimal (length w))) (w ++ 13 ∷ from), length-append w (13 ∷ from))
 
+-- the place of a fault of a request stands in the bytes
 pub fault_within : (bytes : List ℕ) (rule : Rule) (from : List ℕ) → RequestFault bytes rule from → length from ≤ length bytes
 fault_within bytes rule from (count_line h) = line_within 42 bytes rule from h
 fault_within bytes rule from (in_line h) = inline_within bytes rule from h
@@ -165,16 +184,19 @@ fault_within bytes rule from (in_word n words rest b h) =
 
 -- a fault stays, whatever comes behind it
 
+-- a fault of a header's line stays, whatever comes behind it
 line_stays : (mark : ℕ) (bytes : List ℕ) (rule : Rule) (from back : List ℕ) → LineFault mark bytes rule from → LineFault mark (bytes ++ back) rule (from ++ back)
 line_stays mark bytes rule from back (too_long t more r f e p n) =
     too_long t (more ++ back) r (ap (λ l. l ++ back) f) (ap (λ l. l ++ back) e ∙ ap (λ l. mark ∷ l) (append_assoc t more back)) p n
 line_stays mark bytes rule from back (no_line_feed t more b r f e h ne) =
     no_line_feed t (more ++ back) b r (ap (λ l. l ++ back) f) (ap (λ l. l ++ back) e ∙ ap (λ l. mark ∷ l) (append_assoc t (13 ∷ from) back)) h ne
 
+-- a fault of a header's number stays, whatever comes behind it
 number_stays : (mark : ℕ) (wrong : Rule) (IsGood : List ℕ → Type 0) (bytes : List ℕ) (rule : Rule) (from back : List ℕ) → NumberFault mark wrong IsGood bytes rule from → NumberFault mark wrong IsGood (bytes ++ back) rule (from ++ back)
 number_stays mark wrong IsGood bytes rule from back (bad_number t more r f e h bad) =
     bad_number t (more ++ back) r (ap (λ l. l ++ back) f) (ap (λ l. l ++ back) e ∙ append_assoc (header mark t) more back) h bad
 
+-- a fault of a bulk string stays, whatever comes behind it
 bulk_stays : (bytes : List ℕ) (rule : Rule) (from back : List ℕ) → BulkFault bytes rule from → BulkFault (bytes ++ back) rule (from ++ back)
 bulk_stays bytes rule from back (other_mark b more r f e ne) = other_mark b (more ++ back) r (ap (λ l. l ++ back) f) (ap (λ l. l ++ back) e) ne
 bulk_stays bytes rule from back (length_line h) = length_line (line_stays 36 bytes rule from back h)
@@ -186,6 +208,7 @@ bulk_stays bytes rule from back (no_feed w more b r f e h ne) =
     let head = header 36 (decimal (length w)) in
     no_feed w (more ++ back) b r (ap (λ l. l ++ back) f) (ap (λ l. l ++ back) e ∙ append_assoc head (w ++ 13 ∷ from) back ∙ ap (λ l. head ++ l) (append_assoc w (13 ∷ from) back)) h ne
 
+-- a request that has begun has begun with the same whole words, whatever comes behind it
 pub begun_stays : (bytes : List ℕ) (n : ℕ) (words : Words) (rest back : List ℕ) → Begun bytes n words rest → Begun (bytes ++ back) n words (rest ++ back)
 begun_stays bytes n words rest back b =
     let head = header 42 (decimal n) in
@@ -196,6 +219,7 @@ begun_stays bytes n words rest back b =
       each = b.each;
     }
 
+-- a fault of a request stays, whatever comes behind it
 pub fault_stays : (bytes : List ℕ) (rule : Rule) (from back : List ℕ) → RequestFault bytes rule from → RequestFault (bytes ++ back) rule (from ++ back)
 fault_stays bytes rule from back (count_line h) = count_line (line_stays 42 bytes rule from back h)
 fault_stays bytes rule from back (in_line h) = in_line (inline_stays bytes rule from back h)

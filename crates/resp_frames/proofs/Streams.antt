@@ -73,12 +73,6 @@ one_end bytes rest (Fault rule at) (Fault rule' at') p q =
     let place : at ≡ at' = omega (arith, p.2, q.2, ap length from) in
     ap (λ r. Fault r at) same ∙ ap (Fault rule') place
 
-none_ends : (bytes : List ℕ) (zs : List Item) (rest rest' : List ℕ) (end : End) → AllByRecursion IsItem zs → EndsAs bytes rest end → rest ≡ flat_map item_bytes zs ++ rest' → zs ≡ []
-none_ends bytes [] rest rest' end p e is = refl
-none_ends bytes (z ∷ zs) rest rest' end p e is =
-    let P : List ℕ → Type 0 = λ l. EndsAs bytes l end in
-    absurd (no_item_left bytes z (flat_map item_bytes zs ++ rest') end p.0 (subst P (is ∙ append_assoc (item_bytes z) (flat_map item_bytes zs) rest') e))
-
 -- the items of a stream, up to its end
 one_reading : (bytes : List ℕ) (xs ys : List Item) (a b : List ℕ) (e f : End) → AllByRecursion IsItem xs → AllByRecursion IsItem ys → EndsAs bytes a e → EndsAs bytes b f → flat_map item_bytes xs ++ a ≡ flat_map item_bytes ys ++ b → (xs ≡ ys) × (a ≡ b)
 one_reading bytes [] [] a b e f p q s t is = (refl, is)

@@ -127,35 +127,6 @@ module _ (mark most : ℕ) (bytes : List ℕ) (some : 99 ≤ most) (small : most
       let line = number_ends most (drop 1 bytes) (n * 10 + (get_or bytes 2 0 - 48)) 2 small two (omega arith) (omega (arith, length-drop 1 bytes)) (omega arith) (tail_at 2 ∙ return) in
       tail_header (record { number = n * 10 + (get_or bytes 2 0 - 48); len = 2 }) line (omega arith) feed
 
--- a word behind its header, as the code cuts them
-pub word_whole : (bytes : List ℕ) (read : ℕ) (h : Numbered) (rest : List ℕ) → rest ≡ take (length bytes - read) (drop read bytes) → read ≤ length bytes → IsHeaded 36 longest rest h → IsWholeBody (take (length rest - h.len) (drop h.len rest)) h.number →
-    IsWholeWord bytes read (record { start = read + h.len; len = h.number })
-word_whole bytes read h rest is low k b =
-    let whole : rest ≡ drop read bytes = is ∙ take_rest bytes read in
-    let further : 0 < h.len = k.further in
-    let within : h.len ≤ length rest = k.within in
-    let left : drop h.len rest ≡ drop (read + h.len) bytes = ap (drop h.len) whole ∙ drop-drop h.len read bytes ∙ ap (λ n. drop n bytes) (omega arith) in
-    let B : List ℕ → Type 0 = λ l. IsWholeBody l h.number in
-    record {
-      further = omega arith;
-      within = omega (arith, length-drop read bytes, ap length whole);
-      small = k.few;
-      headed = sym whole ∙ k.whole ∙ ap (λ l. header 36 (decimal h.number) ++ l) left;
-      body = subst B (take_rest rest h.len ∙ left) b;
-    }
-
--- the words are due behind a whole header
-pub words_due : (bytes : List ℕ) (h : Numbered) (spans : List Span) → spans ≡ [] → IsHeaded 42 most_words bytes h → StandsAtLength bytes h.len h.number 0 spans
-words_due bytes h spans none k =
-    let P : List Span → Type 0 = λ l. StandsAtLength bytes h.len h.number 0 l in
-    let due : 0 < h.number = k.some in
-    subst P (sym none) (record {
-      within = k.within;
-      inside = tt;
-      begun = record { whole = k.whole; few = k.few; due = due; each = tt };
-      header = record { within = omega arith; few = omega arith; plain = tt };
-    })
-
 -- a word more is whole
 module _ (bytes : List ℕ) (read words : ℕ) (w : Span) (spans new : List Span) (s : StandsAtLength bytes read words 0 spans) (k : IsWholeWord bytes read w) (is : new ≡ spans ++ w ∷ []) where
   word_longer : Longer bytes w.start (w.start + w.len + 2) words new
@@ -166,6 +137,3 @@ module _ (bytes : List ℕ) (read words : ℕ) (w : Span) (spans new : List Span
 
   pub word_last : (many : ℕ) → many ≡ length new → many ≡ words → IsRequestAt bytes (w.start + w.len + 2) new
   word_last many count e = all_words bytes w.start (w.start + w.len + 2) words new word_longer (sym count ∙ e)
-
-  pub word_more : (many : ℕ) → many ≡ length new → (many ≡ words → ⊥) → StandsAtLength bytes (w.start + w.len + 2) words 0 new
-  word_more many count not = (more_words bytes w.start (w.start + w.len + 2) words new word_longer (λ e. not (count ∙ e))).stands

@@ -7,11 +7,7 @@ use Rattle.std.specs.Fmt.{decimal}
 use Rattle.std.specs.Io.BufRead.{strip_last}
 use Rattle.plain_world.specs.Spelling.{line_end}
 use Rattle.plain_world.specs.Words.{Words}
-pub use Rattle.plain_world.specs.Words.{IsWord, IsRequest}
-
--- the greatest number of words of a request
-abbrev pub most_words : ℕ
-most_words = 1048576
+pub use Rattle.plain_world.specs.Words.{IsWord, IsRequest, most_words}
 
 -- the greatest number of bytes of a header before its CR, its mark among them
 abbrev pub longest_header : ℕ

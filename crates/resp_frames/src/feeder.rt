@@ -124,8 +124,8 @@ fn next_found(
 /// Takes the pieces of a stream, and gives out its requests.
 ///
 /// Contracts see how many bytes were given out or passed over, the bytes that were fed and not given out, and the words
-/// of the request that was given out last, where nothing else was done since. Reading goes on from where it stopped when more
-/// bytes come, and words are never copied.
+/// of the request that was given out last, where nothing else was done since. For speed alone, which no clause speaks of, reading
+/// goes on from where it stopped when more bytes come, and words are lent and not copied.
 #[derive(Drop)]
 pub struct Feeder {
     // so many bytes of the stream were dropped

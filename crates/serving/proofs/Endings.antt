@@ -37,6 +37,7 @@ module _ {E : Type 0} (X C : E → Words → List Part → E → Type 0) (quits 
     pub fed : feeder.gone + length feeder.kept ≡ count
     pub serves : Serves X C quits spent taken feeder.kept first after o o1 [] []
 
+  -- serving starts with no byte taken or fed, and no request answered
   pub serving_starts : (first : E) (i : SourceSeen) (o : SinkSeen) (feeder : Feeding) → IsFresh feeder → Serving first i i 0 feeder first o o
   serving_starts first i o feeder fresh =
       let S : List ℕ → Type 0 = λ r. Serves X C quits spent [] r first first o o [] [] in
@@ -51,6 +52,7 @@ module _ {E : Type 0} (X C : E → Words → List Part → E → Type 0) (quits 
   -- ---- what is served at each ending
 
   module _ (first : E) (limit : ℕ) (i i2 : SourceSeen) (o o1 : SinkSeen) (taken : List ℕ) (took : Consumes i.told i2.told taken) (few : length taken ≤ limit) where
+    -- the frames of the bytes taken are the requests that were served, with the end that the rest has
     frames_of : (rest : List ℕ) (w : E) (s : Serves X C quits spent taken rest first w o o1 [] []) (end : End) → EndsAs taken rest end → Frames taken (requests s.items) end
     frames_of rest w s end e = record { items = s.items; rest = rest; framed = s.framed; are = refl; ends = e }
 
@@ -69,6 +71,7 @@ module _ {E : Type 0} (X C : E → Words → List Part → E → Type 0) (quits 
       writes = writes;
     }
 
+    -- where requests are served, the output counts no fault
     no_faults : (rest : List ℕ) (w : E) → Serves X C quits spent taken rest first w o o1 [] [] → o1.faults ≡ o.faults
     no_faults rest w s = (onward_all o o1 (spelled s.replies) s.wrote).faults
 
@@ -100,6 +103,7 @@ module _ {E : Type 0} (X C : E → Words → List Part → E → Type 0) (quits 
           writes = front.rose;
         }
 
+    -- a run that wants memory behind some requests served is served to this end
     concludes_memory : (rest : List ℕ) (w last : E) → Serves X C quits spent taken rest first w o o1 [] [] → i2.faults ≡ i.faults → Served (path X first) (CutPath X C first) quits spent limit i i2 o o1 last endings.Memory
     concludes_memory rest w last s reads =
         let f = frames_there taken in
@@ -117,6 +121,7 @@ module _ {E : Type 0} (X C : E → Words → List Part → E → Type 0) (quits 
           writes = wrote.faults;
         }
 
+    -- a run that breaks at a reply that fails to be put is served to a fault of the output
     concludes_fault : (w last : E) → Breaks X C quits spent taken first w o o1 [] → (w ≡ last) ⊎ (spent last ≡ true) → i2.faults ≡ i.faults → Served (path X first) (CutPath X C first) quits spent limit i i2 o o1 last endings.WriteFault
     concludes_fault w last s known reads =
         let f = frames_there taken in
@@ -145,6 +150,7 @@ module _ {E : Type 0} (X C : E → Words → List Part → E → Type 0) (quits 
           writes = s.wrote.rose;
         }
 
+    -- a run that comes to a request that ends it is served to this end
     concludes_quit : (w : E) → Quits X C quits spent taken first w o o1 [] [] → i2.faults ≡ i.faults → Served (path X first) (CutPath X C first) quits spent limit i i2 o o1 w endings.Quit
     concludes_quit w s reads =
         let f = frames_there taken in
@@ -173,45 +179,57 @@ module _ {E : Type 0} (X C : E → Words → List Part → E → Type 0) (quits 
         }
 
   module _ (first : E) (limit : ℕ) (i i1 : SourceSeen) (o o0 o1 : SinkSeen) (n : ℕ) (old : Feeding) (e0 : E) (le : n ≤ limit) (s : Serving first i i1 n old e0 o o0) where
+    -- no more bytes were taken than the limit
     few : length s.taken ≤ limit
     few = omega (arith, s.counted, le)
 
+    -- a run that comes to a request that ends it among those fed next ends by it
     pub ends_quit : (w : E) → Quits X C quits spent old.kept e0 w o0 o1 [] [] → Served (path X first) (CutPath X C first) quits spent limit i i1 o o1 w endings.Quit
     ends_quit w f = concludes_quit first limit i i1 o o1 s.taken s.took.told few w (quits_then X C quits spent s.taken old.kept first e0 o o0 [] [] s.serves w o1 [] f) s.took.faults
 
+    -- a run whose output fails at the requests fed next ends by a fault of the output
     pub ends_fault : (w last : E) → Breaks X C quits spent old.kept e0 w o0 o1 [] → (w ≡ last) ⊎ (spent last ≡ true) → Served (path X first) (CutPath X C first) quits spent limit i i1 o o1 last endings.WriteFault
     ends_fault w last f known = concludes_fault first limit i i1 o o1 s.taken s.took.told few w last (breaks_then X C quits spent s.taken old.kept first e0 o o0 [] [] s.serves w o1 f) known s.took.faults
 
+    -- a run that wants memory behind some of the requests fed next ends by want of memory
     pub ends_memory : (rest : List ℕ) (w last : E) → Serves X C quits spent old.kept rest e0 w o0 o1 [] [] → Served (path X first) (CutPath X C first) quits spent limit i i1 o o1 last endings.Memory
     ends_memory rest w last f = concludes_memory first limit i i1 o o1 s.taken s.took.told few rest w last (serves_then X C quits spent s.taken old.kept first e0 o o0 [] [] s.serves rest w o1 [] f) s.took.faults
 
     -- the requests that are whole are answered
     module _ (i2 : SourceSeen) (o2 : SinkSeen) (new : Feeding) (e1 : E) (f : Serves X C quits spent old.kept new.kept e0 e1 o0 o1 [] []) where
+      -- all requests that are whole in the bytes taken are served
       all_served : Serves X C quits spent s.taken new.kept first e1 o o1 [] []
       all_served = serves_then X C quits spent s.taken old.kept first e0 o o0 [] [] s.serves new.kept e1 o1 [] f
 
+      -- a rule that is broken in what the feeder keeps is broken at that byte of all that was taken
       broken : (rule : Rule) (at : ℕ) → IsBroken new rule at → SameFed old new → EndsAs s.taken new.kept (Fault rule at)
       broken rule at b fed = (b.from, b.fault, b.place ∙ (fed ∙ s.fed ∙ sym s.counted))
 
+      -- a run that comes to a broken rule and puts its line ends by this rule
       pub ends_protocol : (rule : Rule) (at : ℕ) → IsBroken new rule at → SameFed old new → PutsAll o1 o2 (fault_line rule at) → Served (path X first) (CutPath X C first) quits spent limit i i1 o o2 e1 (endings.Protocol rule at)
       ends_protocol rule at b fed tail =
           concludes first limit i i1 o o1 s.taken s.took.told few new.kept e1 all_served (Fault rule at) (broken rule at b fed) (endings.Protocol rule at) o2 tail refl s.took.faults (tail.faults ∙ no_faults first limit i i1 o o1 s.taken s.took.told few new.kept e1 all_served)
 
+      -- a run that comes to a broken rule and fails to put its line ends by a fault of the output
       pub ends_tail : (rule : Rule) (at : ℕ) → IsBroken new rule at → SameFed old new → PutsFront o1 o2 (fault_line rule at) → Served (path X first) (CutPath X C first) quits spent limit i i1 o o2 e1 endings.WriteFault
       ends_tail rule at b fed tail = concludes_tail first limit i i1 o o1 s.taken s.took.told few new.kept e1 all_served rule at (broken rule at b fed) o2 tail s.took.faults
 
+      -- where the whole requests are served, the output counts no fault
       writes_none : o1.faults ≡ o.faults
       writes_none = no_faults first limit i i1 o o1 s.taken s.took.told few new.kept e1 all_served
 
+      -- a run that has taken the limit's number of bytes ends by the limit
       pub ends_limit : n ≡ limit → (new.kept ≡ []) ⊎ IsCut new.kept → Served (path X first) (CutPath X C first) quits spent limit i i1 o o1 e1 endings.Limit
       ends_limit is e = elim e [
         | inl none ↦ concludes first limit i i1 o o1 s.taken s.took.told few new.kept e1 all_served Whole none endings.Limit o1 (all_nothing o1) (at_limit (s.counted ∙ is) refl) s.took.faults writes_none
         | inr cut ↦ concludes first limit i i1 o o1 s.taken s.took.told few new.kept e1 all_served Cut cut endings.Limit o1 (all_nothing o1) (at_limit (s.counted ∙ is) refl) s.took.faults writes_none
       ]
 
+      -- where the count isn't the limit, the bytes taken aren't as many as the limit
       below : (n ≡ limit → ⊥) → length s.taken ≡ limit → ⊥
       below not is = not (sym s.counted ∙ is)
 
+      -- a run below the limit whose take fails ends by a fault of the input
       pub ends_read_fault : (n ≡ limit → ⊥) → (new.kept ≡ []) ⊎ IsCut new.kept → TakesNone i1 i2 → Served (path X first) (CutPath X C first) quits spent limit i i2 o o1 e1 endings.ReadFault
       ends_read_fault not e t =
           let reads : CountsReads i i2 endings.ReadFault = (subst (λ f. Rose f i2.faults) s.took.faults t.rose, λ h. t.unsure (s.took.sure h)) in
@@ -220,13 +238,16 @@ module _ {E : Type 0} (X C : E → Words → List Part → E → Type 0) (quits 
             | inr cut ↦ concludes first limit i i2 o o1 s.taken (takes_none i i1 i2 s.taken s.took t.told) few new.kept e1 all_served Cut cut endings.ReadFault o1 (all_nothing o1) (take_fails (below not) refl) reads writes_none
           ]
 
+      -- a run below the limit whose input ends after a whole request ends whole
       pub ends_whole : (n ≡ limit → ⊥) → TakesAll i1 i2 [] → IsAtEnd i2.told → length new.kept ≡ 0 → Served (path X first) (CutPath X C first) quits spent limit i i2 o o1 e1 endings.Whole
       ends_whole not t end none =
           concludes first limit i i2 o o1 s.taken (takes_none i i1 i2 s.taken s.took t.told) few new.kept e1 all_served Whole (nil_from_length new.kept none) endings.Whole o1 (all_nothing o1) (finds_end (below not) end refl) (t.faults ∙ s.took.faults) writes_none
 
+      -- what the feeder keeps, where it keeps any byte, ends inside a request
       is_cut : (new.kept ≡ []) ⊎ IsCut new.kept → (length new.kept ≡ 0 → ⊥) → IsCut new.kept
       is_cut e some = elim e [ inl none ↦ absurd (some (ap length none)) | inr begun ↦ begun ]
 
+      -- a run below the limit whose input ends inside a request ends cut
       pub ends_cut : (n ≡ limit → ⊥) → (new.kept ≡ []) ⊎ IsCut new.kept → TakesAll i1 i2 [] → IsAtEnd i2.told → (length new.kept ≡ 0 → ⊥) → Served (path X first) (CutPath X C first) quits spent limit i i2 o o1 e1 endings.Cut
       ends_cut not e t end some =
           concludes first limit i i2 o o1 s.taken (takes_none i i1 i2 s.taken s.took t.told) few new.kept e1 all_served Cut (is_cut e some) endings.Cut o1 (all_nothing o1) (finds_end (below not) end refl) (t.faults ∙ s.took.faults) writes_none
@@ -255,20 +276,26 @@ module _ {E : Type 0} (X C : E → Words → List Part → E → Type 0) (quits 
 
 -- ---- how much is taken at once
 
+-- no more bytes are asked for at once than the room holds
 pub most_within : (m limit taken len : ℕ) → m ≡ min (limit - taken) 65536 → len ≡ 65536 → m ≤ len
 most_within m limit taken len e f = omega arith
 
+-- where the limit isn't reached there is room for a byte at least
 pub some_taken : (m limit taken : ℕ) (room : List ℕ) → m ≡ min (limit - taken) 65536 → length room ≡ 65536 → taken ≤ limit → (taken ≡ limit → ⊥) → 0 < length (take m room)
 some_taken m limit taken room e f le not = omega (arith, length-take m room)
 
+-- what was fed and the room for the next piece come to 2^62 bytes at most
 pub room_left : (m limit taken fed : ℕ) (room : List ℕ) → m ≡ min (limit - taken) 65536 → length room ≡ 65536 → taken ≤ limit → limit ≤ 2 ^ 62 → fed ≡ taken → fed + length (take m room) ≤ 2 ^ 62
 room_left m limit taken fed room e f le small is = omega (arith, length-take m room)
 
+-- what was taken and the next piece come to the limit at most
 pub taken_within : (m limit taken k : ℕ) (room : List ℕ) → m ≡ min (limit - taken) 65536 → taken ≤ limit → k ≤ length (take m room) → taken + k ≤ limit
 taken_within m limit taken k room e le h = omega (arith, length-take m room)
 
+-- a count within the limit fits 64 bits
 pub fits_w64 : (n limit : ℕ) → n ≤ limit → limit ≤ 2 ^ 62 → Fits w64 n
 fits_w64 n limit h small = omega arith
 
+-- a piece with a byte leaves fewer bytes up to the limit
 pub falls : (limit taken k : ℕ) → taken + k ≤ limit → 0 < k → limit - (taken + k) < limit - taken
 falls limit taken k h some = omega arith

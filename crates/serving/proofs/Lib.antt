@@ -3,4 +3,5 @@ pub mod Onward
 pub mod Runs
 pub mod Finishing
 pub mod Endings
+pub mod Wholes
 pub mod Said

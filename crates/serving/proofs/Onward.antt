@@ -10,10 +10,6 @@ use Rattle.serving.specs.Output.{Onward, Writes}
 pub onward_nothing : (o : SinkSeen) (p : List ℕ) → Onward o o p p []
 onward_nothing o p = record { written = []; put = all_nothing o; rest = sym (append-nil p) }
 
--- bytes are pending behind the others
-pub onward_gathered : (o : SinkSeen) (p p' a : List ℕ) → p' ≡ p ++ a → Onward o o p p' a
-onward_gathered o p p' a e = record { written = []; put = all_nothing o; rest = e }
-
 -- what was pending is put
 pub onward_put : (o o1 : SinkSeen) (p : List ℕ) → PutsAll o o1 p → Onward o o1 p [] []
 onward_put o o1 p put = record { written = p; put = put; rest = refl }
@@ -47,12 +43,6 @@ puts_straight o o1 o2 p p1 p2 a (Ok x) same put none q =
 puts_straight o o1 o2 p p1 p2 a (Err e) same put none q =
     let P : List ℕ → Type 0 = λ l. PutsAll o o1 l in
     fault_then o o1 o2 p a (subst P same put) q
-
--- what was pending is put, and then a part is pending
-pub puts_gathered : (o o1 : SinkSeen) (p p1 p2 p3 a : List ℕ) → p1 ≡ p → PutsAll o o1 p1 → p2 ≡ [] → p3 ≡ p2 ++ a → Onward o o1 p p3 a
-puts_gathered o o1 p p1 p2 p3 a same put none e =
-    let P : List ℕ → Type 0 = λ l. PutsAll o o1 l in
-    record { written = p; put = subst P same put; rest = ap (λ l. p ++ l) (e ∙ ap (λ l. l ++ a) none) }
 
 module _ {X : Type 0} (f : X → List ℕ) (xs : List X) (i : ℕ) (x : X) (here : i < length xs) (is : x ≡ get_or xs i x) (o o1 o2 : SinkSeen) (p p1 : List ℕ) (so_far : Onward o o1 p p1 (flat_map f (take i xs))) where
   -- a part more

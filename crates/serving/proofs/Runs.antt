@@ -16,6 +16,7 @@ use Rattle.serving.specs.Output.{Onward}
 use Rattle.serving.specs.Answering.{Replied, RepliedPart, Serves, Breaks, Quits}
 use Rattle.serving.proofs.Onward.{onward_nothing, onward_then, onward_breaks}
 
+-- where no request of two lists ends the run none of both together does
 go_on_append : (quits : Words → Bool) (p q : List Words) → GoOn quits p → GoOn quits q → GoOn quits (p ++ q)
 go_on_append quits [] q f g = g
 go_on_append quits (w ∷ p) q f g = (f.0, go_on_append quits p q f.1 g)
@@ -28,6 +29,7 @@ module _ {E : Type 0} (X C : E → Words → List Part → E → Type 0) (quits 
   path_append a b c (p ∷ ps) q [] s x y = absurd x
   path_append a b c (p ∷ ps) q (r ∷ rs) s x y = (x.0, x.1, path_append x.0 b c ps q rs s x.2 y)
 
+  -- a way for the requests of some items and one for those behind them are a way for all
   path_items : (e0 e1 e2 : E) (xs ys : List Item) (r s : List (List Part)) → path X e0 (requests xs) r e1 → path X e1 (requests ys) s e2 → path X e0 (requests (xs ++ ys)) (r ++ s) e2
   path_items e0 e1 e2 xs ys r s x y = subst (λ l. path X e0 l (r ++ s) e2) (sym (flat_map-append asked xs ys)) (path_append e0 e1 e2 (requests xs) (requests ys) r s x y)
 
@@ -37,18 +39,23 @@ module _ {E : Type 0} (X C : E → Words → List Part → E → Type 0) (quits 
   cut_append a b c p q r s x (at_last others last front reply mid is are y cut) =
       at_last (p ++ others) last (r ++ front) reply mid (ap (λ l. p ++ l) is ∙ sym (append_assoc p others (last ∷ []))) (ap (λ l. r ++ l) are ∙ sym (append_assoc r front (reply ∷ []))) (path_append a b mid p others r front x y) cut
 
+  -- a way for the requests of some items and a cut one for those behind them are a cut way for all
   cut_items : (e0 e1 e2 : E) (xs ys : List Item) (r s : List (List Part)) → path X e0 (requests xs) r e1 → CutPath X C e1 (requests ys) s e2 → CutPath X C e0 (requests (xs ++ ys)) (r ++ s) e2
   cut_items e0 e1 e2 xs ys r s x y = subst (λ l. CutPath X C e0 l (r ++ s) e2) (sym (flat_map-append asked xs ys)) (cut_append e0 e1 e2 (requests xs) (requests ys) r s x y)
 
+  -- two lists of replies spell together what they spell one behind the other
   spelled_both : (r s : List (List Part)) → spelled r ++ spelled s ≡ spelled (r ++ s)
   spelled_both r s = sym (flat_map-append spelling r s)
 
+  -- one reply is spelled as a list of it alone
   spelled_one : (reply : List Part) → spelling reply ≡ spelled (reply ∷ [])
   spelled_one reply = sym (append-nil (spelling reply))
 
+  -- where no request is served the engine, the output and what is pending stay
   serves_nothing : (bytes : List ℕ) (e : E) (o : SinkSeen) (p : List ℕ) → Serves X C quits spent bytes bytes e e o o p p
   serves_nothing bytes e o p = record { items = []; replies = []; framed = record { whole = refl; each = tt }; went = refl; go_on = tt; wrote = onward_nothing o p }
 
+  -- serving starts with no request answered and nothing pending
   pub serves_starts : (bytes : List ℕ) (e : E) (o : SinkSeen) (p : List ℕ) → p ≡ [] → Serves X C quits spent bytes bytes e e o o [] p
   serves_starts bytes e o p none = let S : List ℕ → Type 0 = λ l. Serves X C quits spent bytes bytes e e o o [] l in subst S (sym none) (serves_nothing bytes e o [])
 
@@ -108,6 +115,7 @@ module _ {E : Type 0} (X C : E → Words → List Part → E → Type 0) (quits 
       wrote = subst W (append-nil (spelled f.replies)) (onward_then o0 o1 o2 p0 p1 [] _ [] f.wrote g);
     }
 
+    -- where what is pending behind the served requests fails to be put, serving breaks
     pub serves_fails : (o2 : SinkSeen) → PutsFront o1 o2 p1 → Breaks X C quits spent a e0 e1 o0 o2 p0
     serves_fails o2 g =
         let W : List ℕ → Type 0 = λ l. PutsFront o0 o2 (p0 ++ l) in
@@ -126,6 +134,7 @@ module _ {E : Type 0} (X C : E → Words → List Part → E → Type 0) (quits 
     serves_more more = record { items = f.items; replies = f.replies; framed = framed_more a b more f.items f.framed; went = f.went; go_on = f.go_on; wrote = f.wrote }
 
   module _ (a : List ℕ) (e0 e1 : E) (o0 o1 o2 : SinkSeen) (p0 p1 : List ℕ) (f : Quits X C quits spent a e0 e1 o0 o1 p0 p1) where
+    -- where what is pending is put, requests answered up to one that ends the run leave nothing pending
     pub quits_put : Onward o1 o2 p1 [] [] → Quits X C quits spent a e0 e1 o0 o2 p0 []
     quits_put g = let W : List ℕ → Type 0 = λ l. Onward o0 o2 p0 [] l in record {
       items = f.items;
@@ -141,6 +150,7 @@ module _ {E : Type 0} (X C : E → Words → List Part → E → Type 0) (quits 
       wrote = subst W (append-nil (spelled f.replies)) (onward_then o0 o1 o2 p0 p1 [] _ [] f.wrote g);
     }
 
+    -- where what is pending behind the request that ends the run fails to be put, serving breaks
     pub quits_fails : PutsFront o1 o2 p1 → Breaks X C quits spent a e0 e1 o0 o2 p0
     quits_fails g =
         let W : List ℕ → Type 0 = λ l. PutsFront o0 o2 (p0 ++ l) in
@@ -161,6 +171,7 @@ module _ {E : Type 0} (X C : E → Words → List Part → E → Type 0) (quits 
       record { items = g.items; replies = []; framed = g.framed; went = subst R (sym g.are) refl; go_on = subst (GoOn quits) (sym g.are) tt; wrote = onward_nothing o p }
 
   module _ (a b : List ℕ) (words : Words) (e0 e1 : E) (o0 o1 : SinkSeen) (p0 p1 : List ℕ) (g : GivesRequests a b (words ∷ [])) where
+    -- a request and the reply that it has are a way of one step
     way : (reply : List Part) → X e0 words reply e1 → path X e0 (requests g.items) (reply ∷ []) e1
     way reply may = let R : List Words → Type 0 = λ l. path X e0 l (reply ∷ []) e1 in subst R (sym g.are) (e1, may, refl)
 
@@ -175,6 +186,7 @@ module _ {E : Type 0} (X C : E → Words → List Part → E → Type 0) (quits 
       wrote = subst W (spelled_one r.reply) r.wrote;
     }
 
+    -- one request is given out and answered, and ends the run
     pub quits_one : Replied X C quits spent e0 e1 words o0 o1 p0 p1 true → Quits X C quits spent a e0 e1 o0 o1 p0 p1
     quits_one r = let W : List ℕ → Type 0 = λ l. Onward o0 o1 p0 p1 l in record {
       items = g.items;
@@ -190,6 +202,7 @@ module _ {E : Type 0} (X C : E → Words → List Part → E → Type 0) (quits 
       wrote = subst W (spelled_one r.reply) r.wrote;
     }
 
+    -- one request is given out, and of its reply only a front is written
     pub breaks_one : RepliedPart X C quits spent e0 e1 words o0 o1 p0 → Breaks X C quits spent a e0 e1 o0 o1 p0
     breaks_one r = let W : List ℕ → Type 0 = λ l. PutsFront o0 o1 (p0 ++ l) in record {
       items = g.items;

@@ -15,7 +15,9 @@ use Rattle.serving.specs.declared.ending.Ended.TheVariants as endings
 use Rattle.serving.specs.Served.{at_limit, take_fails, finds_end, EndsBy, CountsReads, AnswersPart, Ends, answered, quit, write_fault, no_memory, Served}
 use Rattle.serving.specs.Path.{GoOn}
 use Rattle.serving.specs.Exactly as exactly
-use Rattle.serving.specs.Exactly.{HasQuit, EndsExactly, ServesExactly, NoReadFault, AllFit, NoWriteFault, EndsWell, EndsWhole, ServesWhole}
+use Rattle.serving.proofs.Wholes as wholes
+use Rattle.serving.proofs.Wholes.{NoWriteFault, EndsWhole, ServesWhole}
+use Rattle.serving.specs.Exactly.{ServesExactly, NoReadFault, EndsWell}
 
 -- ---- from the states of an engine to what is seen of them
 
@@ -120,7 +122,7 @@ module _ {E : Type 0} (P PC : List Words → List (List Part) → E → Type 0) 
     by_completes : (found : End) → Frames s.taken s.asked found → GoOn quits s.asked → EndsBy limit s.taken found i1.told ended → EndsWhole ended
     by_completes Whole f go_on (at_limit e is) = absurd (not_limit e)
     by_completes Whole f go_on (take_fails e is) = absurd (not_failed is)
-    by_completes Whole f go_on (finds_end e at_end is) = exactly.whole is
+    by_completes Whole f go_on (finds_end e at_end is) = wholes.whole is
     by_completes Cut f go_on (at_limit e is) = absurd (not_limit e)
     by_completes Cut f go_on (take_fails e is) = absurd (not_failed is)
     by_completes Cut f go_on (finds_end e at_end is) = absurd (at_end_cut at_end f go_on)
@@ -159,7 +161,7 @@ module _ {E : Type 0} (P PC : List Words → List (List Part) → E → Type 0) 
       let left = left_of i.told i1.told bytes s.taken e s.took in
       elim s.ends [
         | answered a by ↦ by_completes bytes asked end left frames well few no_read s.end s.frames a.go_on by
-        | quit a is ↦ exactly.quit is
+        | quit a is ↦ wholes.quit is
         | write_fault a is ↦ absurd (put_completes bytes asked end left frames well few no_read no_write a)
-        | no_memory a is ↦ exactly.no_memory is
+        | no_memory a is ↦ wholes.no_memory is
       ]

@@ -5,7 +5,7 @@ use Rattle.outside.specs.Pacing.{PacerSeen}
 use Rattle.outside.specs.declared.pacing.Plan.{Plan}
 use Rattle.plain_world.specs.Words.{Words}
 use Rattle.plain_world.specs.declared.reply.Part.{Part}
-use Rattle.serving.specs.Timed.{Timed, ReadsMoment, Works, Rests, TimedReply, TimedStep, TimedCut}
+use Rattle.serving.specs.Timed.{Timed, ReadsMoment, Works, Rests, TimedReply, TimedStep}
 
 module _ {E : Type 0} (executes : ℕ → E → Words → List Part → E → Type 0) (works : ℕ → Plan → E → E → Type 0) (quits : Words → Bool) (old mid : E) (clock clock' : Option Answers) (pacers : List PacerSeen) (words : Words) (reply : List Part) (moment : ℕ)
     (read : ReadsMoment clock clock' moment) (answers : executes moment old words reply mid) where
@@ -17,10 +17,6 @@ module _ {E : Type 0} (executes : ℕ → E → Words → List Part → E → Ty
 
   replied : TimedReply executes works quits moment first words reply here
   replied = record { read = read; answers = answers; pacers = refl }
-
-  -- its reply met a fault
-  pub step_cut : TimedCut executes works quits first words reply here
-  step_cut = record { moment = moment; answered = replied }
 
   -- it ends the run
   pub step_quits : quits words ≡ true → TimedStep executes works quits first words reply here

@@ -45,26 +45,6 @@ AllFit Allowed asked room =
     (some others : List Words) (replies : List (List Part)) (last : _) → asked ≡ some ++ others
     → Allowed some replies last → Fits room (length (spelled replies))
 
--- no put fails: whatever is answered fits, or no fault was counted
-abbrev pub NoWriteFault : {E : Type 0} → (List Words → List (List Part) → E → Type 0) → List Words → SinkSeen
-    → SinkSeen → Type 0
-NoWriteFault Allowed asked old new = AllFit Allowed asked old.room ⊎ (Rose old.faults new.faults → ⊥)
-
--- the end after whole requests, or by one that ends the run, unless memory wanted
-pub data EndsWhole (ended : Ended) : Type 0 where
-  whole : ended ≡ endings.Whole → EndsWhole ended
-  quit : ended ≡ endings.Quit → EndsWhole ended
-  no_memory : ended ≡ endings.Memory → EndsWhole ended
-
 -- the bytes end after a whole request, or one of the requests in them ends the run
 abbrev pub EndsWell : (Words → Bool) → List Words → End → Type 0
 EndsWell quits asked end = (end ≡ Whole) ⊎ HasQuit quits asked
-
--- an input of fewer bytes than the limit that ends after a whole request, or holds one that ends the run before any
--- fault, is served to this end, where neither it nor the output fails
-abbrev pub ServesWhole : {E : Type 0} → (List Words → List (List Part) → E → Type 0) → (Words → Bool) → ℕ → SourceSeen
-    → SourceSeen → SinkSeen → SinkSeen → Ended → Type 0
-ServesWhole Allowed quits limit input input' old new ended =
-    (bytes : List ℕ) (asked : List Words) (end : End) → input.told ≡ Some bytes → Frames bytes asked end
-    → EndsWell quits asked end → length bytes < limit → NoReadFault input input'
-    → NoWriteFault Allowed asked old new → EndsWhole ended

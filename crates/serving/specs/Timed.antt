@@ -5,7 +5,7 @@ use Rattle.outside.specs.Pacing.{PacerSeen, Conducts}
 use Rattle.outside.specs.declared.pacing.Plan.{Plan}
 use Rattle.plain_world.specs.Words.{Words}
 use Rattle.plain_world.specs.declared.reply.Part.{Part}
-use Rattle.plain_model.specs.Runs.{latest}
+use Rattle.plain_world.specs.Worlds.{latest}
 
 -- an engine, the answers of the clock that follow, where they are told, and the pacers
 pub record Timed (E : Type 0) : Type 0 where

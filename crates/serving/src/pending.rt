@@ -26,7 +26,7 @@ impl Pending {
         ensures { IfOk result (λ pending. pending.len ≡ 0) }
     {
         Ok(Pending {
-            room: vec![in alloc; 0u8; 65_536]?,
+            room: vec![in alloc; 0u8; CAPACITY]?,
             len: 0,
             faults: 0,
         })

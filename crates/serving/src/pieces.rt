@@ -16,7 +16,7 @@ use resp_frames::{Feeder, put_fault};
 use std::alloc::Global;
 
 /// At most so many bytes are taken at once.
-const PIECE: u64 = 65_536;
+const TAKEN_AT_ONCE: usize = 65_536;
 
 /// What became of a take.
 #[derive(Clone, Copy)]
@@ -81,7 +81,7 @@ fn serve<E: Server, I: Source, O: Sink>(
         if taken == limit {
             return Ended::Limit;
         }
-        let most = (limit - taken).min(PIECE) as usize;
+        let most = (limit - taken).min(TAKEN_AT_ONCE as u64) as usize;
         match take_piece(input, &mut room[..most], feeder) {
             Taken::Piece(count) => taken += count as u64,
             Taken::End => return if feeder.kept() == 0 {
@@ -114,7 +114,7 @@ pub fn serve_input<E: Server, I: Source, O: Sink>(
     let Ok(mut pending) = Pending::new(alloc) else {
         return Ended::Memory;
     };
-    let Ok(mut room) = (vec![in alloc; 0u8; 65_536]) else {
+    let Ok(mut room) = (vec![in alloc; 0u8; TAKEN_AT_ONCE]) else {
         return Ended::Memory;
     };
     serve(

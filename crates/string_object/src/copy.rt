@@ -7,8 +7,8 @@ ghost use Rattle.int_text.specs.Decimal.{canonical};
 use blocks::{BlockRef, BlockStore};
 use itoa::Buffer;
 
-// The bytes that are copied at a time.
-const PIECE: usize = 512;
+// At most so many bytes are copied at once.
+const COPIED_AT_ONCE: usize = 512;
 
 // Prints a number into the room given.
 pub fn print_into(n: i64, room: &mut [u8; 20]) -> &[u8]
@@ -54,10 +54,10 @@ pub fn copy_block<B: BlockStore>(store: &mut B, from: BlockRef, to: BlockRef)
     ensures served { Served B.step store.old store.new }
 {
     let len = store.bytes(from).len();
-    let mut piece = [0u8; PIECE];
+    let mut piece = [0u8; COPIED_AT_ONCE];
     let mut done = 0;
     while done < len {
-        let count = (len - done).min(PIECE);
+        let count = (len - done).min(COPIED_AT_ONCE);
         copy_piece(store, from, to, done, &mut piece[..count]);
         done += count;
     }

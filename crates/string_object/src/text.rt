@@ -2,6 +2,7 @@ ghost use Rattle.std.specs.Prelude.{◌≡◌, ◌+◌, ◌<◌, ◌≤◌, ◌+
 ghost use Rattle.blocks.specs.Blocks.{bytes_at, overwritten, with_block, Changes, Owned, Served};
 ghost use Rattle.int_text.specs.Decimal.{canonical, IsI64Text};
 ghost use Rattle.object_codec.specs.Names.{IsNameOf};
+ghost use Rattle.plain_world.specs.Words.{longest};
 ghost use Rattle.string_object.specs.Text.{text_bytes, text_refs, is_raw};
 ghost use Rattle.string_object.specs.Range.{ranged, widened};
 
@@ -234,7 +235,7 @@ impl Text {
     /// `Memory` leaves the string, all blocks and slabs.
     pub fn append<B: BlockStore>(&mut self, store: &mut B, tail: &[u8]) -> Result<u64, Memory>
         requires owned { Owned (text_refs self.old) (B.blocks store.old) }
-        requires room { length (text_bytes (B.blocks store.old) self.old) + length tail.now ≤ 536870912 }
+        requires room { length (text_bytes (B.blocks store.old) self.old) + length tail.now ≤ longest }
         ensures bytes { OnOk result (text_bytes (B.blocks store.new) self.new ≡ text_bytes (B.blocks store.old) self.old ++ tail.now) }
         ensures len { IfOk result (λ len. len ≡ length (text_bytes (B.blocks store.new) self.new)) }
         ensures raw { OnOk result (is_raw self.new ≡ true) }
@@ -264,7 +265,7 @@ impl Text {
         piece: &[u8],
     ) -> Result<u64, Memory>
         requires owned { Owned (text_refs self.old) (B.blocks store.old) }
-        requires room { 0 < length piece.now → at + length piece.now ≤ 536870912 }
+        requires room { 0 < length piece.now → at + length piece.now ≤ longest }
         ensures bytes { OnOk result (text_bytes (B.blocks store.new) self.new ≡ ranged (text_bytes (B.blocks store.old) self.old) at piece.now) }
         ensures len { IfOk result (λ len. len ≡ length (text_bytes (B.blocks store.new) self.new)) }
         ensures raw { OnOk result (0 < length piece.now → is_raw self.new ≡ true) }

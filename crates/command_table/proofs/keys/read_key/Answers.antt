@@ -1,10 +1,10 @@
 use Rattle.std.proofs.Common.{[], ◌∷◌, Ok, rules}
 use Rattle.plain_model.specs.Shapes.{Plain, Cursor}
-use Rattle.plain_model.specs.KeyWords.{copy_choices, no_copy_options, scan_choices, no_scan_options}
+use Rattle.plain_model.specs.KeyWords.{copy_options, no_copy_options, scan_options, no_scan_options}
 use Rattle.plain_model.specs.declared.command.Command.TheVariants.{Keys}
 use Rattle.plain_model.specs.declared.keys.KeyCommand.TheVariants as keys
 use Rattle.command_table.specs.declared.table.KeyName.TheVariants as name
-use Rattle.command_table.proofs.FamilyRows.{choices_row}
+use Rattle.command_table.proofs.FamilyRows.{options_row}
 use Rattle.command_table.proofs.KeyRows.{at_name, expire_row}
 use Rattle.command_table.proofs.keys.read_key.Goals as goal
 
@@ -32,10 +32,10 @@ pub returns-in-CopyKey : goal.returns-in-CopyKey
 returns-in-CopyKey c =
     let words = c.args.request.now in
     at_name _ name.CopyKey words _ c.in-CopyKey.is c.requires (λ shape.
-    choices_row Keys (Plain ∷ Plain ∷ []) copy_choices no_copy_options (λ a options. Ok (keys.Copy a.0 a.1.0 options)) words _ shape c.copy.ensures)
+    options_row Keys (Plain ∷ Plain ∷ []) copy_options no_copy_options (λ a options. Ok (keys.Copy a.0 a.1.0 options)) words _ shape c.copy.ensures)
 
 pub returns-in-Scan : goal.returns-in-Scan
 returns-in-Scan c =
     let words = c.args.request.now in
     at_name _ name.Scan words _ c.in-Scan.is c.requires (λ shape.
-    choices_row Keys (Cursor ∷ []) scan_choices no_scan_options (λ a options. Ok (keys.Scan a.0 options)) words _ shape c.scan.ensures)
+    options_row Keys (Cursor ∷ []) scan_options no_scan_options (λ a options. Ok (keys.Scan a.0 options)) words _ shape c.scan.ensures)
