@@ -6,6 +6,7 @@ use Rattle.rdb_grammar.specs.declared.fault.LoadKind.{LoadKind}
 use Rattle.rdb_grammar.specs.declared.fault.LoadKind.TheVariants.{Ended}
 use Rattle.rdb_grammar.specs.Format.{Fault, ◌>>=◌, Format, give, some_bytes, followed, checked, Branch, Goes, Refuses, branch_read, BranchSpells, BranchFaulty, first_read, pick, turned, by_first}
 
+-- a format is exact: it reads just what it spells, and refuses by just its first faults, each within the bytes
 pub record Exact {A : Type 0} (one : Format A) : Type 0 where
   pub takes : (bytes : List ℕ) (x : A) (rest : List ℕ) → one.read bytes ≡ Ok (x, rest) → (word : List ℕ) × (bytes ≡ word ++ rest) × one.Spells x word
   pub again : (x : A) (word rest : List ℕ) → one.Spells x word → one.read (word ++ rest) ≡ Ok (x, rest)
@@ -13,13 +14,16 @@ pub record Exact {A : Type 0} (one : Format A) : Type 0 where
   pub first : (bytes : List ℕ) (kind : LoadKind) (left : ℕ) → one.Faulty bytes kind left → one.read bytes ≡ Err (kind, left)
   pub within : (bytes : List ℕ) (kind : LoadKind) (left : ℕ) → one.read bytes ≡ Err (kind, left) → left ≤ length bytes
 
+-- what reading a part gives: its value and the bytes behind it, or a fault
 abbrev Read : Type 0 → Type 0
 Read A = Result (A × List ℕ) Fault
 
+-- where two steps give an answer the first gave one, and the second this one from it
 bind_ok : {A B : Type 0} (r : Result A Fault) (f : A → Result B Fault) (y : B) → (r >>= f) ≡ Ok y → (x : A) × (r ≡ Ok x) × (f x ≡ Ok y)
 bind_ok (Ok x) f y e = (x, refl, e)
 bind_ok (Err d) f y e = absurd cc
 
+-- where two steps end in a fault it is the first one's, or the second's after an answer of the first
 bind_err : {A B : Type 0} (r : Result A Fault) (f : A → Result B Fault) (d : Fault) → (r >>= f) ≡ Err d → (r ≡ Err d) ⊎ ((x : A) × (r ≡ Ok x) × (f x ≡ Err d))
 bind_err (Ok x) f d e = inr (x, refl, e)
 bind_err (Err c) f d e = inl cc
@@ -28,27 +32,35 @@ bind_err (Err c) f d e = inl cc
 bind_is : {A B : Type 0} (r : Result A Fault) (x : A) (f : A → Result B Fault) → r ≡ Ok x → (r >>= f) ≡ f x
 bind_is {A = A} r x f e = ap (λ (q : Result A Fault). q >>= f) e
 
+-- where the first of two steps ends in a fault both do
 bind_fault : {A B : Type 0} (r : Result A Fault) (d : Fault) (f : A → Result B Fault) → r ≡ Err d → (r >>= f) ≡ Err d
 bind_fault {A = A} r d f e = ap (λ (q : Result A Fault). q >>= f) e
 
+-- an answer, and no fault
 abbrev done : {A : Type 0} → A → Result A Fault
 done x = Ok x
 
+-- equal answers have equal values
 ok_is : {A : Type 0} (x y : A) → done x ≡ done y → x ≡ y
 ok_is x y e = cc
 
+-- a fault, and no answer
 abbrev lost : {A : Type 0} → Fault → Result A Fault
 lost d = Err d
 
+-- equal answers of reading have equal values and equal bytes left
 pub ok_parts : {A : Type 0} (x y : A) (a b : List ℕ) → done {A = A × List ℕ} (x, a) ≡ done (y, b) → (x ≡ y) × (a ≡ b)
 ok_parts {A = A} x y a b e = let p = ok_is {A = A × List ℕ} (x, a) (y, b) e in (ap (λ (q : A × List ℕ). q.0) p, ap (λ (q : A × List ℕ). q.1) p)
 
+-- equal refusals have equal faults
 fault_is : {A : Type 0} (d c : Fault) → lost {A = A} d ≡ lost c → d ≡ c
 fault_is d c e = cc
 
+-- equal refusals have equal kinds and as many bytes left
 pub fault_parts : {A : Type 0} (k l : LoadKind) (m n : ℕ) → lost {A = A} (k, m) ≡ lost (l, n) → (k ≡ l) × (m ≡ n)
 fault_parts {A = A} k l m n e = let p = fault_is {A = A} (k, m) (l, n) e in (ap (λ (q : Fault). q.0) p, ap (λ (q : Fault). q.1) p)
 
+-- refusals of equal kinds with as many bytes left are equal
 pub make_fault : {A : Type 0} (k l : LoadKind) (m n : ℕ) → k ≡ l → m ≡ n → lost {A = A} (l, n) ≡ lost (k, m)
 make_fault {A = A} k l m n e f = ap (λ (q : LoadKind). lost {A = A} (q, n)) (sym e) ∙ ap (λ (q : ℕ). lost {A = A} (k, q)) (sym f)
 
@@ -57,21 +69,26 @@ test_ok : {A : Type 0} (b : Bool) (d : Fault) (x y : A) → cond b (done x) (los
 test_ok true d x y e = (refl, cc)
 test_ok false d x y e = absurd cc
 
+-- where a test that must hold gives a fault it didn't hold, and the fault is the test's
 test_err : {A : Type 0} (b : Bool) (d c : Fault) (x : A) → cond b (done x) (lost d) ≡ lost c → (b ≡ false) × (d ≡ c)
 test_err true d c x e = absurd cc
 test_err false d c x e = (refl, cc)
 
+-- where a test that must not hold lets an answer through it didn't hold, and the answer is that behind it
 turned_ok : {A : Type 0} (b : Bool) (d : Fault) (x y : A) → cond b (lost d) (done x) ≡ done y → (b ≡ false) × (x ≡ y)
 turned_ok true d x y e = absurd cc
 turned_ok false d x y e = (refl, cc)
 
+-- where a test that must not hold gives a fault it held, and the fault is the test's
 turned_err : {A : Type 0} (b : Bool) (d c : Fault) (x : A) → cond b (lost d) (done x) ≡ lost c → (b ≡ true) × (d ≡ c)
 turned_err true d c x e = (refl, cc)
 turned_err false d c x e = absurd cc
 
+-- a count within the bytes behind a front is within all bytes
 behind : (left : ℕ) (front back bytes : List ℕ) → bytes ≡ front ++ back → left ≤ length back → left ≤ length bytes
 behind left front back bytes e le = omega (arith, ap length e, length-append front back, le)
 
+-- the format of no byte is exact
 pub give-exact : {A : Type 0} (x : A) → Exact (give x)
 give-exact {A = A} x = record {
   takes = λ bytes y rest e. let p = ok_parts x y bytes rest e in ([], p.1, (sym p.0, refl));
@@ -81,6 +98,7 @@ give-exact {A = A} x = record {
   within = λ bytes kind left e. absurd cc;
 }
 
+-- the format of so many bytes is exact
 pub some_bytes-exact : (n : ℕ) → Exact (some_bytes n)
 some_bytes-exact n = record {
   takes = λ bytes y rest e.
@@ -104,6 +122,7 @@ some_bytes-exact n = record {
       omega (arith, none);
 }
 
+-- an exact format and behind it one that is exact for each of its values are exact together
 pub followed-exact : {A B : Type 0} (one : Format A) (next : A → Format B) → Exact one → ((x : A) → Exact (next x)) → Exact (followed one next)
 followed-exact one next e f = record {
   takes = λ bytes y rest h.
@@ -133,6 +152,7 @@ followed-exact one next e f = record {
       ];
 }
 
+-- an exact format whose value must pass a test is exact
 pub checked-exact : {A : Type 0} (is : LoadKind) (skip : ℕ) (test : A → Bool) (one : Format A) → Exact one → Exact (checked is skip test one)
 checked-exact {A = A} is skip test one e = record {
   takes = λ bytes y rest h.
@@ -174,49 +194,61 @@ abbrev branch_exact : {A : Type 0} → Branch A → Type 0
 branch_exact (Goes one) = Exact one
 branch_exact (Refuses is) = Unit {0}
 
+-- a branch is exact: where it goes on, it does so by an exact format
 pub record BranchExact {A : Type 0} (branch : Branch A) : Type 0 where
   pub exact : branch_exact branch
 
+-- a branch that goes on by an exact format is exact
 pub goes-exact : {A : Type 0} (one : Format A) → Exact one → BranchExact (Goes one)
 goes-exact one e = record { exact = e }
 
+-- a branch that refuses its byte is exact
 pub refuses-exact : {A : Type 0} (is : LoadKind) → BranchExact {A = A} (Refuses is)
 refuses-exact is = record { exact = tt }
 
+-- a value that an exact branch reads is spelled by the bytes up to those that are left
 branch_takes : {A : Type 0} (branch : Branch A) → BranchExact branch → (rest : List ℕ) (x : A) (left : List ℕ) → branch_read branch rest ≡ Ok (x, left) → (word : List ℕ) × (rest ≡ word ++ left) × BranchSpells branch x word
 branch_takes (Goes one) e rest x left h = e.exact.takes rest x left h
 branch_takes (Refuses is) e rest x left h = absurd cc
 
+-- an exact branch reads each value from its spelling, whatever stands behind it
 branch_again : {A : Type 0} (branch : Branch A) → BranchExact branch → (x : A) (word rest : List ℕ) → BranchSpells branch x word → branch_read branch (word ++ rest) ≡ Ok (x, rest)
 branch_again (Goes one) e x word rest h = e.exact.again x word rest h
 branch_again (Refuses is) e x word rest h = absurd h
 
+-- a fault that an exact branch reads is the first fault of the bytes
 branch_fails : {A : Type 0} (branch : Branch A) → BranchExact branch → (rest : List ℕ) (kind : LoadKind) (left : ℕ) → branch_read branch rest ≡ Err (kind, left) → BranchFaulty branch rest kind left
 branch_fails (Goes one) e rest kind left h = e.exact.fails rest kind left h
 branch_fails {A = A} (Refuses is) e rest kind left h = let p = fault_parts {A = A × List ℕ} is kind (suc (length rest)) left h in (sym p.0, sym p.1)
 
+-- an exact branch reads the first fault of the bytes
 branch_first : {A : Type 0} (branch : Branch A) → BranchExact branch → (rest : List ℕ) (kind : LoadKind) (left : ℕ) → BranchFaulty branch rest kind left → branch_read branch rest ≡ Err (kind, left)
 branch_first (Goes one) e rest kind left h = e.exact.first rest kind left h
 branch_first {A = A} (Refuses is) e rest kind left h = make_fault {A = A × List ℕ} kind is left (suc (length rest)) h.0 h.1
 
+-- a value that is read by its first byte is spelled by the bytes up to those that are left
 first_takes : {A : Type 0} (by : ℕ → Branch A) → ((b : ℕ) → BranchExact (by b)) → (bytes : List ℕ) (x : A) (rest : List ℕ) → first_read by bytes ≡ Ok (x, rest) → (word : List ℕ) × (bytes ≡ word ++ rest) × (by_first by).Spells x word
 first_takes by e [] x rest h = absurd cc
 first_takes by e (b ∷ bytes) x rest h =
     let t = branch_takes (by b) (e b) bytes x rest h in
     (b ∷ t.0, ap (λ (z : List ℕ). b ∷ z) t.1, (b, t.0, refl, t.2))
 
+-- a fault that is read by a first byte is the first fault of the bytes
 first_fails : {A : Type 0} (by : ℕ → Branch A) → ((b : ℕ) → BranchExact (by b)) → (bytes : List ℕ) (kind : LoadKind) (left : ℕ) → first_read by bytes ≡ Err (kind, left) → (by_first by).Faulty bytes kind left
 first_fails {A = A} by e [] kind left h = let p = fault_parts {A = A × List ℕ} Ended kind 0 left h in inl (refl, (sym p.0, sym p.1))
 first_fails by e (b ∷ bytes) kind left h = inr (b, bytes, refl, branch_fails (by b) (e b) bytes kind left h)
 
+-- a fault that an exact branch reads leaves no more bytes than its first byte and those behind it
 branch_within : {A : Type 0} (branch : Branch A) → BranchExact branch → (rest : List ℕ) (kind : LoadKind) (left : ℕ) → branch_read branch rest ≡ Err (kind, left) → left ≤ suc (length rest)
 branch_within (Goes one) e rest kind left h = let le : left ≤ length rest = e.exact.within rest kind left h in omega (arith, le)
 branch_within {A = A} (Refuses is) e rest kind left h = let p = fault_parts {A = A × List ℕ} is kind (suc (length rest)) left h in let same : suc (length rest) ≡ left = p.1 in omega (arith, same)
 
+-- a fault that is read by a first byte leaves no more bytes than there are
 first_within : {A : Type 0} (by : ℕ → Branch A) → ((b : ℕ) → BranchExact (by b)) → (bytes : List ℕ) (kind : LoadKind) (left : ℕ) → first_read by bytes ≡ Err (kind, left) → left ≤ length bytes
 first_within {A = A} by e [] kind left h = let p = fault_parts {A = A × List ℕ} Ended kind 0 left h in let same : 0 ≡ left = p.1 in omega (arith, same)
 first_within by e (b ∷ bytes) kind left h = branch_within (by b) (e b) bytes kind left h
 
+-- the format whose first byte says what follows is exact, if the branch of each byte is
 pub by_first-exact : {A : Type 0} (by : ℕ → Branch A) → ((b : ℕ) → BranchExact (by b)) → Exact (by_first by)
 by_first-exact {A = A} by e = record {
   takes = first_takes by e;
@@ -230,14 +262,12 @@ by_first-exact {A = A} by e = record {
       ];
 }
 
+-- the branch that a test picks of two is exact, if both are
 pub pick-exact : {A : Type 0} (b : Bool) (x y : Branch A) → BranchExact x → BranchExact y → BranchExact (pick b x y)
 pick-exact true x y e f = e
 pick-exact false x y e f = f
 
+-- an exact branch whose value is seen as another is exact
 pub turned-exact : {A B : Type 0} (of : A → B) (branch : Branch A) → BranchExact branch → BranchExact (turned of branch)
 turned-exact of (Goes one) e = goes-exact _ (followed-exact one (λ x. give (of x)) e.exact (λ x. give-exact (of x)))
 turned-exact of (Refuses is) e = refuses-exact is
-
-pub turned-read : {A B : Type 0} (of : A → B) (branch : Branch A) (rest : List ℕ) → branch_read (turned of branch) rest ≡ (branch_read branch rest >>= λ x. Ok (of x.0, x.1))
-turned-read of (Goes one) rest = refl
-turned-read of (Refuses is) rest = refl

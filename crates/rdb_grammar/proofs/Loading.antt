@@ -5,7 +5,7 @@ use Rattle.rdb_grammar.specs.declared.fault.LoadKind.{LoadKind}
 use Rattle.rdb_grammar.specs.declared.fault.LoadKind.TheVariants as kinds
 use Rattle.rdb_grammar.specs.Items.{Item, End, item}
 use Rattle.rdb_grammar.specs.Places.{Stands, Fails}
-use Rattle.rdb_grammar.specs.Files.{header, State, new_state, is_fresh, is_end, after, file_world, next_in, Items, Reached, sum_field, IsFile, IsFault, InHeader, InItem, InSum}
+use Rattle.rdb_grammar.specs.Files.{header, State, new_state, is_fresh, is_end, after, file_world, next_in, Items, Reached, sum_field, IsFile, IsFault, InItem, InSum}
 
 -- an item has a byte at least
 pub longer : (x : Item) (bytes : List ℕ) (at next : ℕ) → Stands item x bytes at next → at < next
@@ -62,9 +62,6 @@ is_file bytes moment at state ended sum next r e s = record { at = at; state = s
 pub is_file_items : (bytes : List ℕ) (moment at : ℕ) (state : State) (ended sum next : ℕ) (r : Reached bytes moment at state) (e : Stands item End bytes at ended) (s : Stands (sum_field (take ended bytes)) sum bytes ended next) → (is_file bytes moment at state ended sum next r e s).reached.items ≡ r.items
 unfolding is_file
 is_file_items bytes moment at state ended sum next r e s = refl
-
-pub header_fault : (bytes : List ℕ) (moment : ℕ) (which : LoadKind) (place : ℕ) → Fails header bytes 0 which place → IsFault bytes moment which place
-header_fault bytes moment which place f = InHeader f
 
 pub item_fault : (bytes : List ℕ) (moment at : ℕ) (state : State) (which : LoadKind) (place : ℕ) → Reached bytes moment at state → Fails item bytes at which place → IsFault bytes moment which place
 item_fault bytes moment at state which place r f = InItem at state r (record { onward = f.onward; inside = f.inside; faulty = inl f.faulty })

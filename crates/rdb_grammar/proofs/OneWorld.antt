@@ -16,9 +16,11 @@ use Rattle.rdb_grammar.proofs.Loading.{longer, taken, inside, begins, goes_on, i
 
 -- ---- the file, read item by item
 
+-- what a file is read as: a world, or a fault
 abbrev Verdict : Type 0
 Verdict = Result World Fault
 
+-- behind the end the checksum field is read, and the world is that of the state
 abbrev closing : List ℕ → State → List ℕ → Verdict
 closing bytes state rest = (sum_field (take (length bytes - length rest) bytes)).read rest >>= λ x. Ok (file_world state)
 
@@ -27,6 +29,7 @@ unfoldable run : List ℕ → ℕ → ℕ → State → List ℕ → Verdict
 run bytes moment zero state rest = Err (kinds.Ended, 0)
 run bytes moment (suc n) state rest = (next_in state).read rest >>= λ x. cond (is_end x.0) (closing bytes state x.1) (run bytes moment n (after moment state x.0) x.1)
 
+-- what bytes are read as with a header and at most so many items
 abbrev verdict : List ℕ → ℕ → ℕ → Verdict
 verdict bytes moment n = header.read bytes >>= λ x. run bytes moment n new_state x.1
 
@@ -35,10 +38,12 @@ abbrev more : List Item → ℕ → ℕ
 more [] n = n
 more (x ∷ xs) n = suc (more xs n)
 
+-- the count of items and n more is the number of the items and n
 more_is : (xs : List Item) (n : ℕ) → more xs n ≡ length xs + n
 more_is [] n = omega arith
 more_is (x ∷ xs) n = omega (arith, more_is xs n)
 
+-- behind items that stand one behind the other reading goes on in the state that they lead to
 run_items : (bytes : List ℕ) (moment : ℕ) (xs : List Item) (at : ℕ) (old : State) (to : ℕ) (new : State) (n : ℕ)
     → Items bytes moment xs at old to new → run bytes moment (more xs n) old (drop at bytes) ≡ run bytes moment n new (drop to bytes)
 unfolding run Items
@@ -50,6 +55,7 @@ run_items bytes moment (x ∷ xs) at old to new n h =
     let step : run bytes moment (suc (more xs n)) old (drop at bytes) ≡ run bytes moment (more xs n) (after moment old x) (drop h.0 bytes) = rw (r, e) refl in
     step ∙ run_items bytes moment xs (h.0) (after moment old x) to new n h.3
 
+-- reading a file goes on at a place that is reached, in the state there
 run_reached : (bytes : List ℕ) (moment at : ℕ) (state : State) (n : ℕ) (r : Reached bytes moment at state) → verdict bytes moment (more r.items n) ≡ run bytes moment n state (drop at bytes)
 run_reached bytes moment at state n r =
     let h : header.read bytes ≡ Ok (r.version, drop r.first bytes) = reads header header-exact r.version bytes 0 r.first r.begun in
@@ -70,6 +76,7 @@ run_end bytes moment at state ended n s =
 abbrev Settles : List ℕ → ℕ → Verdict → Type 0
 Settles bytes moment r = (xs : List Item) × ((k : ℕ) → verdict bytes moment (more xs (suc k)) ≡ r)
 
+-- a file of a world is read as this world
 file_settles : (bytes : List ℕ) (moment : ℕ) (world : World) → IsFile bytes moment world → Settles bytes moment (Ok world)
 file_settles bytes moment world f = (
   f.reached.items,
@@ -79,6 +86,7 @@ file_settles bytes moment world f = (
       run_reached bytes moment f.at f.state (suc k) f.reached ∙ run_end bytes moment f.at f.state f.ended k f.ends ∙ last ∙ ap (λ (w : World). Ok w) (sym f.means),
 )
 
+-- bytes with a first fault are read as this fault
 fault_settles : (bytes : List ℕ) (moment : ℕ) (which : LoadKind) (place : ℕ) → IsFault bytes moment which place → Settles bytes moment (Err (which, length bytes - place))
 unfolding run
 fault_settles bytes moment which place (InHeader f) = (
@@ -102,6 +110,7 @@ fault_settles bytes moment which place (InSum at ended state r e f) = (
       run_reached bytes moment at state (suc k) r ∙ run_end bytes moment at state ended k e ∙ last,
 )
 
+-- a world or a fault that bytes are read as with enough items is the only one
 agree : (bytes : List ℕ) (moment : ℕ) (r s : Verdict) → Settles bytes moment r → Settles bytes moment s → r ≡ s
 agree bytes moment r s p q =
     let same : more (p.0) (suc (more (q.0) 0)) ≡ more (q.0) (suc (more (p.0) 0)) = omega (arith, more_is (p.0) (suc (more (q.0) 0)), more_is (q.0) (suc (more (p.0) 0)), more_is (p.0) 0, more_is (q.0) 0) in
@@ -109,9 +118,11 @@ agree bytes moment r s p q =
 
 -- ---- one of both there is
 
+-- the bytes are a file of some world, or have some first fault
 abbrev Outcome : List ℕ → ℕ → Type 0
 Outcome bytes moment = ((world : World) × IsFile bytes moment world) ⊎ ((which : LoadKind) × (place : ℕ) × IsFault bytes moment which place)
 
+-- an item that counts as an end is the end item
 end_is : (x : Item) → is_end x ≡ true → x ≡ End
 end_is Passed e = absurd cc
 end_is (Deadline n) e = absurd cc
@@ -119,6 +130,7 @@ end_is (Database n) e = absurd cc
 end_is End e = refl
 end_is (Key name value) e = absurd cc
 
+-- where the end stands the checksum field decides whether the bytes are a file or have a first fault
 by_sum : (bytes : List ℕ) (moment at : ℕ) (state : State) (ended : ℕ) (r : Result (ℕ × List ℕ) Fault) → Reached bytes moment at state → Stands item End bytes at ended
     → (sum_field (take ended bytes)).read (drop ended bytes) ≡ r → Outcome bytes moment
 by_sum bytes moment at state ended (Ok x) reached s e =
@@ -128,9 +140,11 @@ by_sum bytes moment at state ended (Err d) reached s e =
     let f = broken (sum_field (take ended bytes)) (sum_field-exact _) bytes ended (d.0) (d.1) s.inside e in
     inr (d.0, length bytes - d.1, InSum at ended state reached s f.fails)
 
+-- an item that may stand behind those before it stands as an item
 plain : (state : State) (x : Item) (bytes : List ℕ) (at next : ℕ) → Stands (next_in state) x bytes at next → Stands item x bytes at next
 plain state x bytes at next s = record { onward = s.onward; inside = s.inside; spelled = s.spelled.0 }
 
+-- behind an item the bytes are a file or have a first fault, if they are or have where it goes on
 by_end : (bytes : List ℕ) (moment at : ℕ) (state : State) (x : Item) (next : ℕ) (b : Bool) → is_end x ≡ b → Reached bytes moment at state → Stands (next_in state) x bytes at next
     → ((state : State) → Reached bytes moment next state → Outcome bytes moment) → Outcome bytes moment
 by_end bytes moment at state x next true e reached s go =
@@ -138,6 +152,7 @@ by_end bytes moment at state x next true e reached s go =
 by_end bytes moment at state x next false e reached s go =
     go (after moment state x) (goes_on bytes moment at state x next reached (plain state x bytes at next s) e s.spelled.1)
 
+-- from a reached place on the bytes are a file or have a first fault, if so from each later reached place
 by_item : (bytes : List ℕ) (moment at : ℕ) (state : State) (r : Result (Item × List ℕ) Fault) → Reached bytes moment at state → (next_in state).read (drop at bytes) ≡ r
     → ((next : ℕ) (state : State) → at < next → Reached bytes moment next state → Outcome bytes moment) → Outcome bytes moment
 by_item bytes moment at state (Ok x) reached e go =
@@ -147,6 +162,7 @@ by_item bytes moment at state (Err d) reached e go =
     let f = broken (next_in state) (next_in-exact state) bytes at (d.0) (d.1) (inside bytes moment at state reached) e in
     inr (d.0, length bytes - d.1, InItem at state reached f.fails)
 
+-- from each place that is reached the bytes are a file or have a first fault
 onward : (bytes : List ℕ) (moment n at : ℕ) (state : State) → length bytes - at < n → Reached bytes moment at state → Outcome bytes moment
 onward bytes moment zero at state lt reached = absurd (omega arith)
 onward bytes moment (suc n) at state lt reached =
@@ -154,6 +170,7 @@ onward bytes moment (suc n) at state lt reached =
     let le : next ≤ length bytes = inside bytes moment next new r in
     onward bytes moment n next new (omega arith) r)
 
+-- whatever the header is read as, the bytes are a file or have a first fault
 by_header : (bytes : List ℕ) (moment : ℕ) (r : Result (List ℕ × List ℕ) Fault) → header.read bytes ≡ r → Outcome bytes moment
 by_header bytes moment (Ok x) e =
     let f = found header header-exact bytes 0 (x.0) (x.1) (omega arith) e in
@@ -164,23 +181,29 @@ by_header bytes moment (Err d) e =
 
 -- ---- and only one
 
+-- the place of a first fault is within the bytes
 place_inside : (bytes : List ℕ) (moment : ℕ) (which : LoadKind) (place : ℕ) → IsFault bytes moment which place → place ≤ length bytes
 place_inside bytes moment which place (InHeader f) = f.inside
 place_inside bytes moment which place (InItem at state r f) = f.inside
 place_inside bytes moment which place (InSum at ended state r e f) = f.inside
 
+-- a world as what a file is read as
 abbrev world_ok : World → Verdict
 world_ok w = Ok w
 
+-- a fault as what a file is read as
 abbrev fault_err : Fault → Verdict
 fault_err d = Err d
 
+-- equal readings of a file as worlds are of equal worlds
 ok_world : (a b : World) → world_ok a ≡ world_ok b → a ≡ b
 ok_world a b e = cc
 
+-- equal readings of a file as faults are of equal faults
 err_fault : (d c : Fault) → fault_err d ≡ fault_err c → d ≡ c
 err_fault d c e = cc
 
+-- what is read as a world isn't read as a fault
 apart : (a : World) (d : Fault) → world_ok a ≡ fault_err d → ⊥
 apart a d e = absurd cc
 
@@ -213,12 +236,14 @@ one_items bytes moment (x ∷ xs) (y ∷ ys) at to last ended past old new other
     let rest = subst (λ n. P n x) (sym same.1) (subst (P k.0) (sym same.0) k.3) in
     ap (λ z. x ∷ z) (one_items bytes moment xs ys h.0 to last ended past (after moment old x) new other h.3 e rest f) ∙ ap (λ z. z ∷ ys) same.0
 
+-- the list of items is the same, of whichever world the bytes are a file
 one_list : (bytes : List ℕ) (moment : ℕ) (a b : World) (f : IsFile bytes moment a) (g : IsFile bytes moment b) → f.reached.items ≡ g.reached.items
 one_list bytes moment a b f g =
     let begun = one_part header header-exact f.reached.version g.reached.version bytes 0 f.reached.first g.reached.first f.reached.begun g.reached.begun in
     let same = subst (λ n. Items bytes moment g.reached.items n new_state g.at g.state) (sym begun.1) g.reached.itemised in
     one_items bytes moment f.reached.items g.reached.items f.reached.first f.at g.at f.ended g.ended new_state f.state g.state f.reached.itemised f.ends same g.ends
 
+-- bytes are a file of one world and one list of items, or have one first fault, and never both
 pub exactly_one : (bytes : List ℕ) (moment : ℕ) → ExactlyOne bytes moment
 exactly_one bytes moment = record {
   either = by_header bytes moment _ refl;

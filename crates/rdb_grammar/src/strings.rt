@@ -1,15 +1,13 @@
 //! Strings.
 
-ghost use Rattle.std.specs.Prelude.{◌≡◌, ◌↔◌, ◌++◌, ℕ, List, OnOk, OnErr, IsTrue};
 ghost use Rattle.rdb_grammar.specs.Format.{branch_read};
 ghost use Rattle.rdb_grammar.specs.Strings.{head_behind as head_behind_of, head, short_head, body, string};
 ghost use Rattle.rdb_grammar.specs.Views.{text_of, head_of as head_seen};
 ghost use Rattle.rdb_grammar.specs.Returns.{Returns};
 
+use crate::codes;
 use crate::fault::{LoadKind, Refused};
 use crate::lengths::{length_behind, part_of};
-use crate::{Memory, codes};
-use itoa::Buffer;
 use plain_world::LONGEST;
 
 /// A string of a file: a part of its bytes, or a number that means its decimal text.
@@ -19,29 +17,6 @@ pub enum Chunk<'a> {
     Part(&'a [u8]),
     /// The number whose decimal text is meant.
     Number(i64),
-}
-
-impl Chunk<'_> {
-    /// Whether the text is this one.
-    pub fn is_text(&self, text: &[u8]) -> bool
-        ensures { IsTrue result ↔ (text_of self.now ≡ text.now) }
-    {
-        match self {
-            Chunk::Part(bytes) => *bytes == text,
-            Chunk::Number(number) => Buffer::new().format(*number).as_bytes() == text,
-        }
-    }
-
-    /// Puts the text at the end of `out`. Where memory is refused `out` stays as it was.
-    pub fn append_to(&self, out: &mut Vec<u8>) -> Result<(), Memory>
-        ensures appended { OnOk result (out.new.items ≡ out.old.items ++ text_of self.now) }
-        ensures unchanged { OnErr result (out.new.items ≡ out.old.items) }
-    {
-        match self {
-            Chunk::Part(bytes) => out.extend_from_slice(bytes),
-            Chunk::Number(number) => int_text::print(*number, out),
-        }
-    }
 }
 
 /// How a string begins.

@@ -2,9 +2,8 @@
 use Rattle.std.proofs.Common.{◌≡◌, ℕ, ◌<◌, List, [], ◌++◌, Option, Some, None, Ok, Err, Bool, true, false, length, refl, sym, ap, subst, ◌∙◌, arith, length-append}
 use Rattle.std.specs.Prelude.{IsSome}
 use Rattle.std.specs.Global.{Vec}
-use Rattle.std.specs.Io.KnownBytes.{Consumes, IsAtEnd}
-use Rattle.std.proofs.lemmas.List.{append-nil}
-use Rattle.outside.specs.Streams.{SourceSeen, TakesAll, TakesNone}
+use Rattle.std.specs.Io.KnownBytes.{Consumes}
+use Rattle.outside.specs.Streams.{SourceSeen, TakesAll}
 use Rattle.outside.specs.Files.{Files, HostSeen, HasLeft, IsListed, Begins}
 use Rattle.outside.specs.declared.faults.HostFault.{HostFault}
 use Rattle.outside.proofs.Takings.{takes_then}
@@ -13,13 +12,6 @@ use Rattle.rdb_reader.specs.Fetching.{IsAll, IsLong, TakesPiece, Counts, Fetches
 use Rattle.outside.specs.Counts.{Rose}
 use Rattle.rdb_reader.specs.declared.fault.LoadFault.{LoadFault}
 use Rattle.rdb_reader.specs.declared.fault.LoadFault.TheVariants as faults
-
--- all is taken
-pub all_taken : (a b c : Option (List ℕ)) (x y : List ℕ) → y ≡ x → Consumes a b x → Consumes b c [] → IsAtEnd c → IsAll a y
-all_taken None b c x y e p q end = tt
-all_taken (Some xs) None c x y e p q end = absurd p
-all_taken (Some xs) (Some ys) None x y e p q end = absurd q
-all_taken (Some xs) (Some ys) (Some zs) x y e p q end = p ∙ ap (λ l. x ++ l) (q ∙ end) ∙ append-nil x ∙ sym e
 
 -- more is taken than so much
 pub long_taken : (a b : Option (List ℕ)) (x : List ℕ) (limit : ℕ) → Consumes a b x → limit < length x → IsLong a limit
@@ -39,14 +31,6 @@ long_file files name left limit b l = record { bytes = l.all; is = file_is files
 -- a piece leads past the limit
 pub long_more : (a b c : SourceSeen) (x y : List ℕ) (limit most : ℕ) → TakesAll a b x → TakesPiece b c most x y → limit < length y → IsLong a.told limit
 long_more a b c x y limit most p t h = long_taken a.told c.told y limit (let P : List ℕ → Type 0 = λ l. Consumes a.told c.told l in subst P (sym t.kept) (takes_then a b c x t.piece p t.took).told) h
-
--- a piece more
-pub takes_more : (a b c : SourceSeen) (x y : List ℕ) (most : ℕ) → TakesAll a b x → TakesPiece b c most x y → TakesAll a c y
-takes_more a b c x y most p t = let P : List ℕ → Type 0 = λ l. TakesAll a c l in subst P (sym t.kept) (takes_then a b c x t.piece p t.took)
-
--- a take fails behind others
-pub fails_behind : (a b c : SourceSeen) (x : List ℕ) → TakesAll a b x → TakesNone b c → Rose a.faults c.faults × (a.sure ≡ true → ⊥)
-fails_behind a b c x p t = (subst (λ f. Rose f c.faults) p.faults t.rose, λ h. t.unsure (p.sure h))
 
 -- a call that fails isn't one that is sure
 pub not_sure : (let b : Bool = false in b) ≡ true → ⊥

@@ -1,5 +1,5 @@
 -- One turn of the loader.
-use Rattle.std.proofs.Common.{◌≡◌, ℕ, zero, suc, ◌+◌, ◌<◌, ◌≤◌, List, [], ◌∷◌, ◌++◌, Option, Some, None, Err, true, false, cond, inl, inr, length, take, refl, sym, ap, subst, ◌∙◌, arith, lit<}
+use Rattle.std.proofs.Common.{◌≡◌, ℕ, zero, suc, ◌+◌, ◌<◌, ◌≤◌, List, [], ◌∷◌, ◌++◌, Option, Some, None, Err, true, false, cond, inl, inr, take, refl, sym, ap, subst, ◌∙◌, arith, lit<}
 use Rattle.std.specs.Prelude.{is_none, is_some}
 use Rattle.std.specs.FinMap.{len, len-insert, len-empty}
 use Rattle.std.specs.Cmp.Lexicographic.{slice_cmp, nat_list_cmp_total}
@@ -72,9 +72,6 @@ module _ (bytes : List ℕ) (moment : ℕ) (world : World) (p : Progress) (h : H
 
   further : (x : Item) (next : ℕ) → Stands item x bytes p.at next → is_end x ≡ false → is_fresh state x ≡ true → Further next (after moment state x) (keys_of x)
   further x next s e fresh = (goes_on bytes moment p.at state x next h.reached s e fresh, omega (arith, h.items, among_more h.reached.items x, ap keys_among (goes_on_items bytes moment p.at state x next h.reached s e fresh)))
-
-  pub lies_inside : p.at ≤ length bytes
-  lies_inside = h.within
 
   module _ (next : ℕ) where
     pub passed_read : Stands item Passed bytes p.at next → Holds bytes moment world (record p { at = next }) × (p.at < next)

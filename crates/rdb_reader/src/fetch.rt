@@ -9,7 +9,7 @@ use outside::Host;
 use std::alloc::Global;
 
 /// At most so many bytes are taken at once.
-const PIECE: usize = 65_536;
+const TAKEN_AT_ONCE: usize = 65_536;
 
 /// What became of a take.
 #[derive(Clone, Copy)]
@@ -54,7 +54,7 @@ fn take_all<H: Host>(
 {
     'pieces: loop {
         // one more than is left, so that a file past the limit is seen
-        let most = (limit - bytes.len()).min(PIECE - 1) + 1;
+        let most = (limit - bytes.len()).min(TAKEN_AT_ONCE - 1) + 1;
         match take_piece(host, &mut room[..most], bytes) {
             Taken::Piece => {}
             Taken::End => return Ok(()),
@@ -82,7 +82,7 @@ pub fn fetch<H: Host>(
         Ok(()) => {}
         Err(_) => return Err(LoadFault::Host),
     }
-    let mut room = match vec![in alloc; 0u8; 65_536] {
+    let mut room = match vec![in alloc; 0u8; TAKEN_AT_ONCE] {
         Ok(room) => room,
         Err(_) => return Err(LoadFault::Memory),
     };
