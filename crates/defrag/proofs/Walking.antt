@@ -25,9 +25,11 @@ use Rattle.defrag.specs.declared.walk.Walk.{Walk}
 use Rattle.defrag.specs.Swept.{ComesBefore, HasPassed, IsSwept, of_database, of_item, of_mark}
 use Rattle.defrag.specs.Ways.{Shapes, shape_of, shape, SameShapes, behind, next_database, Leg, Way, IsOn, IsForward, vacant, ended, inside, here, further}
 
+-- two values of one option are the same
 some_same : {A : Type 0} (o : Option A) (x y : A) → o ≡ Some x → o ≡ Some y → x ≡ y
 some_same o x y h k = cc
 
+-- no option that has a value is none
 some_none : {A : Type 0} {X : Type 0} (o : Option A) (x : A) → o ≡ Some x → o ≡ None → X
 some_none o x h k = cc
 
@@ -42,6 +44,7 @@ in_list r (x ∷ xs) h = elim (cases_ref x r) [
       (suc rest.0, rest.1))
 ]
 
+-- a reference that stands in a list of one is that one
 in_one : (r at : BlockRef) → 0 < times r (at ∷ []) → r ≡ at
 in_one r at h = elim (cases_ref at r) [
   | inl same ↦ sym same
@@ -85,6 +88,7 @@ module _ {V : Type 0} (refs_of : V → List BlockRef) (marks : V → List ℕ) w
 
   -- the walk passes a part of a key's blocks
   module _ {E : Type 0} (encoding : V → E) (marked : (value : V) → length (marks value) ≡ length (refs_of value)) (old new : Bases V) (heap later : Heap) (walk : Walk) (room : ℕ) (answer : Moved) (p : PassesElement refs_of marks encoding later old new walk.database walk.item walk.mark room answer) where
+    -- passing a part of a key's blocks is one leg of the walk, with the units that the call used
     pub leg_inside : Leg (shape marks old) walk answer.used (behind walk answer.next)
     leg_inside = inside (marks p.was.value) answer.next (ap (shape_of marks) p.replaces.found) (first answer.next p.bounded.on)
         (let same = ap (λ ms. count_by (is_passed (unwrap_or walk.mark 0) answer.next) ms) p.same_marks in omega (arith, p.bounded.few, same)) refl
@@ -94,12 +98,15 @@ module _ {V : Type 0} (refs_of : V → List BlockRef) (marks : V → List ℕ) w
         first (Some next) h = h.0
 
     module _ (calmer : Calmer heap later) (s : IsSwept refs_of marks old heap walk) where
+      -- a block that the walk had passed wants no move after the call
       was_calm : (r : BlockRef) → HasPassed refs_of marks old walk r → wants later r ≡ false
       was_calm r h = calmer.calm r (s.calm r h)
 
+      -- a block of the element before the walk's mark wants no move after the call
       before_calm : (r : BlockRef) (b : ℕ) → walk.mark ≡ Some b → ComesBefore refs_of marks p.was (Some b) r → wants later r ≡ false
       before_calm r b is h = was_calm r (of_mark p.was p.replaces.found (subst (λ o. ComesBefore refs_of marks p.was o r) (sym is) h))
 
+      -- the block of the element's key wants no move after the call
       name_calm : (r : BlockRef) → r ≡ p.now.key → wants later r ≡ false
       name_calm r is = by_mark walk.mark refl
         where
@@ -107,6 +114,7 @@ module _ {V : Type 0} (refs_of : V → List BlockRef) (marks : V → List ℕ) w
           by_mark None e = ap (wants later) is ∙ p.name_passed e
           by_mark (Some b) e = before_calm r b e (inl (is ∙ p.name_stays (ap is_some e)))
 
+      -- a block of the value whose mark is below the next one to go on from wants no move
       value_calm : (index mark : ℕ) (r : BlockRef) → slice_get (marks p.now.value) index ≡ Some mark → slice_get (refs_of p.now.value) index ≡ Some r → is_before answer.next mark ≡ true → wants later r ≡ false
       value_calm index mark r has named before = elim (cases_lt mark (unwrap_or walk.mark 0)) [
         | inl less ↦ by_mark walk.mark refl less
@@ -131,6 +139,7 @@ module _ {V : Type 0} (refs_of : V → List BlockRef) (marks : V → List ℕ) w
       low_calm r number at e (inr low) found isin =
           was_calm r (of_item at e low.1 (subst (λ n. item (table_at old n) at ≡ Some e) low.0 (sym (p.replaces.others number at (inr (λ same. omega (arith, low.1, same)))) ∙ found)) isin)
 
+      -- where no block that a walk has passed wants a move after the call, the pass stands swept up to there
       swept_by : (walk' : Walk) → ((r : BlockRef) → HasPassed refs_of marks new walk' r → wants later r ≡ false) → IsSwept refs_of marks new later walk'
       swept_by walk' calm = record {
         passing = calmer.passing ∙ s.passing;
@@ -151,6 +160,7 @@ module _ {V : Type 0} (refs_of : V → List BlockRef) (marks : V → List ℕ) w
               value_calm b.index b.mark r (subst (λ (x : Element V). slice_get (marks x.value) b.index ≡ Some b.mark) same b.marked) (subst (λ (x : Element V). slice_get (refs_of x.value) b.index ≡ Some r) same b.named)
               (subst (λ o. is_before o b.mark ≡ true) (sym is) (lt-ltb b.mark next b.below))
 
+      -- where no mark is left to go on from, no block of the element wants a move
       all_calm : answer.next ≡ None → (r : BlockRef) → IsIn r (p.now.key ∷ refs_of p.now.value) → wants later r ≡ false
       all_calm none r isin = elim (cases_in r (p.now.key ∷ [])) [
         | inr name ↦ name_calm r (in_one r p.now.key name)
@@ -178,15 +188,19 @@ module _ {V : Type 0} (refs_of : V → List BlockRef) (marks : V → List ℕ) w
   -- no block wants to move, and the walk goes past a key from its start
   module _ {E : Type 0} (encoding : V → E) (marked : (value : V) → length (marks value) ≡ length (refs_of value)) (bases : Bases V) (heap : Heap) (walk : Walk) (room units : ℕ) (start : walk.mark ≡ None)
       (e : Element V) (found : item (table_at bases walk.database) walk.item ≡ Some e) (calm : (r : BlockRef) → wants heap r ≡ false) (counted : length (marks e.value) ≤ units) (fits : units < room) where
+    -- the walk at the next item number
     abbrev next : Walk
     next = record { database = walk.database; item = walk.item + 1; mark = walk.mark }
 
+    -- the answer of a call that passed all of a key's blocks
     abbrev passed : Moved
     passed = record { next = None; used = units + 1 }
 
+    -- the place behind the whole item is the next item number
     is_behind : behind walk None ≡ next
     is_behind = λ i. record { database = walk.database; item = walk.item + 1; mark = (sym start) i }
 
+    -- where no block wants to move, all of a key's blocks are passed and none moves
     key_passes : PassesElement refs_of marks encoding heap bases bases walk.database walk.item None room passed
     key_passes = record {
       was = e;
@@ -204,17 +218,21 @@ module _ {V : Type 0} (refs_of : V → List BlockRef) (marks : V → List ℕ) w
       };
     }
 
+    -- where no block wants to move, all blocks of the walk's item are passed from its place on
     here_passes : PassesElement refs_of marks encoding heap bases bases walk.database walk.item walk.mark room passed
     here_passes = subst (λ o. PassesElement refs_of marks encoding heap bases bases walk.database walk.item o room passed) (sym start) key_passes
 
+    -- where no block wants to move, a pass that is swept up to a key is swept up to the next item number
     pub calm_swept : IsSwept refs_of marks bases heap walk → IsSwept refs_of marks bases heap next
     calm_swept s = subst (IsSwept refs_of marks bases heap) is_behind (swept_over encoding marked bases bases heap heap walk room passed here_passes (Calmer-same heap) s refl)
 
+    -- where no block wants to move, going past a key is one leg of the walk, with a unit for the key's own block
     pub calm_leg : Leg (shape marks bases) walk (units + 1) next
     calm_leg = subst (Leg (shape marks bases) walk (units + 1)) is_behind (leg_inside encoding marked bases bases heap heap walk room passed here_passes)
 
   -- ---- where all databases are passed, all blocks are
 
+  -- a reference that is owned by a list of items is among those of one of its elements
   table_in : (r : BlockRef) (items : List (Option (Element V))) → 0 < times r (flat_map (own_of refs_of) items) → (at : ℕ) × (e : Element V) × (at_item items at ≡ Some e) × IsIn r (e.key ∷ refs_of e.value)
   table_in r [] h = absurd (omega (arith, h))
   table_in r (None ∷ items) h = let rest = table_in r items h in (suc rest.0, rest.1, rest.2, rest.3)
@@ -223,9 +241,11 @@ module _ {V : Type 0} (refs_of : V → List BlockRef) (marks : V → List ℕ) w
     | inl out ↦ (let rest = table_in r items (omega (arith, h, out, times-append r (e.key ∷ refs_of e.value) (flat_map (own_of refs_of) items))) in (suc rest.0, rest.1, rest.2, rest.3))
   ]
 
+  -- the references that one database owns
   abbrev base_refs : Base V → List BlockRef
   base_refs base = refs refs_of base.keys
 
+  -- a reference that is owned by a list of databases is owned by one of them
   bases_in : (r : BlockRef) (list : List (Base V)) → 0 < times r (flat_map base_refs list) → (number : ℕ) × (number < length list) × (0 < times r (base_refs (get_or list number (no_base 0))))
   bases_in r [] h = absurd (omega (arith, h))
   bases_in r (b ∷ list) h = elim (cases_in r (base_refs b)) [
@@ -235,6 +255,7 @@ module _ {V : Type 0} (refs_of : V → List BlockRef) (marks : V → List ℕ) w
         (suc rest.0, omega (arith, rest.1), rest.2))
   ]
 
+  -- a walk that stands behind the last database has passed each live block
   pub all_passed : (bases : Bases V) (blocks : Blocks) (walk : Walk) → Sound refs_of bases blocks → walk.database ≡ 16 → (r : BlockRef) → IsSome (blocks r) → HasPassed refs_of marks bases walk r
   all_passed bases blocks walk sound ends r is =
       let own : 0 < times r (owned refs_of bases) = omega (arith, sound.owns r, live-Some blocks r is) in
@@ -277,11 +298,13 @@ module _ {V : Type 0} (refs_of : V → List BlockRef) (value_of : Blocks → V �
 
 -- ---- several legs
 
+-- a way and another from where it ends are one way, with the units of both
 pub way_then : (shapes : Shapes) (first mid last : Walk) (some more : ℕ) → Way shapes first some mid → Way shapes mid more last → Way shapes first (some + more) last
 way_then shapes first mid _ some _ way here = subst (λ n. Way shapes first n mid) (omega arith) way
 way_then shapes first mid last some _ way (further sum units at last' rest leg) =
     subst (λ n. Way shapes first n last) (omega arith) (further (some + sum) units at last (way_then shapes first mid at some sum way rest) leg)
 
+-- a way is the same where the vacant item numbers and the marks of the values are as they were
 pub way_same : {V : Type 0} (refs_of : V → List BlockRef) (marks : V → List ℕ) (old mid : Bases V) (first last : Walk) (units : ℕ) → SameShapes marks old mid → Way (shape marks mid) first units last → Way (shape marks old) first units last
 way_same refs_of marks old mid first _ _ same here = here
 way_same refs_of marks old mid first _ _ same (further sum units at last way leg) = further sum units at last (way_same refs_of marks old mid first at sum same way) (leg_same refs_of marks old mid at last units same leg)
@@ -292,19 +315,23 @@ way_of shapes first last units leg = subst (λ n. Way shapes first n last) (omeg
 
 -- ---- a walk never comes back
 
+-- of three places inside an item in order the last isn't before the first
 on_then : (a b c : Option ℕ) → IsOn a b → IsOn b c → IsOn a c
 on_then None b c p q = tt
 on_then (Some x) None c p q = absurd p
 on_then (Some x) (Some y) None p q = absurd q
 on_then (Some x) (Some y) (Some z) p q = omega (arith, p, q)
 
+-- no place inside an item is before itself
 on_same : (a : Option ℕ) → IsOn a a
 on_same None = tt
 on_same (Some x) = omega arith
 
+-- no place of a walk is before itself
 forward_same : (walk : Walk) → IsForward walk walk
 forward_same walk = inr (refl, inr (refl, on_same walk.mark))
 
+-- of three places of a walk in order the last isn't before the first
 forward_then : (a b c : Walk) → IsForward a b → IsForward b c → IsForward a c
 forward_then a b c (inl p) (inl q) = inl (omega (arith, p, q))
 forward_then a b c (inl p) (inr q) = inl (omega (arith, p, q.0))
@@ -317,6 +344,7 @@ forward_then a b c (inr p) (inr q) = inr (p.0 ∙ q.0, items p.1 q.1)
     items (inr x) (inl y) = inl (omega (arith, x.0, y))
     items (inr x) (inr y) = inr (x.0 ∙ y.0, on_then a.mark b.mark c.mark x.1 y.1)
 
+-- a leg doesn't end before the place where it begins
 leg_forward : (shapes : Shapes) (from to : Walk) (units : ℕ) → Leg shapes from units to → IsForward from to
 leg_forward shapes from to units (vacant none one' is) = subst (IsForward from) (sym is) (inr (refl, inl (omega arith)))
 leg_forward shapes from to units (ended none one' is) = subst (IsForward from) (sym is) (inl (omega arith))
@@ -330,6 +358,7 @@ leg_forward shapes from to units (inside all next has lt few is) = subst (IsForw
     by_next None less = inr (refl, inl (omega arith))
     by_next (Some n) less = inr (refl, inr (refl, by_mark from.mark n less))
 
+-- a way doesn't end before the place where it begins
 pub way_forward : (shapes : Shapes) (first last : Walk) (units : ℕ) → Way shapes first units last → IsForward first last
 way_forward shapes first _ _ here = forward_same first
 way_forward shapes first _ _ (further sum units mid last way leg) = forward_then first mid last (way_forward shapes first mid sum way) (leg_forward shapes mid last units leg)

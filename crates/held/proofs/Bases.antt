@@ -20,7 +20,7 @@ use Rattle.held.specs.Sound.{IsTimed, HasSeed, IsArranged, IsIntact, SoundBeside
 use Rattle.held.specs.Calls.{AreParts}
 use Rattle.held.proofs.Tables.{some_bytes, named_in}
 use Rattle.held.proofs.Maps.{with_put, with_removed, same_deadline, same_value}
-use Rattle.held.proofs.Timing.{timed_adds, timed_swaps, timed_removes, timed_frame}
+use Rattle.held.proofs.Timing.{timed_swaps, timed_removes, timed_frame}
 
 -- the database that changed is in order
 pub record InOrder {V : Type 0} (m : Blocks) (old new : Bases V) (db : ℕ) : Type 0 where
@@ -38,12 +38,11 @@ module _ {V : Type 0} (m : Blocks) (old new : Bases V) (db : ℕ) (a : IsArrange
       seeds = λ h. record { keys = seed ∙ h.keys; deadlines = ap (λ (d : Timed). d.table.seed) c.deadlines ∙ h.deadlines };
     }
 
+    -- a database stays in order where a value takes the place of another in its key table
     pub order_swaps : (at : ℕ) (was value : V) → Swaps (table_at old db) (table_at new db) at was value → InOrder m old new db
     order_swaps at was value s = stay_timed (timed_swaps m (table_at old db) (table_at new db) (deadlines_at old db) at was value s (a.timed db)) s.seed
 
-    pub order_adds : (at : ℕ) (e : Element V) → Adds (table_at old db) (table_at new db) at e → InOrder m old new db
-    order_adds at e s = stay_timed (timed_adds m (table_at old db) (table_at new db) (deadlines_at old db) at e s (a.timed db)) s.seed
-
+    -- a database stays in order where a key without a deadline leaves its key table
     pub order_removes : (key : List ℕ) (ref : BlockRef) (value : V) → Removes m (table_at old db) (table_at new db) key ref value → Lacks m (deadlines_at old db).table key → InOrder m old new db
     order_removes key ref value l lacks = stay_timed (timed_removes m (table_at old db) (table_at new db) (deadlines_at old db) key ref value l lacks (a.timed db)) l.seed
 
@@ -64,6 +63,7 @@ module _ {V : Type 0} (a b c : Bases V) (db : ℕ) where
     settings = record { limits = q.settings.limits ∙ p.settings.limits; seed = q.settings.seed ∙ p.settings.seed; turn = q.settings.turn ∙ p.settings.turn };
   }
 
+  -- a database that is in order after each of two changes is in order after both
   pub order_then : (m : Blocks) → ChangesBase a b db → InOrder m a b db → InOrder m b c db → InOrder m a c db
   order_then m p x y = record {
     keyed = y.keyed;
@@ -74,6 +74,7 @@ module _ {V : Type 0} (a b c : Bases V) (db : ℕ) where
 module _ {V : Type 0} (refs_of : V → List BlockRef) (value_of : Blocks → V → Value) (own : ReadsOwn refs_of value_of) where
   -- ---- what the databases own
 
+  -- the references that one database owns: its key blocks, and the blocks of its values
   abbrev base_refs : Base V → List BlockRef
   base_refs base = refs refs_of base.keys
 
@@ -95,16 +96,19 @@ module _ {V : Type 0} (refs_of : V → List BlockRef) (value_of : Blocks → V �
   owned_times old new db c r = let same = ap (λ (k : Table V). times r (refs refs_of k)) c.keys in omega (arith, same, owned_changed old new db c.base r)
 
   module _ (old new : Bases V) (db : ℕ) (c : ChangesBase old new db) (r : BlockRef) where
+    -- where an element joins, the databases own its key block and its value's blocks besides what they owned
     pub owned_joins : (at : ℕ) (e : Element V) → Adds (table_at old db) (table_at new db) at e → times r (owned refs_of new) ≡ times r (owned refs_of old) + times r (e.key ∷ refs_of e.value)
     owned_joins at e a =
         let none : times r (own_of refs_of (item (table_at old db) at)) ≡ 0 = ap (λ o. times r (own_of refs_of o)) a.vacant in
         omega (arith, none, refs_changed refs_of (table_at old db) (table_at new db) at (Some e) a.updates r, owned_changed old new db c r)
 
+    -- where a key leaves, the databases owned its key block and its value's blocks besides what they own
     pub owned_leaves : (m : Blocks) (key : List ℕ) (ref : BlockRef) (value : V) → Removes m (table_at old db) (table_at new db) key ref value → times r (owned refs_of old) ≡ times r (owned refs_of new) + times r (ref ∷ refs_of value)
     owned_leaves m key ref value l =
         let there : times r (own_of refs_of (item (table_at old db) l.at)) ≡ times r (ref ∷ refs_of value) = ap (λ o. times r (own_of refs_of o)) l.found in
         omega (arith, there, refs_changed refs_of (table_at old db) (table_at new db) l.at None l.updates r, owned_changed old new db c r)
 
+    -- where a value takes the place of another, its blocks take the place of the other's among those owned
     pub owned_swaps : (at : ℕ) (was value : V) → Swaps (table_at old db) (table_at new db) at was value → times r (owned refs_of new) + times r (refs_of was) ≡ times r (owned refs_of old) + times r (refs_of value)
     owned_swaps at was value s =
         let there : times r (own_of refs_of (item (table_at old db) at)) ≡ times r (s.key ∷ refs_of was) = ap (λ o. times r (own_of refs_of o)) s.found in
@@ -123,26 +127,33 @@ module _ {V : Type 0} (refs_of : V → List BlockRef) (value_of : Blocks → V �
       pub kept_inside : (r : BlockRef) → 0 < times r (owned refs_of bases) → after r ≡ m r
       kept_inside r named = kept_named r (omega (arith, named)) (omega (arith, named, intact.owned r, live-once m r, part r))
 
+      -- where only blocks that were out change, each element's key keeps its bytes and its value its meaning
       kept_table : (db at : ℕ) (e : Element V) → item (table_at bases db) at ≡ Some e → (after e.key ≡ m e.key) × (value_of after e.value ≡ value_of m e.value)
       kept_table db at e found =
           let named : (r : BlockRef) → 0 < times r (e.key ∷ refs_of e.value) → after r ≡ m r = (λ r one. kept_inside r (omega (arith, one, named_in refs_of (table_at bases db) at e r found, table_owned bases db r))) in
           (named e.key (let itself : one_if (ref_eq e.key e.key) ≡ 1 = cond-true _ _ _ (ref_eq-refl e.key) in omega (arith, itself)), own m after e.value (λ r one. named r (omega (arith, one))))
 
+      -- where only blocks that were out change, the keys of each table stay live blocks whose bytes differ
       kept_keyed : (db : ℕ) → Keyed after (table_at bases db)
       kept_keyed db = (Keyed-frame m after (table_at bases db) (intact.arranged.keyed db) (λ at e found. (kept_table db at e found).0)).0
 
+      -- where only blocks that were out change, each deadline stays that of a key, and all mean what they meant
       pub kept_timed : (db : ℕ) → IsTimed after (table_at bases db) (deadlines_at bases db) × (moments after (deadlines_at bases db) ≡ moments m (deadlines_at bases db))
       kept_timed db = timed_frame m after (table_at bases db) (deadlines_at bases db) (intact.arranged.timed db) (λ at e found. (kept_table db at e found).0)
 
+      -- where only blocks that were out change, the databases stay arranged
       pub arranged_out : IsArranged bases after
       arranged_out = record { keyed = kept_keyed; timed = λ db. (kept_timed db).0; sixteen = intact.arranged.sixteen; limits = intact.arranged.limits; seeds = intact.arranged.seeds; turn = intact.arranged.turn }
 
+      -- where only blocks that were out change, each key table means the keys and values that it meant
       values_out : (db : ℕ) → map_of after (value_of after) (table_at bases db) ≡ map_of m (value_of m) (table_at bases db)
       values_out db = map_of-frame m after (value_of m) (value_of after) (table_at bases db) (intact.arranged.keyed db) (kept_keyed db) (kept_table db)
 
+      -- where only blocks that were out change, each database means what it meant
       pub base_out : (db : ℕ) → base_means value_of after (base_at bases db) ≡ base_means value_of m (base_at bases db)
       base_out db = λ i. with_deadlines (values_out db i) ((kept_timed db).1 i)
 
+      -- where only blocks that were out change, the databases mean the world that they meant
       pub means_out : (db : ℕ) → means value_of db bases after ≡ means value_of db bases m
       means_out db = λ i. record { bases = λ number. base_out number i; selected = db }
 
@@ -156,6 +167,7 @@ module _ {V : Type 0} (refs_of : V → List BlockRef) (value_of : Blocks → V �
   -- ---- one database changes over the same store
 
   module _ (old new : Bases V) (db : ℕ) (m : Blocks) (c : ChangesBase old new db) where
+    -- where one database changes and is in order, the databases stay arranged
     pub arranged_changed : IsArranged old m → InOrder m old new db → IsArranged new m
     arranged_changed a order = record {
       keyed = λ number. elim (cases_eq number db) [
@@ -175,6 +187,7 @@ module _ {V : Type 0} (refs_of : V → List BlockRef) (value_of : Blocks → V �
       turn = omega (arith, a.turn, c.settings.turn);
     }
 
+    -- where one database changes, the world has in its place what it means now, and else what it had
     pub means_changed : (base : Database) → base_means value_of m (base_at new db) ≡ base → means value_of db new m ≡ with_base (means value_of db old m) base
     means_changed base is = λ i. record { bases = λ number. each number i; selected = db }
       where
@@ -247,12 +260,14 @@ module _ {V : Type 0} (refs_of : V → List BlockRef) (value_of : Blocks → V �
 
   -- ---- soundness after a call
 
+  -- where a call changes what was owned and a part of what was out, the databases are sound beside the rest
   pub sound_after : (old new : Bases V) (m after : Blocks) (xs part all out : List BlockRef) → SoundBeside refs_of old m all → AreParts all part out → AreParts xs (owned refs_of old) part → Changes m after xs (owned refs_of new) → IsArranged new after → SoundBeside refs_of new after out
   sound_after old new m after xs part all out sound parts taken p arranged = record {
     owns = λ r. omega (arith, sound.owns r, parts r, taken r, (Counts-changed m after xs (owned refs_of new) (λ q. omega (arith, sound.owns q, parts q, taken q)) p).balance r);
     arranged = arranged;
   }
 
+  -- databases that are sound beside references are intact with these out of them
   pub sound_intact : (bases : Bases V) (m : Blocks) (out : List BlockRef) → SoundBeside refs_of bases m out → IsIntact refs_of bases m out
   sound_intact bases m out sound = record { owned = λ r. omega (arith, sound.owns r); arranged = sound.arranged }
 

@@ -1,16 +1,16 @@
 -- The calls of a keyspace, step by step.
-use Rattle.std.proofs.Common.{◌≡◌, ◌⊎◌, inl, inr, ℕ, zero, suc, ◌+◌, ◌≤◌, ◌<◌, false, true, List, [], ◌∷◌, ◌++◌, length, flat_map, replicate, get_or, IfNone, Option, Some, None, is_some, Result, Ok, Err, OnOk, OnErr, IfSome, refl, sym, ap, ◌∙◌, subst, arith}
+use Rattle.std.proofs.Common.{◌≡◌, ◌⊎◌, inl, inr, ℕ, zero, suc, ◌+◌, ◌≤◌, ◌<◌, false, true, List, [], ◌∷◌, ◌++◌, length, flat_map, replicate, get_or, Option, Some, None, is_some, Result, Ok, Err, OnOk, OnErr, IfSome, refl, sym, ap, ◌∙◌, subst, arith}
 use Rattle.std.specs.FinMap.{get, insert, remove}
-use Rattle.std.proofs.lemmas.Bool.{cases_eq, eq-eqb, ne_eqb, cond-true, cond-false}
+use Rattle.std.proofs.lemmas.Bool.{cases_eq}
 use Rattle.blocks.specs.declared.BlockRef.{BlockRef}
-use Rattle.blocks.specs.Blocks.{Blocks, ref_eq, times, live, bytes_at, with_block, no_blocks, no_step, Changes, Owned}
+use Rattle.blocks.specs.Blocks.{Blocks, times, live, bytes_at, with_block, no_blocks, no_step, Changes, Owned}
 use Rattle.blocks.proofs.Times.{times-append}
-use Rattle.blocks.proofs.Refs.{ref_eq-refl, with_block-same}
-use Rattle.blocks.proofs.Change.{one_if, with_block-undone, Counts-ended, Changes-counted, Changes-same, Changes-then, Changes-beside}
+use Rattle.blocks.proofs.Refs.{with_block-same}
+use Rattle.blocks.proofs.Change.{with_block-undone, Counts-ended, Changes-counted, Changes-same, Changes-then, Changes-beside}
 use Rattle.object_codec.specs.Limits.{AreInRange}
-use Rattle.plain_world.specs.Worlds.{Value, Entry, World, with_base, look, put, Database, in_time, deadline_of}
+use Rattle.plain_world.specs.Worlds.{Value, Entry, with_base, look, put, Database, in_time, deadline_of}
 use Rattle.plain_world.specs.Worlds as model
-use Rattle.plain_world.proofs.Lives.{look_in_time, look_gone, look_absent}
+use Rattle.plain_world.proofs.Lives.{look_in_time, look_gone, look_absent, put_twice}
 use Rattle.rehash_dict.specs.Keyed.{key_tables}
 use Rattle.expiry.specs.Timed.{Timed, moments, Grows, KeepsCursor}
 use Rattle.expiry.specs.Changes.{HasDeadline, Sets, Clears}
@@ -25,7 +25,7 @@ use Rattle.rehash_dict.proofs.MapOf.{cases_key, map_of-stands, map_of-lacks, map
 use Rattle.held.specs.Scopes.{Scope, one_key, no_key, all_keys, BaseGrows, AreGrown, Within}
 use Rattle.held.proofs.Within.{within_then, within_keys, within_times, within_swaps, within_removes, within_joins, within_anew, within_store}
 use Rattle.held.proofs.Maps.{entry_with, get_with, with_none, got_deadline}
-use Rattle.held.proofs.Tables.{get_inserted, insert_over, some_bytes, named_in, Keyed-none}
+use Rattle.held.proofs.Tables.{key_itself, some_bytes, named_in, Keyed-none}
 use Rattle.held.proofs.Timing.{timed_sets, timed_clears, timed_none, untimed, moments_lack}
 use Rattle.held.proofs.Joining.{sets_seed}
 use Rattle.held.proofs.Bases.{InOrder, order_swaps, order_removes, order_times, base_then, order_then, table_owned, owned_changed, owned_times, owned_joins, owned_swaps, owned_leaves, kept_named, kept_inside, arranged_out, arranged_changed, means_out, intact_out, means_changed, remove_base, swapped_intact, swapped_means, joined_intact, joined_means, retimed_means, same_times}
@@ -37,12 +37,15 @@ no_base_means {V} value_of m number = ap (λ values. with_deadlines values (mome
 module _ {V : Type 0} (refs_of : V → List BlockRef) (value_of : Blocks → V → Value) (own : ReadsOwn refs_of value_of) where
   -- what stands at a key of a database, or doesn't
   module _ (bases : Bases V) (db : ℕ) (m : Blocks) (a : IsArranged bases m) (key : List ℕ) where
+    -- what stands at a key is the value that its table means there, with the deadline of the key
     pub look_is : look (means value_of db bases m) key ≡ entry_with (get (map_of m (value_of m) (table_at bases db)) key) (get (moments m (deadlines_at bases db)) key)
     look_is = get_with (moments m (deadlines_at bases db)) (map_of m (value_of m) (table_at bases db)) key
 
+    -- nothing stands at a key that no element has
     pub look_lacks : Lacks m (table_at bases db) key → look (means value_of db bases m) key ≡ None
     look_lacks lacks = look_is ∙ ap (λ o. entry_with o (get (moments m (deadlines_at bases db)) key)) (map_of-lacks m (value_of m) (table_at bases db) key (a.keyed db) lacks)
 
+    -- at the key of an element stands what its value means, with the deadline of the key
     pub look_stands : (at : ℕ) (e : Element V) → item (table_at bases db) at ≡ Some e → m e.key ≡ Some key → (deadline : Option ℕ) → get (moments m (deadlines_at bases db)) key ≡ deadline → look (means value_of db bases m) key ≡ Some (record { value = value_of m e.value; deadline = deadline })
     look_stands at e found bytes deadline lasts = look_is ∙ (λ i. entry_with (map_of-stands m (value_of m) (table_at bases db) at e key (a.keyed db) found bytes i) (lasts i))
 
@@ -57,6 +60,7 @@ module _ {V : Type 0} (refs_of : V → List BlockRef) (value_of : Blocks → V �
       | inr lacks ↦ lacks_deadline lacks ∙ sym (ap deadline_of (look_lacks lacks))
     ]
 
+    -- a deadline that a key has is at most the greatest one
     pub deadline_latest : (o : Option ℕ) → IfSome o (λ d. HasDeadline m (deadlines_at bases db).table key d) → IsDeadline o
     deadline_latest None found = tt
     deadline_latest (Some d) found = (a.timed db).latest found.at _ found.found
@@ -64,16 +68,20 @@ module _ {V : Type 0} (refs_of : V → List BlockRef) (value_of : Blocks → V �
   -- ---- keys leave a table with their values, and all their blocks are given back
 
   module _ (old new : Bases V) (db : ℕ) (m after : Blocks) (c : ChangesBase old new db) (intact : IsIntact refs_of old m []) (xs : List BlockRef) (gone : (r : BlockRef) → times r (owned refs_of old) ≡ times r (owned refs_of new) + times r xs) (order : InOrder m old new db) where
+    -- the blocks of what leaves are live, none of them named twice
     pub left_owned : Owned xs m
     left_owned r = omega (arith, intact.owned r, gone r)
 
+    -- the databases without what leaves are intact, with its blocks out of them
     left_out : IsIntact refs_of new m xs
     left_out = record { owned = λ r. omega (arith, intact.owned r, gone r); arranged = arranged_changed refs_of value_of own old new db m c intact.arranged order }
 
     module _ (p : Changes m after xs []) where
+      -- where the blocks of what left are given back, the databases are arranged
       pub left_arranged : IsArranged new after
       left_arranged = arranged_out refs_of value_of own new m after xs xs [] left_out p (λ r. omega arith)
 
+      -- giving back the blocks of what left puts what the databases own in place of what they owned
       pub left_changes : Changes m after (owned refs_of old) (owned refs_of new)
       left_changes = Changes-beside m after xs [] (owned refs_of old) (owned refs_of new) p (λ r. omega (arith, intact.owned r)) (λ r. times r (owned refs_of new)) (λ r. omega (arith, gone r)) (λ r. omega arith)
 
@@ -86,41 +94,52 @@ module _ {V : Type 0} (refs_of : V → List BlockRef) (value_of : Blocks → V �
   -- a key's deadline goes, and then the key
   module _ (old mid : Bases V) (db : ℕ) (m : Blocks) (a : IsArranged old m) (key : List ℕ) (c : ChangesDeadlines old mid db) (times_are : moments m (deadlines_at mid db) ≡ remove (moments m (deadlines_at old db)) key) (cleared : Clears m (deadlines_at old db).table (deadlines_at mid db).table key ⊎ ((mid ≡ old) × Lacks m (deadlines_at old db).table key))
       (times_keyed : Keyed m (deadlines_at mid db).table) where
+    -- where a key's deadline goes, the table of deadlines keeps its seed
     clear_seed : (deadlines_at mid db).table.seed ≡ (deadlines_at old db).table.seed
     clear_seed = elim cleared [ inl x ↦ x.removes.seed | inr same ↦ ap (λ (b : Bases V). (deadlines_at b db).table.seed) same.0 ]
 
+    -- where a key's deadline goes, the key has none, and each that is left is that of a key
     clear_timed : IsTimed m (table_at old db) (deadlines_at mid db) × Lacks m (deadlines_at mid db).table key
     clear_timed = timed_clears m (table_at old db) (deadlines_at old db) (deadlines_at mid db) key (elim cleared [ inl x ↦ inl x | inr same ↦ inr (ap (λ (b : Bases V). deadlines_at b db) same.0, same.1) ]) times_keyed (a.timed db)
 
+    -- where a key's deadline goes, the database stays in order
     pub clear_order : InOrder m old mid db
     clear_order = order_times m old mid db a c clear_timed.0 clear_seed
 
+    -- where a key's deadline goes, the databases stay arranged
     pub clear_arranged : IsArranged mid m
     clear_arranged = arranged_changed refs_of value_of own old mid db m c.base a clear_order
 
+    -- where a key's deadline goes, the databases stay sound beside what is out of them
     pub cleared_sound : (new : Bases V) → new ≡ mid → (out : List BlockRef) → SoundBeside refs_of old m out → SoundBeside refs_of new m out
     cleared_sound new same out sound = subst (λ (b : Bases V). SoundBeside refs_of b m out) (sym same) (record { owns = λ r. omega (arith, sound.owns r, owned_times refs_of value_of own old mid db c r); arranged = clear_arranged })
 
     -- nothing stood there
     module _ (lacks : Lacks m (table_at mid db) key) where
+      -- a key that is absent once its deadline went was absent before
       pub absent_lacks : Lacks m (table_at old db) key
       absent_lacks = subst (λ (k : Table V). Lacks m k key) c.keys lacks
 
+      -- where the deadline of an absent key goes, the world is the old one without the key
       pub absent_means : means value_of db mid m ≡ without (means value_of db old m) key
       absent_means =
           means_changed refs_of value_of own old mid db m c.base _
           (remove_base refs_of value_of own old mid db m key (ap (map_of m (value_of m)) c.keys ∙ map_of-kept m (value_of m) (table_at old db) (table_at old db) (a.keyed db) key refl absent_lacks) times_are)
 
     module _ (new : Bases V) (d : ChangesTable mid new db) (ref : BlockRef) (value : V) (removes : Removes m (table_at mid db) (table_at new db) key ref value) (keyed : Keyed m (table_at new db)) where
+      -- where a key's deadline goes and then the key, no other database changes
       pub drop_changes : ChangesBase old new db
       drop_changes = base_then old mid new db c.base d.base
 
+      -- where a key's deadline goes and then the key, the database stays in order
       pub drop_order : InOrder m old new db
       drop_order = order_then old mid new db m c.base clear_order (order_removes m mid new db clear_arranged d keyed key ref value removes clear_timed.1)
 
+      -- where a key leaves after its deadline, the key's own block and its value's are those no longer owned
       pub drop_gone : (r : BlockRef) → times r (owned refs_of old) ≡ times r (owned refs_of new) + times r (ref ∷ refs_of value)
       drop_gone r = omega (arith, owned_times refs_of value_of own old mid db c r, owned_leaves refs_of value_of own mid new db d.base r m key ref value removes)
 
+      -- where a key leaves after its deadline, the database means what it meant without the key
       pub drop_base : base_means value_of m (base_at new db) ≡ remove (base_means value_of m (base_at old db)) key
       drop_base = remove_base refs_of value_of own old new db m key
           (map_of-removes m (value_of m) (table_at mid db) (table_at new db) (clear_arranged.keyed db) key ref value keyed removes ∙ ap (λ (k : Table V). remove (map_of m (value_of m) k) key) c.keys)
@@ -130,6 +149,7 @@ module _ {V : Type 0} (refs_of : V → List BlockRef) (value_of : Blocks → V �
       pub drop_had : get (map_of m (value_of m) (table_at old db)) key ≡ Some (value_of m value)
       drop_had = ap (λ (k : Table V). get (map_of m (value_of m) k) key) (sym c.keys) ∙ map_of-had m (value_of m) (table_at mid db) (table_at new db) (clear_arranged.keyed db) key ref value removes
 
+  -- where only deadlines changed the databases own the same blocks of the same store
   pub cleared_changes : (old mid new : Bases V) (db : ℕ) (m : Blocks) → IsIntact refs_of old m [] → ChangesDeadlines old mid db → new ≡ mid → Changes m m (owned refs_of old) (owned refs_of new)
   cleared_changes old mid new db m intact c same = subst (λ (b : Bases V). Changes m m (owned refs_of old) (owned refs_of b)) (sym same)
       (Changes-beside m m [] [] (owned refs_of old) (owned refs_of mid) (Changes-same m [] (λ q. omega arith)) (λ r. omega (arith, intact.owned r)) (λ r. times r (owned refs_of old)) (λ r. omega arith) (λ r. omega (arith, owned_times refs_of value_of own old mid db c r)))
@@ -137,15 +157,19 @@ module _ {V : Type 0} (refs_of : V → List BlockRef) (value_of : Blocks → V �
   -- a key's deadline goes, then the key, and its blocks are given back
   module _ (old mid : Bases V) (db : ℕ) (m : Blocks) (intact : IsIntact refs_of old m []) (key : List ℕ) (c : ChangesDeadlines old mid db) (times_are : moments m (deadlines_at mid db) ≡ remove (moments m (deadlines_at old db)) key) (cleared : Clears m (deadlines_at old db).table (deadlines_at mid db).table key ⊎ ((mid ≡ old) × Lacks m (deadlines_at old db).table key))
       (times_keyed : Keyed m (deadlines_at mid db).table) (new : Bases V) (d : ChangesTable mid new db) (ref : BlockRef) (value : V) (removes : Removes m (table_at mid db) (table_at new db) key ref value) (keyed : Keyed m (table_at new db)) where
+    -- the databases owned the key's block and its value's besides what they own
     gone : (r : BlockRef) → times r (owned refs_of old) ≡ times r (owned refs_of new) + times r (ref ∷ refs_of value)
     gone = drop_gone old mid db m intact.arranged key c times_are cleared times_keyed new d ref value removes keyed
 
+    -- no database changes but the one that the key and its deadline leave
     base : ChangesBase old new db
     base = drop_changes old mid db m intact.arranged key c times_are cleared times_keyed new d ref value removes keyed
 
+    -- the database that the key and its deadline leave stays in order
     order : InOrder m old new db
     order = drop_order old mid db m intact.arranged key c times_are cleared times_keyed new d ref value removes keyed
 
+    -- the key's block and its value's are live, none of them named twice
     pub dropped_owned : Owned (ref ∷ refs_of value) m
     dropped_owned = left_owned old new db m m base intact (ref ∷ refs_of value) gone order
 
@@ -157,26 +181,32 @@ module _ {V : Type 0} (refs_of : V → List BlockRef) (value_of : Blocks → V �
         (within_removes refs_of (no_key db) mid new m db refl (clear_arranged old mid db m intact.arranged key c times_are cleared times_keyed) below d key ref value removes keys_grown)
         (within_store refs_of value_of own (no_key db) new m after (ref ∷ refs_of value) (ref ∷ refs_of value) [] (left_out old new db m m base intact (ref ∷ refs_of value) gone order) p (λ r. omega arith)))
 
+    -- at the key that leaves stood its value, with the deadline that it had
     pub dropped_look : look (means value_of db old m) key ≡ Some (record { value = value_of m value; deadline = get (moments m (deadlines_at old db)) key })
     dropped_look = look_is old db m intact.arranged key ∙ ap (λ o. entry_with o (get (moments m (deadlines_at old db)) key)) (drop_had old mid db m intact.arranged key c times_are cleared times_keyed new d ref value removes keyed)
 
     module _ (after : Blocks) (p : Changes m after (ref ∷ refs_of value) []) where
+      -- where a key left and its blocks were given back, the databases are arranged
       pub dropped_arranged : IsArranged new after
       dropped_arranged = left_arranged old new db m after base intact (ref ∷ refs_of value) gone order p
 
+      -- giving back the blocks of a key that left puts what the databases own in place of what they owned
       pub dropped_changes : Changes m after (owned refs_of old) (owned refs_of new)
       dropped_changes = left_changes old new db m after base intact (ref ∷ refs_of value) gone order p
 
+      -- where a key left and its blocks were given back, the world is the old one without the key
       pub dropped_means : means value_of db new after ≡ without (means value_of db old m) key
       dropped_means = left_means old new db m after base intact (ref ∷ refs_of value) gone order p _ (drop_base old mid db m intact.arranged key c times_are cleared times_keyed new d ref value removes keyed)
 
   -- all keys leave
   module _ (old new : Bases V) (db seed : ℕ) (c : ChangesBase old new db) (none : base_at new db ≡ no_base seed) where
+    -- where all keys of a database leave, the databases owned its table's blocks besides what they own
     pub all_gone : (r : BlockRef) → times r (owned refs_of old) ≡ times r (owned refs_of new) + times r (refs refs_of (table_at old db))
     all_gone r =
         let nothing : times r (refs refs_of (table_at new db)) ≡ 0 = ap (λ (b : Base V). times r (refs refs_of b.keys)) none in
         omega (arith, owned_changed refs_of value_of own old new db c r, nothing)
 
+    -- a database that all keys left is in order, where it has the seed of the databases
     pub all_order : (m : Blocks) → seed ≡ old.seed → InOrder m old new db
     all_order m same = record {
       keyed = subst (λ (b : Base V). Keyed m b.keys) (sym none) (Keyed-none m seed);
@@ -184,11 +214,13 @@ module _ {V : Type 0} (refs_of : V → List BlockRef) (value_of : Blocks → V �
       seeds = λ h. subst (λ (b : Base V). HasSeed b old.seed) (sym none) (record { keys = same; deadlines = same });
     }
 
+    -- that all keys of a database leave and their blocks are given back is within the scope of all its keys
     pub all_within : (m after : Blocks) → IsIntact refs_of old m [] → seed ≡ old.seed → Changes m after (refs refs_of (table_at old db)) [] → Within refs_of (all_keys db) old new m after
     all_within m after intact same p =
         within_then refs_of (all_keys db) old new new m m after (within_anew refs_of (all_keys db) old new m db refl c refl (none ∙ ap no_base same))
         (within_store refs_of value_of own (all_keys db) new m after (refs refs_of (table_at old db)) (refs refs_of (table_at old db)) [] (left_out old new db m m c intact (refs refs_of (table_at old db)) all_gone (all_order m same)) p (λ r. omega arith))
 
+    -- a database that all keys left means no key
     pub all_means : (m : Blocks) → base_means value_of m (base_at new db) ≡ model.no_keys
     all_means m = ap (base_means value_of m) none ∙ no_base_means value_of m seed
 
@@ -196,26 +228,6 @@ module _ {V : Type 0} (refs_of : V → List BlockRef) (value_of : Blocks → V �
   pub item_owned : (bases : Bases V) (db at : ℕ) (e : Element V) (r : BlockRef) → item (table_at bases db) at ≡ Some e → times r (e.key ∷ refs_of e.value) ≤ times r (owned refs_of bases)
   item_owned bases db at e r found =
       omega (arith, named_in refs_of (table_at bases db) at e r found, table_owned refs_of value_of own bases db r)
-
-  pub key_itself : (r : BlockRef) → one_if (ref_eq r r) ≡ 1
-  key_itself r = cond-true _ _ _ (ref_eq-refl r)
-
-  pub put_twice : (w : World) (key : List ℕ) (a b : Entry) → put (put w key a) key b ≡ put w key b
-  put_twice w key a b = λ i. record { bases = λ number. each number i; selected = w.selected }
-    where
-      each : (number : ℕ) → (put (put w key a) key b).bases number ≡ (put w key b).bases number
-      each number = elim (cases_eq number w.selected) [
-        | inl here ↦
-            cond-true _ _ _ (eq-eqb number w.selected here)
-            ∙ ap (λ base. insert base key b) (cond-true _ _ _ (eq-eqb w.selected w.selected refl))
-            ∙ insert_over (w.bases w.selected) key a b
-            ∙ sym (cond-true _ _ _ (eq-eqb number w.selected here))
-        | inr other ↦ cond-false _ _ _ (ne_eqb number w.selected other) ∙ cond-false _ _ _ (ne_eqb number w.selected other) ∙ sym (cond-false _ _ _ (ne_eqb number w.selected other))
-      ]
-
-  -- what is put at a key stands there
-  pub look_put : (w : World) (key : List ℕ) (a : Entry) → look (put w key a) key ≡ Some a
-  look_put w key a = ap (λ (base : Database). get base key) (cond-true _ _ _ (eq-eqb w.selected w.selected refl)) ∙ get_inserted (w.bases w.selected) key a
 
   -- ---- a value takes the place of another
 
@@ -226,24 +238,30 @@ module _ {V : Type 0} (refs_of : V → List BlockRef) (value_of : Blocks → V �
         let same : stands.element ≡ record { key = s.key; hash = s.hash; value = was } = (let both : Some stands.element ≡ Some (record { key = s.key; hash = s.hash; value = was }) = sym stands.found ∙ s.found in cc) in
         ap (λ (e : Element V). m e.key) (sym same) ∙ stands.bytes
 
+    -- where a value takes the place of another, its database stays in order
     over_order : InOrder m old new db
     over_order = order_swaps m old new db a c keyed at was value s
 
+    -- where a value takes the place of another, the databases stay intact with the other out of them instead
     pub over_intact : (out later : List BlockRef) → IsIntact refs_of old m out → ((r : BlockRef) → times r later + times r (refs_of value) ≡ times r out + times r (refs_of was)) → IsIntact refs_of new m later
     over_intact out later intact same = swapped_intact refs_of value_of own old new db m c.base out intact over_order at was value s later same
 
     module _ (intact : IsIntact refs_of old m (refs_of value)) (after : Blocks) (p : Changes m after (refs_of was) []) where
+      -- where the value that was out takes the place of another, that one is out of intact databases
       over_out : IsIntact refs_of new m (refs_of was)
       over_out = over_intact (refs_of value) (refs_of was) intact (λ r. omega arith)
 
+      -- where the value that lost its place is given back, the databases are arranged
       pub over_arranged : IsArranged new after
       over_arranged = arranged_out refs_of value_of own new m after (refs_of was) (refs_of was) [] over_out p (λ r. omega arith)
 
+      -- where the value that lost its place is given back, the new one is put at its key with the key's deadline
       pub over_means : (key : List ℕ) → Stands m (table_at old db) at key → (deadline : Option ℕ) → get (moments m (deadlines_at old db)) key ≡ deadline → means value_of db new after ≡ put (means value_of db old m) key (record { value = value_of m value; deadline = deadline })
       over_means key stands deadline lasts =
           means_out refs_of value_of own new m after (refs_of was) (refs_of was) [] over_out p (λ r. omega arith) db
           ∙ swapped_means refs_of value_of own old new db m a at c keyed was value s key (swapped_key key stands) deadline lasts
 
+      -- giving back the old value puts what is owned in place of what was owned and the new value's blocks
       pub over_changes : Changes m after (owned refs_of old ++ refs_of value) (owned refs_of new)
       over_changes = Changes-beside m after (refs_of was) [] (owned refs_of old ++ refs_of value) (owned refs_of new) p (λ r. omega (arith, intact.owned r, times-append r (owned refs_of old) (refs_of value))) (λ r. times r (owned refs_of new))
           (λ r. omega (arith, times-append r (owned refs_of old) (refs_of value), owned_swaps refs_of value_of own old new db c.base r at was value s)) (λ r. omega arith)
@@ -255,12 +273,15 @@ module _ {V : Type 0} (refs_of : V → List BlockRef) (value_of : Blocks → V �
   -- ---- a key's deadline is set or goes
 
   module _ (old mid : Bases V) (db : ℕ) (m : Blocks) (c : ChangesDeadlines old mid db) (a : IsArranged mid m) where
+    -- intact databases stay intact where deadlines alone change and are in order
     pub retimed_intact : (out : List BlockRef) → IsIntact refs_of old m out → IsIntact refs_of mid m out
     retimed_intact out intact = record { owned = λ r. omega (arith, intact.owned r, owned_times refs_of value_of own old mid db c r); arranged = a }
 
+    -- sound databases stay sound beside what is out where deadlines alone change and are in order
     pub retimed_sound : (out : List BlockRef) → SoundBeside refs_of old m out → SoundBeside refs_of mid m out
     retimed_sound out sound = record { owns = λ r. omega (arith, sound.owns r, owned_times refs_of value_of own old mid db c r); arranged = a }
 
+    -- a change of the store from what is owned once a deadline changed is one from what was owned before
     pub retimed_changes : (after : Blocks) (part : List BlockRef) (new : Bases V) → IsIntact refs_of old m part → Changes m after (owned refs_of mid ++ part) (owned refs_of new) → Changes m after (owned refs_of old ++ part) (owned refs_of new)
     retimed_changes after part new intact p =
         Changes-then m m after (owned refs_of old ++ part) (owned refs_of mid ++ part) (owned refs_of new)
@@ -268,12 +289,15 @@ module _ {V : Type 0} (refs_of : V → List BlockRef) (value_of : Blocks → V �
         (λ r. omega (arith, times-append r (owned refs_of old) part)) (λ r. omega (arith, times-append r (owned refs_of mid) part, owned_times refs_of value_of own old mid db c r))) p
 
     module _ (arranged : IsArranged old m) (at : ℕ) (key : List ℕ) (stands : Stands m (table_at old db) at key) (deadline : Option ℕ) (times_are : moments m (deadlines_at mid db) ≡ with_deadline (moments m (deadlines_at old db)) key deadline) where
+      -- the key has the deadline that was set, or none where it went
       pub retimed_lasts : get (moments m (deadlines_at mid db)) key ≡ deadline
       retimed_lasts = ap (λ t. get t key) times_are ∙ got_deadline (moments m (deadlines_at old db)) key deadline
 
+      -- where a key's deadline is set or goes, the key stays at its item number
       pub retimed_stands : Stands m (table_at mid db) at key
       retimed_stands = subst (λ (k : Table V). Stands m k at key) (sym c.keys) stands
 
+      -- where a key's deadline is set or goes, its value is put at the key with this deadline or without one
       pub retimed_put : means value_of db mid m ≡ put (means value_of db old m) key (record { value = value_of m stands.element.value; deadline = deadline })
       retimed_put = retimed_means refs_of value_of own old mid db m c key (value_of m stands.element.value) (map_of-stands m (value_of m) (table_at old db) at stands.element key (arranged.keyed db) stands.found stands.bytes) deadline times_are
 
@@ -286,12 +310,15 @@ module _ {V : Type 0} (refs_of : V → List BlockRef) (value_of : Blocks → V �
 
   -- the key of an item number gets a deadline
   module _ (old mid : Bases V) (db : ℕ) (m : Blocks) (a : IsArranged old m) (at : ℕ) (key : List ℕ) (stands : Stands m (table_at old db) at key) (name : BlockRef) (is : key_at (item (table_at old db) at) ≡ Some name) where
+    -- the key's element is named by the block that its item number shows
     named : stands.element.key ≡ name
     named = (let both : Some stands.element.key ≡ Some name = sym (ap key_at stands.found) ∙ is in cc)
 
+    -- this block holds the bytes of the key
     bytes : m name ≡ Some key
     bytes = ap m (sym named) ∙ stands.bytes
 
+    -- the databases stay arranged where a key gets a deadline, or where that fails and nothing changes
     pub set_arranged : {E : Type 0} (d : ℕ) (deadline : Option ℕ) → deadline ≡ Some d → IsDeadline deadline → (result : Result (Unit {0}) E) → ChangesDeadlines old mid db → OnOk result (Sets m (deadlines_at old db).table (deadlines_at mid db).table name d) → Keyed m (deadlines_at mid db).table → OnErr result (mid ≡ old) → IsArranged mid m
     set_arranged d deadline some late (Ok u) c sets keyed err =
         arranged_changed refs_of value_of own old mid db m c.base a (order_times m old mid db a c
@@ -299,6 +326,7 @@ module _ {V : Type 0} (refs_of : V → List BlockRef) (value_of : Blocks → V �
         (sets_seed m name (deadlines_at old db) (deadlines_at mid db) d sets))
     set_arranged d deadline some late (Err e) c sets keyed err = subst (λ (b : Bases V). IsArranged b m) (sym err) a
 
+    -- a deadline that was set at the bytes of the key's block was set at the key
     pub set_times : {E : Type 0} (d : ℕ) (deadline : Option ℕ) → deadline ≡ Some d → (result : Result (Unit {0}) E) → OnOk result (moments m (deadlines_at mid db) ≡ insert (moments m (deadlines_at old db)) (bytes_at m name) d) → OnOk result (moments m (deadlines_at mid db) ≡ with_deadline (moments m (deadlines_at old db)) key deadline)
     set_times d deadline some (Ok u) times = times ∙ ap (λ k. insert (moments m (deadlines_at old db)) k d) (some_bytes m name key bytes) ∙ sym (ap (with_deadline (moments m (deadlines_at old db)) key) some)
     set_times d deadline some (Err e) times = tt
@@ -314,19 +342,24 @@ module _ {V : Type 0} (refs_of : V → List BlockRef) (value_of : Blocks → V �
   -- a key's deadline is set, and a value takes the place of its own
   module _ (old mid new : Bases V) (db : ℕ) (m after : Blocks) (at : ℕ) (key : List ℕ) (was value : V) (deadline : Option ℕ) (intact : IsIntact refs_of old m (refs_of value)) (c : ChangesDeadlines old mid db) (arranged : IsArranged mid m) (times_are : moments m (deadlines_at mid db) ≡ with_deadline (moments m (deadlines_at old db)) key deadline)
       (stands : Stands m (table_at old db) at key) (d : ChangesTable mid new db) (s : Swaps (table_at mid db) (table_at new db) at was value) (keyed : Keyed m (table_at new db)) where
+    -- with the deadline set the databases are intact, the new value out of them
     mid_intact : IsIntact refs_of mid m (refs_of value)
     mid_intact = retimed_intact old mid db m c arranged (refs_of value) intact
 
+    -- the value that loses its place owns live blocks, none of them named twice
     pub put_owned : Owned (refs_of was) m
     put_owned = over_owned mid new db m d at was value s keyed arranged (refs_of value) mid_intact
 
     module _ (p : Changes m after (refs_of was) []) where
+      -- where a key got a deadline and a new value, and its old one is given back, the databases are arranged
       pub put_arranged : IsArranged new after
       put_arranged = over_arranged mid new db m d at was value s keyed arranged mid_intact after p
 
+      -- giving back the old value puts what is owned in place of what was owned and the new value's blocks
       pub put_changes : Changes m after (owned refs_of old ++ refs_of value) (owned refs_of new)
       put_changes = retimed_changes old mid db m c arranged after (refs_of value) new intact (over_changes mid new db m d at was value s keyed arranged mid_intact after p)
 
+      -- that a key gets a deadline and a new value is within the scope of this key
       pub put_within : Within refs_of (no_key db) old mid m m → key_tables m (table_at new db) ≡ key_tables m (table_at mid db) → Within refs_of (one_key db key) old new m after
       put_within retimed tables =
           let scope = one_key db key in
@@ -335,6 +368,7 @@ module _ {V : Type 0} (refs_of : V → List BlockRef) (value_of : Blocks → V �
           (within_then refs_of scope mid new new m m after (within_swaps refs_of scope mid new m db refl d at was value s tables (refl, some_bytes m s.key key there))
           (within_store refs_of value_of own scope new m after (refs_of was) (refs_of was) [] (over_out mid new db m d at was value s keyed arranged mid_intact after p) p (λ r. omega arith)))
 
+      -- whatever element has the key has the value that was put
       pub put_only : HasOnly new after db key value
       put_only =
           let there : m s.key ≡ Some key = swapped_key mid new db m d at was value s keyed arranged key (retimed_stands old mid db m c arranged intact.arranged at key stands deadline times_are) in
@@ -342,6 +376,7 @@ module _ {V : Type 0} (refs_of : V → List BlockRef) (value_of : Blocks → V �
           (omega (arith, key_itself s.key, item_owned new db at (record { key = s.key; hash = s.hash; value = value }) s.key s.updates.changed)) in
           only_here new after db key at (record { key = s.key; hash = s.hash; value = value }) (put_arranged.keyed db) s.updates.changed (kept ∙ there)
 
+      -- where a key got a deadline and a new value, these are put at the key of the world
       pub put_over : means value_of db new after ≡ put (means value_of db old m) key (record { value = value_of m value; deadline = deadline })
       put_over =
           over_means mid new db m d at was value s keyed arranged mid_intact after p key (retimed_stands old mid db m c arranged intact.arranged at key stands deadline times_are) deadline (retimed_lasts old mid db m c arranged intact.arranged at key stands deadline times_are)
@@ -352,72 +387,90 @@ module _ {V : Type 0} (refs_of : V → List BlockRef) (value_of : Blocks → V �
 
   -- a key's block is placed
   module _ (old : Bases V) (m mid : Blocks) (r : BlockRef) (key : List ℕ) (value : V) (intact : IsIntact refs_of old m (refs_of value)) (placed : mid ≡ with_block m r (Some key)) (p : Changes m mid [] (r ∷ [])) where
+    -- the block that was placed holds the bytes of the key
     pub placed_bytes : mid r ≡ Some key
     placed_bytes = ap (λ b. b r) placed ∙ with_block-same m r (Some key)
 
+    -- where a key's block is placed, the databases are intact with it and the value out of them
     pub placed_intact : IsIntact refs_of old mid (r ∷ refs_of value)
     placed_intact = intact_out refs_of value_of own old m mid (refs_of value) [] (r ∷ []) intact p (λ q. omega arith) (r ∷ refs_of value) (λ q. omega arith)
 
+    -- where a key's block is placed, a key table that lacks the key still does
     pub placed_lacks : (db : ℕ) → Lacks m (table_at old db) key → Lacks mid (table_at old db) key
     placed_lacks db lacks = record {
       each = λ at e found same. lacks.each at e found (sym (kept_inside refs_of value_of own old m mid (refs_of value) [] (r ∷ []) intact p (λ q. omega arith) e.key (omega (arith, key_itself e.key, item_owned old db at e e.key found))) ∙ same);
     }
 
+    -- where a key's block is placed, the value that is out means what it meant
     placed_value : value_of mid value ≡ value_of m value
     placed_value = own m mid value (λ q named. kept_named refs_of value_of own old m mid (refs_of value) [] (r ∷ []) intact p q (omega (arith, named)) refl)
 
+    -- where a key's block is placed, the databases mean the world that they meant
     placed_means : (db : ℕ) → means value_of db old mid ≡ means value_of db old m
     placed_means db = means_out refs_of value_of own old m mid (refs_of value) [] (r ∷ []) intact p (λ q. omega arith) db
 
     -- both stand in the table
     module _ (new : Bases V) (db : ℕ) (deadline : Option ℕ) (j : Joins old new mid db r key value deadline) where
+      -- the database that the key joined with its value and its deadline is in order
       joined_order : InOrder mid old new db
       joined_order = record { keyed = j.keyed; timed = j.timed; seeds = λ h. record { keys = j.adds.seed ∙ h.keys; deadlines = j.seed ∙ h.deadlines } }
 
+      -- where a key joined, its value and its deadline are put at the key of the world
       pub new_means : means value_of db new mid ≡ put (means value_of db old m) key (record { value = value_of m value; deadline = deadline })
       new_means =
           joined_means refs_of value_of own old new db mid placed_intact.arranged j.at j.base j.keyed (record { key = r; hash = j.hash; value = value }) j.adds key placed_bytes deadline j.times
           ∙ (λ i. put (placed_means db i) key (record { value = placed_value i; deadline = deadline }))
 
+      -- where a key joined, the databases are arranged
       pub new_arranged : IsArranged new mid
       new_arranged = (joined_intact refs_of value_of own old new db mid j.base (r ∷ refs_of value) placed_intact joined_order j.at (record { key = r; hash = j.hash; value = value }) j.adds [] (λ q. omega arith)).arranged
 
+      -- whatever element has the key that joined has the value that joined with it
       pub new_only : HasOnly new mid db key value
       new_only = only_here new mid db key j.at (record { key = r; hash = j.hash; value = value }) j.keyed j.adds.updates.changed placed_bytes
 
+      -- that a key's block is placed and the key joins is within the scope of this key
       pub new_within : db < 16 → Within refs_of (one_key db key) old new m mid
       new_within below =
           within_then refs_of (one_key db key) old old new m mid mid (within_store refs_of value_of own (one_key db key) old m mid (refs_of value) [] (r ∷ []) intact p (λ q. omega arith))
           (within_joins refs_of (one_key db key) old new mid db refl placed_intact.arranged below r key value deadline j (refl, some_bytes mid r key placed_bytes))
 
+      -- where a key joined, what is owned stands in place of what was owned and the value's blocks
       pub new_changes : Changes m mid (owned refs_of old ++ refs_of value) (owned refs_of new)
       new_changes = Changes-beside m mid [] (r ∷ []) (owned refs_of old ++ refs_of value) (owned refs_of new) p (λ q. omega (arith, intact.owned q, times-append q (owned refs_of old) (refs_of value))) (λ q. times q (owned refs_of old) + times q (refs_of value))
           (λ q. omega (arith, times-append q (owned refs_of old) (refs_of value))) (λ q. omega (arith, owned_joins refs_of value_of own old new db j.base q j.at (record { key = r; hash = j.hash; value = value }) j.adds))
 
     -- memory is refused: the key's block is given back, and the value stays out
     module _ (fresh : m r ≡ None) (new : Bases V) (db : ℕ) (k : KeepsTimes old new mid db) (after : Blocks) (ended : after ≡ with_block mid r None) where
+      -- where keys and deadlines stay, the databases are arranged over the store with the key's block
       kept_arranged : IsArranged new mid
       kept_arranged = arranged_changed refs_of value_of own old new db mid k.changes.base placed_intact.arranged (order_times mid old new db placed_intact.arranged k.changes k.timed k.seed)
 
+      -- where keys and deadlines stay, the databases are intact with the key's block and the value out of them
       kept_intact : IsIntact refs_of new mid (r ∷ refs_of value)
       kept_intact = retimed_intact old new db mid k.changes kept_arranged (r ∷ refs_of value) placed_intact
 
+      -- giving back the key's block ends this block alone
       back_given : Changes mid after (r ∷ []) []
       back_given =
           Changes-counted mid after (r ∷ []) [] (λ q. omega (arith, placed_intact.owned q))
           (Counts-ended mid after r (r ∷ []) [] (ap is_some placed_bytes) ended (λ q. omega arith))
 
+      -- with the key's block given back the store holds what it held before it was placed
       pub back_blocks : after ≡ m
       back_blocks = ended ∙ ap (λ b. with_block b r None) placed ∙ with_block-undone m r (Some key) fresh
 
+      -- with the key's block given back the databases mean the world that they meant
       pub back_means : means value_of db new after ≡ means value_of db old m
       back_means =
           means_out refs_of value_of own new mid after (r ∷ refs_of value) (r ∷ []) [] kept_intact back_given (λ q. omega arith) db
           ∙ same_times refs_of value_of own old new db mid k.changes k.times ∙ placed_means db
 
+      -- with the key's block given back the databases are arranged
       pub back_arranged : IsArranged new after
       back_arranged = arranged_out refs_of value_of own new mid after (r ∷ refs_of value) (r ∷ []) [] kept_intact back_given (λ q. omega arith)
 
+      -- that a key's block is placed and given back is within the scope of this key
       pub back_within : db < 16 → Within refs_of (one_key db key) old new m after
       back_within below =
           let scope = one_key db key in
@@ -425,9 +478,11 @@ module _ {V : Type 0} (refs_of : V → List BlockRef) (value_of : Blocks → V �
           (within_then refs_of scope old new new mid mid after (within_times refs_of scope old new mid db refl placed_intact.arranged below k.changes k.grown k.cursor)
           (within_store refs_of value_of own scope new mid after (r ∷ refs_of value) (r ∷ []) [] kept_intact back_given (λ q. omega arith)))
 
+      -- where keys and deadlines stay, the databases own what they owned
       pub back_owned : (q : BlockRef) → times q (owned refs_of new) ≡ times q (owned refs_of old)
       back_owned q = owned_times refs_of value_of own old new db k.changes q
 
+      -- where keys and deadlines stay, each key table is as it was
       pub back_keys : (number : ℕ) → table_at new number ≡ table_at old number
       back_keys number = elim (cases_eq number db) [
         | inl here ↦ ap (table_at new) here ∙ k.changes.keys ∙ sym (ap (table_at old) here)
@@ -439,24 +494,30 @@ module _ {V : Type 0} (refs_of : V → List BlockRef) (value_of : Blocks → V �
   returned_owned old m mid value returned intact same blocks =
       subst (λ b. Owned (refs_of returned) b) (sym blocks) (subst (λ v. Owned (refs_of v) m) (sym same) (λ q. omega (arith, intact.owned q)))
 
+  -- giving back the value that was handed back ends the blocks of the value that was given
   pub returned_changes : (m mid after : Blocks) (value returned : V) → returned ≡ value → mid ≡ m → Changes mid after (refs_of returned) [] → Changes m after (refs_of value) []
   returned_changes m mid after value returned same blocks p =
       subst (λ v. Changes m after (refs_of v) []) same (subst (λ b. Changes b after (refs_of returned) []) blocks p)
 
   -- the value alone is given back, where no key changed
   module _ (old new : Bases V) (m after : Blocks) (value : V) (intact : IsIntact refs_of old m (refs_of value)) (a : IsArranged new m) (same : (q : BlockRef) → times q (owned refs_of new) ≡ times q (owned refs_of old)) (p : Changes m after (refs_of value) []) where
+    -- where arranged databases own what they owned, they are intact with the value out of them
     refused_intact : IsIntact refs_of new m (refs_of value)
     refused_intact = record { owned = λ q. omega (arith, intact.owned q, same q); arranged = a }
 
+    -- with the value given back, databases that meant what they had meant still do
     pub refused_means : (db : ℕ) → means value_of db new m ≡ means value_of db old m → means value_of db new after ≡ means value_of db old m
     refused_means db kept = means_out refs_of value_of own new m after (refs_of value) (refs_of value) [] refused_intact p (λ q. omega arith) db ∙ kept
 
+    -- with the value given back the databases are arranged
     pub refused_arranged : IsArranged new after
     refused_arranged = arranged_out refs_of value_of own new m after (refs_of value) (refs_of value) [] refused_intact p (λ q. omega arith)
 
+    -- what came of a refused call within a scope is within it also with the value given back
     pub refused_within : (scope : Scope) → Within refs_of scope old new m m → Within refs_of scope old new m after
     refused_within scope placed = within_then refs_of scope old new new m m after placed (within_store refs_of value_of own scope new m after (refs_of value) (refs_of value) [] refused_intact p (λ q. omega arith))
 
+    -- giving back the value puts what is owned in place of what was owned and the value's blocks
     pub refused_changes : Changes m after (owned refs_of old ++ refs_of value) (owned refs_of new)
     refused_changes = Changes-beside m after (refs_of value) [] (owned refs_of old ++ refs_of value) (owned refs_of new) p (λ q. omega (arith, intact.owned q, times-append q (owned refs_of old) (refs_of value))) (λ q. times q (owned refs_of old))
         (λ q. omega (arith, times-append q (owned refs_of old) (refs_of value))) (λ q. omega (arith, same q))
@@ -467,20 +528,25 @@ module _ {V : Type 0} (refs_of : V → List BlockRef) (value_of : Blocks → V �
   pub look_now : (bases : Bases V) (db moment : ℕ) (m : Blocks) (key : List ℕ) (e : Entry) → look (means value_of db bases m) key ≡ Some e → in_time moment e.deadline ≡ true → look (model.live (means value_of db bases m) moment) key ≡ Some e
   look_now bases db moment m key e is late = look_in_time (means value_of db bases m) moment key e is late
 
+  -- nothing stands at the moment at a key whose deadline is past
   pub look_past : (bases : Bases V) (db moment : ℕ) (m : Blocks) → IsArranged bases m → (key : List ℕ) (at : ℕ) → Stands m (table_at bases db) at key → in_time moment (get (moments m (deadlines_at bases db)) key) ≡ false → look (model.live (means value_of db bases m) moment) key ≡ None
   look_past bases db moment m a key at stands late = look_gone (means value_of db bases m) moment key _ (look_stands bases db m a key at stands.element stands.found stands.bytes _ refl) late
 
+  -- where nothing stands at a key nothing stands there at the moment
   pub look_nothing : (bases : Bases V) (db moment : ℕ) (m : Blocks) (key : List ℕ) → look (means value_of db bases m) key ≡ None → look (model.live (means value_of db bases m) moment) key ≡ None
   look_nothing bases db moment m key is = look_absent (means value_of db bases m) moment key is
 
   module _ (old new : Bases V) (db : ℕ) (m : Blocks) (c : ChangesTable old new db) (at : ℕ) where
     module _ (was zero : V) (nothing : refs_of zero ≡ []) (empty : V) (is_empty : zero ≡ empty) (s : Swaps (table_at old db) (table_at new db) at was zero) (keyed : Keyed m (table_at new db)) (intact : IsIntact refs_of old m []) (key : List ℕ) (moment : ℕ) (there : StandsAt old m db key moment at) where
+      -- where a value is taken out of its place, the databases are intact with it out of them
       lifted_intact : IsIntact refs_of new m (refs_of was)
       lifted_intact = over_intact old new db m c at was zero s keyed intact.arranged [] (refs_of was) intact (λ r. omega (arith, ap (times r) nothing))
 
+      -- the element whose value is taken out has the key that stands at the item number
       lifted_key : m s.key ≡ Some key
       lifted_key = swapped_key old new db m c at was zero s keyed intact.arranged key there.stands
 
+      -- the value that was taken out is what stood at the key at the moment, and its place is vacant
       pub lifts : (lifted : Lifted V) → lifted ≡ record { db = db; item = at; value = was } → Lifts refs_of value_of empty old new m db key moment lifted
       lifts lifted is = subst (Lifts refs_of value_of empty old new m db key moment) (sym is) (record {
         same_db = refl;
@@ -493,6 +559,7 @@ module _ {V : Type 0} (refs_of : V → List BlockRef) (value_of : Blocks → V �
         back = λ entry. ap (λ w. put w key entry) (swapped_means refs_of value_of own old new db m intact.arranged at c keyed was zero s key lifted_key _ refl) ∙ put_twice (means value_of db old m) key _ entry;
       })
 
+      -- where a value is taken out, sound databases are sound beside it and what was out already
       pub lifted_sound : (out : List BlockRef) → SoundBeside refs_of old m out → SoundBeside refs_of new m (refs_of was ++ out)
       lifted_sound out sound = record {
         owns = λ r. omega (arith, sound.owns r, owned_swaps refs_of value_of own old new db c.base r at was zero s, times-append r (refs_of was) out, ap (times r) nothing);
@@ -500,16 +567,19 @@ module _ {V : Type 0} (refs_of : V → List BlockRef) (value_of : Blocks → V �
       }
 
     module _ (was value : V) (s : Swaps (table_at old db) (table_at new db) at was value) (keyed : Keyed m (table_at new db)) (intact : IsIntact refs_of old m (refs_of value)) (empty : V) (nothing : refs_of empty ≡ []) (v : IsVacant empty old db at) where
+      -- what stands in a vacant place owns no block
       vacated : refs_of was ≡ []
       vacated =
           let both : Some was ≡ Some empty = sym (ap value_at s.found) ∙ v in
           let same : was ≡ empty = cc in
           ap refs_of same ∙ nothing
 
+      -- where a value is put in the place of a key, it is put at the key of the world with the key's deadline
       pub lowered_means : (key : List ℕ) (deadline : Option ℕ) → IsPlace old m db at key deadline → means value_of db new m ≡ put (means value_of db old m) key (record { value = value_of m value; deadline = deadline })
       lowered_means key deadline place =
           swapped_means refs_of value_of own old new db m intact.arranged at c keyed was value s key (swapped_key old new db m c at was value s keyed intact.arranged key (record { element = place.element; found = place.found; bytes = place.bytes })) deadline place.lasts
 
+      -- where a value that was out is put in a vacant place, the databases are sound beside the rest
       pub lowered_sound : (all out : List BlockRef) → SoundBeside refs_of old m all → AreParts all (refs_of value) out → SoundBeside refs_of new m out
       lowered_sound all out sound parts = record {
         owns = λ r. omega (arith, sound.owns r, parts r, owned_swaps refs_of value_of own old new db c.base r at was value s, ap (times r) vacated);
@@ -518,11 +588,7 @@ module _ {V : Type 0} (refs_of : V → List BlockRef) (value_of : Blocks → V �
 
   -- ---- looking
 
-  -- where an answer is none, the fact holds
-  pub if_none : {A : Type 0} (o : Option A) (P : Type 0) → P → IfNone o P
-  if_none None P p = p
-  if_none (Some x) P p = tt
-
+  -- the value at the item number where a key stands at the moment is what is found at the key
   pub found_held : (bases : Bases V) (db moment : ℕ) (m : Blocks) (key : List ℕ) (at : ℕ) (value : V) → IsIntact refs_of bases m [] → StandsAt bases m db key moment at → value_at (item (table_at bases db) at) ≡ Some value → Found refs_of value_of bases m db key moment value
   found_held bases db moment m key at value intact there held =
       let stands = there.stands in
@@ -534,6 +600,7 @@ module _ {V : Type 0} (refs_of : V → List BlockRef) (value_of : Blocks → V �
         has = record { at = at; element = stands.element; found = stands.found; bytes = stands.bytes; is = same };
       }
 
+  -- settings that stay the same in each of two steps stay the same in both
   pub settings_then : (a b c : Bases V) → SameSettings a b → SameSettings b c → SameSettings a c
   settings_then a b c p q = record { limits = q.limits ∙ p.limits; seed = q.seed ∙ p.seed; turn = q.turn ∙ p.turn }
 
@@ -549,6 +616,7 @@ module _ {V : Type 0} (refs_of : V → List BlockRef) (value_of : Blocks → V �
         in_list (suc n) zero = p seed
         in_list (suc n) (suc number) = in_list n number
 
+    -- databases without a key mean, with database 0 selected, the world of a server that was just begun
     pub new_means_world : (m : Blocks) → means value_of 0 bases m ≡ model.new_world
     new_means_world m = λ i. record { bases = λ number. each_new (λ b. base_means value_of m b ≡ model.no_keys) (no_base_means value_of m) number i; selected = 0 }
 
@@ -556,6 +624,7 @@ module _ {V : Type 0} (refs_of : V → List BlockRef) (value_of : Blocks → V �
     pub new_grown : (m : Blocks) → bases.seed ≡ seed → AreGrown bases m
     new_grown m same db = subst (λ s. BaseGrows s (no_base s) (base_at bases db) m m) (sym same) (each_new (λ b. BaseGrows seed (no_base seed) b m m) (λ number. record { keys = no_step; deadlines = no_step; cursor = refl }) db)
 
+    -- both tables of each of the 16 databases without a key have the seed of all
     new_seeds : (number : ℕ) → number < 16 → HasSeed (base_at bases number) seed
     new_seeds number within = subst (λ list. HasSeed (get_or list number (no_base 0)) seed) (sym none) (in_list 16 number within)
       where
@@ -564,6 +633,7 @@ module _ {V : Type 0} (refs_of : V → List BlockRef) (value_of : Blocks → V �
         in_list (suc n) zero within = record { keys = refl; deadlines = refl }
         in_list (suc n) (suc number) within = in_list n number (omega (arith, within))
 
+    -- databases without a key are sound over a store without a block, where limits, seed and turn are in order
     pub new_sound : (m : Blocks) → m ≡ no_blocks → AreInRange bases.limits → bases.seed ≡ seed → bases.turn ≡ 0 → SoundBeside refs_of bases m []
     new_sound m dead limits same first = record {
       owns = λ r. (let nothing : times r (owned refs_of bases) ≡ 0 = ap (λ list. times r (flat_map (λ (b : Base V). refs refs_of b.keys) list)) none in let dead_r : live m r ≡ 0 = ap (λ (b : Blocks). live b r) dead in omega arith);

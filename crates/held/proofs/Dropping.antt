@@ -1,14 +1,13 @@
 -- Keys leave that blocks name: what one removal does to the tables, and what several do.
 use Rattle.std.proofs.Common.{◌≡◌, ◌≢◌, ◌⊎◌, inl, inr, ℕ, List, [], ◌∷◌, ◌++◌, Some, None, refl, sym, ap, ◌∙◌, subst, arith}
-use Rattle.std.proofs.lemmas.Bool.{cases_eq, cond-true, cond-false}
+use Rattle.std.proofs.lemmas.Bool.{cases_eq, cond-false}
 use Rattle.blocks.specs.declared.BlockRef.{BlockRef}
 use Rattle.blocks.specs.Blocks.{Blocks, ref_eq, times, no_step}
-use Rattle.blocks.proofs.Refs.{ref_eq-refl, cases_ref}
+use Rattle.blocks.proofs.Refs.{cases_ref}
 use Rattle.blocks.proofs.Change.{one_if}
-use Rattle.blocks.proofs.Serve.{Served-same, Served-once, Served-then, Served-weaker}
+use Rattle.blocks.proofs.Serve.{Served-same, Served-once, Served-then}
 use Rattle.blocks.proofs.Times.{times-append}
-use Rattle.rehash_dict.specs.Tables.{Tables, removed}
-use Rattle.rehash_dict.specs.Grown.{Grown, leaves}
+use Rattle.rehash_dict.specs.Tables.{removed}
 use Rattle.rehash_dict.specs.Keyed.{same_key, key_tables}
 use Rattle.rehash_dict.proofs.Keys.{Keyed-frame}
 use Rattle.expiry.specs.Timed.{Timed}
@@ -18,12 +17,10 @@ use Rattle.held.specs.Table.{Table, Element, item, Keyed, Lacks, Removes}
 use Rattle.held.specs.Databases.{Bases, table_at, deadlines_at, ChangesTable, ChangesDeadlines}
 use Rattle.held.specs.Sound.{Names, IsArranged}
 use Rattle.held.specs.Scopes.{Stayed, Within, no_key}
-use Rattle.held.specs.Expiry.{Shed, Drops, Thinned, Expired, start, more}
+use Rattle.held.proofs.Tables.{key_itself}
+use Rattle.held.specs.Expiry.{Shed, Drops, Thinned}
 
 -- ---- references
-
-key_itself : (r : BlockRef) → one_if (ref_eq r r) ≡ 1
-key_itself r = cond-true _ _ _ (ref_eq-refl r)
 
 -- another reference isn't this one
 out_one : (a b : BlockRef) → a ≢ b → times a (b ∷ []) ≡ 0
@@ -179,16 +176,3 @@ module _ {V : Type 0} (refs_of : V → List BlockRef) where
     }
 
 -- ---- the tables over several steps
-
--- what keys leave comes from the tables before by edits
-pub shed_grown : (hash : List ℕ → ℕ) (before after : Tables (List ℕ)) → Shed before after → Grown hash before after
-shed_grown hash before after = Served-weaker (λ a b s. leaves s.key s.without) before after
-
-module _ {V : Type 0} (refs_of : V → List BlockRef) (moment : ℕ) (old : Bases V) (m : Blocks) where
-  -- the tables of each database come from those before all steps by removals
-  pub expired_shed : (steps dropped : ℕ) (new : Bases V) (after : Blocks) → Expired refs_of moment old m steps dropped new after → (db : ℕ)
-      → Shed (key_tables m (table_at old db)) (key_tables after (table_at new db)) × Shed (key_tables m (deadlines_at old db).table) (key_tables after (deadlines_at new db).table)
-  expired_shed _ _ _ _ start db = (no_step, no_step)
-  expired_shed _ _ _ _ (more steps dropped mid new now after before step) db =
-      (let first = expired_shed steps dropped mid now before db in
-      (Served-then _ _ _ first.0 (step.thinned.keys_shed db), Served-then _ _ _ first.1 (step.thinned.deadlines_shed db)))

@@ -11,7 +11,7 @@ use Rattle.std.specs.FinMap.{empty, entries, entries_sorted, entries-from_sorted
 use Rattle.std.specs.FinMap.Entries.{below_all}
 use Rattle.plain_world.specs.Worlds.{Value, Entry, Database, no_keys}
 use Rattle.held.specs.Databases.{Values, Moments, with_deadlines, with_deadline}
-use Rattle.held.proofs.Tables.{maps_alike}
+use Rattle.plain_world.proofs.Maps.{maps_alike}
 
 abbrev tied : List ℕ → List ℕ → Bool
 tied q k = eq_by_cmp (slice_cmp nat_cmp) q k

@@ -12,7 +12,6 @@ use Rattle.held.specs.Table.{Table, Element, item, key_at, Stands}
 use Rattle.held.specs.Databases.{ReadsOwn, Bases, table_at, deadlines_at, means}
 use Rattle.held.specs.Sound.{IsArranged}
 use Rattle.held.specs.Calls.{StandsAt}
-use Rattle.held.proofs.Timing.{some_same, some_none}
 use Rattle.held.proofs.Calls.{look_now, look_past, look_nothing, look_lacks, look_stands}
 
 -- where an answer is none, what follows from that holds
@@ -28,18 +27,6 @@ module _ {V : Type 0} (refs_of : V → List BlockRef) (value_of : Blocks → V �
       go : (o : Option (Element V)) → item (table_at bases db) at ≡ o → key_at o ≡ Some name → Stands m (table_at bases db) at key
       go None found named = cc
       go (Some e) found named = record { element = e; found = found; bytes = ap m (let same : e.key ≡ name = cc in same) ∙ bytes }
-
-  -- no key stands at the item number
-  pub vacant_not_there : (at : ℕ) → item (table_at bases db) at ≡ None → (key : List ℕ) → StandsAt bases m db key moment at → ⊥
-  vacant_not_there at none key s = some_none (item (table_at bases db) at) s.stands.element s.stands.found none
-
-  -- its key is gone
-  pub past_not_there : (at : ℕ) (e : Element V) (bytes : List ℕ) → item (table_at bases db) at ≡ Some e → m e.key ≡ Some bytes → in_time moment (get (moments m (deadlines_at bases db)) bytes) ≡ false → (key : List ℕ) → StandsAt bases m db key moment at → ⊥
-  past_not_there at e bytes found is late key s =
-      let one : s.stands.element ≡ e = some_same (item (table_at bases db) at) s.stands.element e s.stands.found found in
-      let same : key ≡ bytes = some_same (m e.key) key bytes (ap (λ (x : Element V). m x.key) (sym one) ∙ s.stands.bytes) is in
-      let bad : true ≡ false = sym s.in_time ∙ ap (λ k. in_time moment (get (moments m (deadlines_at bases db)) k)) same ∙ late in
-      cc
 
   module _ (a : IsArranged bases m) where
     pub there_seen : (at : ℕ) (key : List ℕ) → StandsAt bases m db key moment at → is_some (look (model.live (means value_of db bases m) moment) key) ≡ true

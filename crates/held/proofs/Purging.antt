@@ -20,7 +20,7 @@ use Rattle.held.specs.Sound.{Names, IsArranged, IsIntact}
 use Rattle.held.specs.Worlds.{without}
 use Rattle.held.specs.Gone.{IsPassed, Loses, Thins}
 use Rattle.held.proofs.Maps.{entry_with, get_with, removed_same}
-use Rattle.held.proofs.Timing.{some_same, some_none, moments_lack}
+use Rattle.held.proofs.Timing.{some_none, moments_lack}
 use Rattle.held.proofs.Calls.{look_past, look_stands}
 
 -- the worlds that differ in the selected database alone, and then once more
@@ -136,10 +136,6 @@ module _ {V : Type 0} (refs_of : V → List BlockRef) (value_of : Blocks → V �
         counted = one_less (base_means value_of m (base_at old db)) (bytes_at m name) _ (passed_some passed_named) ∙ ap (λ b. 1 + len b) (sym left_base);
         part = l.part;
       }
-
-      -- what stands at the item number is in time
-      pub passed_left : (e : Element ℕ) → item (deadlines_at new db).table at ≡ Some e → moment ≤ e.value
-      passed_left e found = absurd (l.lacks.each at e found (ap (λ (x : Element ℕ). m x.key) (some_same (item (deadlines_at old db).table at) e p.element (l.part at e found) p.found) ∙ ap m p.named ∙ passed_bytes))
 
   -- ---- the whole database
 

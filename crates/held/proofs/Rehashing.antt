@@ -1,15 +1,13 @@
 -- Rehash steps leave what the databases mean.
-use Rattle.std.proofs.Common.{◌≡◌, inl, inr, ℕ, zero, suc, ◌+◌, ◌<◌, ◌≤◌, Bool, true, false, List, [], ◌∷◌, length, get_or, refl, sym, ap, ◌∙◌, subst, arith}
-use Rattle.std.proofs.lemmas.Bool.{cases_eq, cases_lt}
+use Rattle.std.proofs.Common.{◌≡◌, inl, inr, ℕ, zero, suc, ◌+◌, ◌<◌, ◌≤◌, true, false, List, [], ◌∷◌, length, get_or, refl, sym, ap, ◌∙◌, subst, arith}
+use Rattle.std.proofs.lemmas.Bool.{cases_eq}
 use Rattle.blocks.specs.declared.BlockRef.{BlockRef}
 use Rattle.blocks.specs.Blocks.{Blocks}
-use Rattle.rehash_dict.specs.Tables.{is_rehashing}
-use Rattle.rehash_dict.specs.Table.{tables}
 use Rattle.plain_world.specs.Worlds.{Value, selecting}
-use Rattle.expiry.specs.Timed.{Timed, KeepsCursor}
+use Rattle.expiry.specs.Timed.{KeepsCursor}
 use Rattle.held.specs.declared.databases.Base.{Base}
 use Rattle.held.specs.Table.{Table, Keyed}
-use Rattle.held.specs.Databases.{ReadsOwn, Bases, no_base, base_at, table_at, deadlines_at, ChangesTable, ChangesDeadlines}
+use Rattle.held.specs.Databases.{ReadsOwn, Bases, table_at, deadlines_at, ChangesTable, ChangesDeadlines}
 use Rattle.held.specs.Sound.{IsArranged}
 use Rattle.held.specs.Rehash.{keys_move, deadlines_move, StepsTable, Preserves, Rehashes, Steps, start, more, Rehashed, of_keys, of_deadlines}
 use Rattle.held.proofs.Shrinking.{KeepsItems, keys_shrink, items_arranged, items_means, items_sound}
@@ -25,23 +23,9 @@ module _ {V : Type 0} (m : Blocks) where
     | inr other ↦ ap (λ (b : Base V). b.keys.items) (changes.base.others db other)
   ]
 
-  deadlines_one : (old new : Bases V) → Rehashes m old new → (db : ℕ) → (deadlines_at new db).table.items ≡ (deadlines_at old db).table.items
-  deadlines_one old new (of_keys at lowest changes steps) db = elim (cases_eq db at) [
-    | inl here ↦ subst (λ (n : ℕ). (deadlines_at new n).table.items ≡ (deadlines_at old n).table.items) (sym here) (ap (λ (d : Timed). d.table.items) changes.deadlines)
-    | inr other ↦ ap (λ (b : Base V). b.deadlines.table.items) (changes.base.others db other)
-  ]
-  deadlines_one old new (of_deadlines at still lowest changes steps cursor) db = elim (cases_eq db at) [
-    | inl here ↦ subst (λ (n : ℕ). (deadlines_at new n).table.items ≡ (deadlines_at old n).table.items) (sym here) steps.items
-    | inr other ↦ ap (λ (b : Base V). b.deadlines.table.items) (changes.base.others db other)
-  ]
-
   keys_all : (old : Bases V) (count : ℕ) (new : Bases V) → Steps m old count new → (db : ℕ) → (table_at new db).items ≡ (table_at old db).items
   keys_all old _ _ start db = refl
   keys_all old _ _ (more count mid new before step) db = keys_one mid new step db ∙ keys_all old count mid before db
-
-  deadlines_all : (old : Bases V) (count : ℕ) (new : Bases V) → Steps m old count new → (db : ℕ) → (deadlines_at new db).table.items ≡ (deadlines_at old db).table.items
-  deadlines_all old _ _ start db = refl
-  deadlines_all old _ _ (more count mid new before step) db = deadlines_one mid new step db ∙ deadlines_all old count mid before db
 
 module _ {V : Type 0} (refs_of : V → List BlockRef) (value_of : Blocks → V → Value) (own : ReadsOwn refs_of value_of) (m : Blocks) where
   pub preserves_none : (old new : Bases V) → IsArranged old m → new ≡ old → Preserves refs_of value_of m old new
@@ -81,13 +65,6 @@ module _ {V : Type 0} (refs_of : V → List BlockRef) (value_of : Blocks → V �
 
 -- ---- which step was made
 
--- none below a number, and none at it
-pub none_to : (holds : ℕ → Bool) (number : ℕ) → ((other : ℕ) → other < number → holds other ≡ false) → holds number ≡ false → (other : ℕ) → other < number + 1 → holds other ≡ false
-none_to holds number before here other below = elim (cases_eq other number) [
-  | inl same ↦ subst (λ (n : ℕ). holds n ≡ false) (sym same) here
-  | inr apart ↦ before other (omega (arith, below, apart))
-]
-
 module _ {V : Type 0} (m : Blocks) (old mid new : Bases V) (db : ℕ) (same : mid ≡ old) where
   pub keys_stepped : ((number : ℕ) → number < db → keys_move old number ≡ false) → true ≡ keys_move mid db → ChangesTable mid new db → StepsTable m (table_at mid db) (table_at new db) → Rehashes m old new
   keys_stepped none here changes steps =
@@ -104,26 +81,6 @@ beyond [] i other h = refl
 beyond (x ∷ xs) zero other h = absurd (omega (arith, h))
 beyond (x ∷ xs) (suc i) other h = beyond xs i other (omega (arith, h))
 
-module _ {V : Type 0} (bases : Bases V) (sixteen : length bases.bases ≡ 16) where
-  no_base_at : (number : ℕ) → 16 ≤ number → base_at bases number ≡ no_base 0
-  no_base_at number over = beyond bases.bases number (no_base 0) (omega (arith, over, sixteen))
-
-  -- where none of the 16 is in a rehash none is
-  pub keys_still : ((number : ℕ) → number < 16 → keys_move bases number ≡ false) → (number : ℕ) → keys_move bases number ≡ false
-  keys_still each number = elim (cases_lt number 16) [
-    | inl less ↦ each number less
-    | inr over ↦ ap (λ (b : Base V). is_rehashing (tables b.keys)) (no_base_at number over)
-  ]
-
-  pub deadlines_still : ((number : ℕ) → number < 16 → deadlines_move bases number ≡ false) → (number : ℕ) → deadlines_move bases number ≡ false
-  deadlines_still each number = elim (cases_lt number 16) [
-    | inl less ↦ each number less
-    | inr over ↦ ap (λ (b : Base V). is_rehashing (tables b.deadlines.table)) (no_base_at number over)
-  ]
-
 -- all elements keep their item numbers
 pub keys_stay : {V : Type 0} {m : Blocks} {asked found : ℕ} {old new : Bases V} → Rehashed m asked found old new → (db : ℕ) → (table_at new db).items ≡ (table_at old db).items
 keys_stay {m = m} {found = found} {old = old} {new = new} r db = keys_all m old found new r.steps db
-
-pub deadlines_stay : {V : Type 0} {m : Blocks} {asked found : ℕ} {old new : Bases V} → Rehashed m asked found old new → (db : ℕ) → (deadlines_at new db).table.items ≡ (deadlines_at old db).table.items
-deadlines_stay {m = m} {found = found} {old = old} {new = new} r db = deadlines_all m old found new r.steps db

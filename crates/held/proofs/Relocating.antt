@@ -7,7 +7,7 @@ use Rattle.blocks.specs.declared.Moved.{Moved}
 use Rattle.blocks.specs.Blocks.{Blocks, times, Changes, Owned}
 use Rattle.blocks.specs.Slabs.{Heap, wants, Calmer}
 use Rattle.blocks.proofs.Refs.{cases_ref}
-use Rattle.blocks.proofs.Change.{one, cases_in, live-once, Changes-same, Changes-then, Changes-beside, Changes-owned, Owned-others}
+use Rattle.blocks.proofs.Change.{one, cases_in, live-once, Changes-same, Changes-then, Changes-beside, Owned-others}
 use Rattle.object_codec.specs.Limits.{AreInRange}
 use Rattle.plain_world.specs.Worlds.{Value}
 use Rattle.rehash_dict.specs.Keyed.{key_tables}
@@ -22,7 +22,8 @@ use Rattle.held.specs.Sound.{Names, IsTimed, IsArranged, IsIntact}
 use Rattle.held.specs.Relocation.{is_passed, IsBounded, PassesPart, Relocates, Replaces, PassesName, PassesElement}
 use Rattle.held.proofs.Timing.{some_same, timed_frame, timed_swaps}
 use Rattle.held.proofs.Bases.{owned_changed, owned_swaps, kept_inside, base_then}
-use Rattle.held.proofs.Calls.{item_owned, key_itself, over_intact, settings_then}
+use Rattle.held.proofs.Tables.{key_itself}
+use Rattle.held.proofs.Calls.{item_owned, over_intact, settings_then}
 
 -- a reference that stands in a list of one is that one
 in_one : (r at : BlockRef) → 0 < times r (at ∷ []) → at ≡ r
@@ -56,9 +57,11 @@ module _ {V : Type 0} (refs_of : V → List BlockRef) (value_of : Blocks → V �
   abbrev Stay : Blocks → Blocks → Element V → Type 0
   Stay m after e = (r : BlockRef) → 0 < times r (e.key ∷ refs_of e.value) → after r ≡ m r
 
+  -- where an element's blocks stay its key has the bytes that it had
   name_stays : (m after : Blocks) (e : Element V) → Stay m after e → after e.key ≡ m e.key
-  name_stays m after e stay = stay e.key (omega (arith, key_itself refs_of value_of own e.key))
+  name_stays m after e stay = stay e.key (omega (arith, key_itself e.key))
 
+  -- where an element's blocks stay its value means what it meant
   value_stays : (m after : Blocks) (e : Element V) → Stay m after e → value_of after e.value ≡ value_of m e.value
   value_stays m after e stay = own m after e.value (λ r isin. stay r (omega (arith, isin)))
 
@@ -80,6 +83,7 @@ module _ {V : Type 0} (refs_of : V → List BlockRef) (value_of : Blocks → V �
       }
 
   module _ (old new : Bases V) (db : ℕ) (m after : Blocks) (a : IsArranged old m) (c : ChangesBase old new db) (here : Renewed m after (base_at old db) (base_at new db)) (apart : (number at : ℕ) (e : Element V) → number ≢ db → item (table_at old number) at ≡ Some e → Stay m after e) where
+    -- where one database is renewed and no block of the others changed, each database is renewed
     each : (number : ℕ) → Renewed m after (base_at old number) (base_at new number)
     each number = elim (cases_eq number db) [
       | inl same ↦ subst (λ n. Renewed m after (base_at old n) (base_at new n)) (sym same) here
@@ -132,15 +136,14 @@ module _ {V : Type 0} (refs_of : V → List BlockRef) (value_of : Blocks → V �
     cursors = λ number. refl;
   }
 
-  pub relocates_intact : (old new : Bases V) (m after : Blocks) → Relocates refs_of value_of old new m after → IsIntact refs_of new after []
-  relocates_intact old new m after p = record { owned = λ r. omega (arith, Changes-owned m after (owned refs_of old) (owned refs_of new) p.changes r); arranged = p.arranged }
-
   -- ---- the block of a key moves
 
   module _ (old new : Bases V) (db at : ℕ) (m after : Blocks) (intact : IsIntact refs_of old m []) (c : ChangesBase old new db) (name ref : BlockRef) (keys : Renames (table_at old db) (table_at new db) at ref) (named : keys.element.key ≡ name) (bytes : after ref ≡ m name) (p : Changes m after (name ∷ []) (ref ∷ [])) where
+    -- the element, named by the new block
     abbrev moved : Element V
     moved = record keys.element { key = ref }
 
+    -- the databases own the key's new block in place of its old one, and else what they owned
     balance : (r : BlockRef) → times r (owned refs_of new) + times r (name ∷ []) ≡ times r (owned refs_of old) + times r (ref ∷ [])
     balance r =
         let there : times r (own_of refs_of (item (table_at old db) at)) ≡ times r (name ∷ refs_of keys.element.value) = ap (λ o. times r (own_of refs_of o)) keys.found ∙ ap (λ k. times r (k ∷ refs_of keys.element.value)) named in
@@ -155,21 +158,27 @@ module _ {V : Type 0} (refs_of : V → List BlockRef) (value_of : Blocks → V �
           ap after (sym to) ∙ bytes ∙ ap m (in_one r name isin))
     ]
 
+    -- the blocks of an element that stands at its item number before and after the move stay
     stay_other : (number other : ℕ) (e : Element V) → item (table_at old number) other ≡ Some e → item (table_at new number) other ≡ Some e → Stay m after e
     stay_other number other e was is r isin = stay r (omega (arith, isin, item_owned refs_of value_of own old number other e r was)) (omega (arith, isin, item_owned refs_of value_of own new number other e r is))
 
+    -- in the key's own database the blocks of each other element stay
     stay_here : (other : ℕ) (e : Element V) → other ≢ at → item (table_at old db) other ≡ Some e → Stay m after e
     stay_here other e apart found = stay_other db other e found (keys.updates.others other apart ∙ found)
 
+    -- in each other database the blocks of every element stay
     stay_apart : (number other : ℕ) (e : Element V) → number ≢ db → item (table_at old number) other ≡ Some e → Stay m after e
     stay_apart number other e apart found = stay_other number other e found (ap (λ (b : Base V). item b.keys other) (c.others number apart) ∙ found)
 
+    -- the value of the key whose block moved means what it meant
     value_here : value_of after keys.element.value ≡ value_of m keys.element.value
     value_here = own m after keys.element.value (λ r isin. stay r (omega (arith, isin, item_owned refs_of value_of own old db at keys.element r keys.found)) (omega (arith, isin, item_owned refs_of value_of own new db at moved r keys.updates.changed)))
 
+    -- the table's keys stay live blocks whose bytes differ, each in the bucket where it stood
     keyed_here : Keyed after (table_at new db) × (key_tables after (table_at new db) ≡ key_tables m (table_at old db))
     keyed_here = keys.keyed m after (intact.arranged.keyed db) (bytes ∙ ap m (sym named)) (λ other e apart found. name_stays m after e (stay_here other e apart found))
 
+    -- the key table means the keys and values that it meant
     values_here : map_of after (value_of after) (table_at new db) ≡ map_of m (value_of m) (table_at old db)
     values_here =
         map_of-same m after (value_of m) (value_of after) (table_at old db) (table_at new db) (intact.arranged.keyed db) keyed_here.0
@@ -254,6 +263,7 @@ module _ {V : Type 0} (refs_of : V → List BlockRef) (value_of : Blocks → V �
         keyed : Keyed after (deadlines_at new db).table × (key_tables after (deadlines_at new db).table ≡ key_tables m (deadlines_at old db).table)
         keyed = r.keyed m after t.keyed (bytes ∙ sym same_bytes) (λ i f other found. (kept i f other found).0)
 
+    -- that a key's block moves is a relocation of the databases, where the deadlines follow it
     pub name_relocates : TimesMoved m after (table_at new db) (deadlines_at old db) (deadlines_at new db) → Relocates refs_of value_of old new m after
     name_relocates t =
         relocates_one old new db m after intact.arranged c
@@ -266,6 +276,7 @@ module _ {V : Type 0} (refs_of : V → List BlockRef) (value_of : Blocks → V �
             let there : times r (keys.element.key ∷ refs_of keys.element.value) ≡ times r (name ∷ refs_of keys.element.value) = ap (λ k. times r (k ∷ refs_of keys.element.value)) named in
             omega (arith, there, item_owned refs_of value_of own old db at keys.element r keys.found)
 
+    -- the element with the new block stands in place of the old one, and all others stay
     pub name_replaces : Replaces old new db at keys.element moved
     name_replaces = record {
       found = keys.found;
@@ -279,6 +290,7 @@ module _ {V : Type 0} (refs_of : V → List BlockRef) (value_of : Blocks → V �
       ];
     }
 
+    -- where the new block wants no move, the block of the element's key was passed
     pub name_passes : (later : Heap) → wants later ref ≡ false → PassesName later old new db at
     name_passes later calm = record { was = keys.element; now = moved; replaces = name_replaces; same_value = refl; calm = calm }
 
@@ -288,22 +300,27 @@ module _ {V : Type 0} (refs_of : V → List BlockRef) (value_of : Blocks → V �
 
   -- the key has no deadline
   module _ (old new : Bases V) (db at : ℕ) (m after : Blocks) (intact : IsIntact refs_of old m []) (name ref : BlockRef) (is : key_at (item (table_at old db) at) ≡ Some name) (bytes : after ref ≡ m name) (p : Changes m after (name ∷ []) (ref ∷ [])) (c : ChangesTable old new db) (keys : Renames (table_at old db) (table_at new db) at ref) where
+    -- that the block of a key without a deadline moves is a relocation of the databases
     pub alone_relocates : (key : List ℕ) → m name ≡ Some key → Lacks m (deadlines_at old db).table key → Relocates refs_of value_of old new m after
     alone_relocates key was lacks =
         let named = name_is (table_at old db) (table_at new db) at name ref keys is in
         name_relocates old new db at m after intact c.base name ref keys named bytes p (times_alone old new db at m after intact c.base name ref keys named bytes p key was c.deadlines lacks)
 
+    -- where its new block wants no move, the block of a key without a deadline was passed
     pub alone_passes : (later : Heap) → wants later ref ≡ false → PassesName later old new db at
     alone_passes later calm = name_passes old new db at m after intact c.base name ref keys (name_is (table_at old db) (table_at new db) at name ref keys is) bytes p later calm
 
   -- it has one, which is named by the same block
   module _ (old mid new : Bases V) (db at : ℕ) (m after : Blocks) (intact : IsIntact refs_of old m []) (name ref : BlockRef) (is : key_at (item (table_at old db) at) ≡ Some name) (bytes : after ref ≡ m name) (p : Changes m after (name ∷ []) (ref ∷ [])) (c : ChangesTable old mid db) (keys : Renames (table_at old db) (table_at mid db) at ref) (d : ChangesDeadlines mid new db) where
+    -- where the name of the deadline follows, the key's element is still named by the new block
     both_keys : Renames (table_at old db) (table_at new db) at ref
     both_keys = subst (λ (t : Table V). Renames (table_at old db) t at ref) (sym d.keys) keys
 
+    -- where a key's block moves and the name of its deadline follows, no other database changes
     both_base : ChangesBase old new db
     both_base = base_then old mid new db c.base d.base
 
+    -- that the block of a key moves and the name of its deadline follows is a relocation of the databases
     pub with_relocates : (key : List ℕ) (number : ℕ) → m name ≡ Some key → Stands m (deadlines_at old db).table number key → Renames (deadlines_at mid db).table (deadlines_at new db).table number ref → KeepsCursor (deadlines_at mid db) (deadlines_at new db) → Relocates refs_of value_of old new m after
     with_relocates key number was stands r cursor =
         let named = name_is (table_at old db) (table_at new db) at name ref both_keys is in
@@ -311,6 +328,7 @@ module _ {V : Type 0} (refs_of : V → List BlockRef) (value_of : Blocks → V �
         (times_with old new db at m after intact both_base name ref both_keys named bytes p key number was stands
         (subst (λ (t : Timed). Renames t.table (deadlines_at new db).table number ref) c.deadlines r) (subst (λ (t : Timed). KeepsCursor t (deadlines_at new db)) c.deadlines cursor))
 
+    -- where its new block wants no move, the block of a key with a deadline was passed
     pub with_passes : (later : Heap) → wants later ref ≡ false → PassesName later old new db at
     with_passes later calm = name_passes old new db at m after intact both_base name ref both_keys (name_is (table_at old db) (table_at new db) at name ref both_keys is) bytes p later calm
 
@@ -331,19 +349,24 @@ module _ {V : Type 0} (refs_of : V → List BlockRef) (value_of : Blocks → V �
   -- ---- the blocks of a value move
 
   module _ (old mid : Bases V) (db at : ℕ) (m : Blocks) (intact : IsIntact refs_of old m []) (c : ChangesTable old mid db) (was vacant : V) (none : refs_of vacant ≡ []) (s : Swaps (table_at old db) (table_at mid db) at was vacant) (keyed : Keyed m (table_at mid db)) where
+    -- what stands in the place of the value that was taken out owns no block
     nothing : (r : BlockRef) → times r (refs_of vacant) ≡ 0
     nothing r = ap (times r) none
 
+    -- where a value is taken out of its place, the databases are intact with it out of them
     out : IsIntact refs_of mid m (refs_of was)
     out = over_intact refs_of value_of own old mid db m c at was vacant s keyed intact.arranged [] (refs_of was) intact (λ r. omega (arith, nothing r))
 
+    -- the value that was taken out owns live blocks, none of them named twice
     pub out_owned : Owned (refs_of was) m
     out_owned r = omega (arith, out.owned r)
 
     module _ (new : Bases V) (after : Blocks) (value back : V) (d : ChangesTable mid new db) (u : Swaps (table_at mid db) (table_at new db) at back value) (keyed_on : Keyed after (table_at mid db) → Keyed after (table_at new db)) (tables_in : key_tables m (table_at mid db) ≡ key_tables m (table_at old db)) (tables_on : key_tables after (table_at new db) ≡ key_tables after (table_at mid db)) (p : Changes m after (refs_of was) (refs_of value)) (same : value_of after value ≡ value_of m was) where
+      -- the element with its value as it was
       abbrev first : Element V
       first = record { key = s.key; hash = s.hash; value = was }
 
+      -- the element with its value after the move
       abbrev last : Element V
       last = record { key = s.key; hash = s.hash; value = value }
 
@@ -351,36 +374,47 @@ module _ {V : Type 0} (refs_of : V → List BlockRef) (value_of : Blocks → V �
       between : ◌≡◌ {A = Element V} (record { key = u.key; hash = u.hash; value = back }) (record { key = s.key; hash = s.hash; value = vacant })
       between = some_same (item (table_at mid db) at) _ _ u.found s.updates.changed
 
+      -- the element with its moved value stands at its item number in the end
       stands : item (table_at new db) at ≡ Some last
       stands = u.updates.changed ∙ (λ i. Some (record { key = (between i).key; hash = (between i).hash; value = value }))
 
+      -- what the databases own while the value is out keeps its bytes
       kept_mid : (r : BlockRef) → 0 < times r (owned refs_of mid) → after r ≡ m r
       kept_mid = kept_inside refs_of value_of own mid m after (refs_of was) (refs_of was) (refs_of value) out p (λ r. omega arith)
 
+      -- the blocks of each element that stands while the value is out stay
       mid_stays : (number other : ℕ) (e : Element V) → item (table_at mid number) other ≡ Some e → Stay m after e
       mid_stays number other e found r isin = kept_mid r (omega (arith, isin, item_owned refs_of value_of own mid number other e r found))
 
+      -- taking the value out and putting it back changes no other database
       base : ChangesBase old new db
       base = base_then old mid new db c.base d.base
 
+      -- in each other database the blocks of every element stay
       apart_stays : (number other : ℕ) (e : Element V) → number ≢ db → item (table_at old number) other ≡ Some e → Stay m after e
       apart_stays number other e off found = mid_stays number other e (ap (λ (b : Base V). item b.keys other) (c.base.others number off) ∙ found)
 
+      -- in the value's own database the blocks of each other element stay
       here_stays : (other : ℕ) (e : Element V) → other ≢ at → item (table_at old db) other ≡ Some e → Stay m after e
       here_stays other e off found = mid_stays db other e (s.updates.others other off ∙ found)
 
+      -- the key of the moved value has the bytes that it had
       name_here : after s.key ≡ m s.key
       name_here = name_stays m after (record { key = s.key; hash = s.hash; value = vacant }) (mid_stays db at _ s.updates.changed)
 
+      -- while the value is out the table's keys stay live blocks whose bytes differ, each in its bucket
       frame : Keyed after (table_at mid db) × (key_tables after (table_at mid db) ≡ key_tables m (table_at mid db))
       frame = Keyed-frame m after (table_at mid db) keyed (λ other e found. name_stays m after e (mid_stays db other e found))
 
+      -- while the value is out each deadline stays that of a key, and all mean what they meant
       timed_mid : IsTimed after (table_at mid db) (deadlines_at old db) × (moments after (deadlines_at old db) ≡ moments m (deadlines_at old db))
       timed_mid = timed_frame m after (table_at mid db) (deadlines_at old db) (timed_swaps m (table_at old db) (table_at mid db) (deadlines_at old db) at was vacant s (intact.arranged.timed db)) (λ other e found. name_stays m after e (mid_stays db other e found))
 
+      -- taking the value out and putting it back leaves the deadlines
       same_times : deadlines_at new db ≡ deadlines_at old db
       same_times = d.deadlines ∙ c.deadlines
 
+      -- with the moved value in its place the key table means the keys and values that it meant
       values_moved : map_of after (value_of after) (table_at new db) ≡ map_of m (value_of m) (table_at old db)
       values_moved =
           map_of-same m after (value_of m) (value_of after) (table_at old db) (table_at new db) (intact.arranged.keyed db) (keyed_on frame.0)
@@ -397,6 +431,7 @@ module _ {V : Type 0} (refs_of : V → List BlockRef) (value_of : Blocks → V �
             | inr other ↦ (let then' = sym (s.updates.others i other) ∙ (sym (u.updates.others i other) ∙ there) in (i, f, then', name_stays m after f (here_stays i f other then')))
           ])
 
+      -- the database of the moved value is renewed: it means what it meant, and has its seeds and its cursor
       renewed : Renewed m after (base_at old db) (base_at new db)
       renewed = record {
         keyed = keyed_on frame.0;
@@ -414,6 +449,7 @@ module _ {V : Type 0} (refs_of : V → List BlockRef) (value_of : Blocks → V �
       back_none : (r : BlockRef) → times r (refs_of back) ≡ 0
       back_none r = ap (λ (x : Element V). times r (refs_of x.value)) between ∙ nothing r
 
+      -- that the blocks of a value move is a relocation of the databases
       pub value_relocates : Relocates refs_of value_of old new m after
       value_relocates =
           relocates_one old new db m after intact.arranged base renewed apart_stays
@@ -421,6 +457,7 @@ module _ {V : Type 0} (refs_of : V → List BlockRef) (value_of : Blocks → V �
           (λ r. omega (arith, owned_swaps refs_of value_of own old mid db c.base r at was vacant s, nothing r))
           (λ r. omega (arith, owned_swaps refs_of value_of own mid new db d.base r at back value u, back_none r)))
 
+      -- the element with the moved value stands in place of the old one, and all others stay
       value_replaces : Replaces old new db at first last
       value_replaces = record {
         found = s.found;
@@ -434,6 +471,7 @@ module _ {V : Type 0} (refs_of : V → List BlockRef) (value_of : Blocks → V �
         ];
       }
 
+      -- where a part of the value's blocks was passed, this part of the element's blocks was
       pub value_passes : {E : Type 0} (marks : V → List ℕ) (encoding : V → E) (heap later : Heap) (from room : ℕ) (answer : Moved) → PassesPart refs_of value_of marks encoding m after heap later was value from room answer → PassesElement refs_of marks encoding later old new db at (Some from) room answer
       value_passes marks encoding heap later from room answer part = record {
         was = first;
@@ -449,6 +487,7 @@ module _ {V : Type 0} (refs_of : V → List BlockRef) (value_of : Blocks → V �
 
 -- a key's block was passed, and then a part of its value
 module _ {V E : Type 0} (refs_of : V → List BlockRef) (marks : V → List ℕ) (encoding : V → E) (heap later : Heap) (old mid new : Bases V) (db at : ℕ) where
+  -- two replacements at one item number are one of the first element by the last
   replaces_then : (a b c d : Element V) → Replaces old mid db at a b → Replaces mid new db at c d → Replaces old new db at a d
   replaces_then a b c d p q = record {
     found = p.found;
@@ -456,6 +495,7 @@ module _ {V E : Type 0} (refs_of : V → List BlockRef) (marks : V → List ℕ)
     others = λ number other apart. q.others number other apart ∙ p.others number other apart;
   }
 
+  -- a bounded call stays bounded with one block more passed and counted, and one more asked for
   bounded_more : (passed from room : ℕ) (answer : Moved) → 0 < room → IsBounded passed from (room - 1) answer → IsBounded (1 + passed) from room (record { next = answer.next; used = answer.used + 1 })
   bounded_more passed from room answer some b = record { few = omega (arith, b.few); within = omega (arith, b.within, some); on = further answer.next b.on }
     where
@@ -463,6 +503,7 @@ module _ {V E : Type 0} (refs_of : V → List BlockRef) (marks : V → List ℕ)
       further None h = tt
       further (Some next) h = (h.0, omega (arith, h.1))
 
+  -- where a key's block and then a part of its value were passed a part of the element was
   pub element_passes : (mark : Option ℕ) (room : ℕ) (answer : Moved) → mark ≡ None → 0 < room → PassesName heap old mid db at → PassesElement refs_of marks encoding later mid new db at (Some 0) (room - 1) answer → Calmer heap later → PassesElement refs_of marks encoding later old new db at mark room (record { next = answer.next; used = answer.used + 1 })
   element_passes mark room answer none some p q calmer =
       subst (λ (o : Option ℕ). PassesElement refs_of marks encoding later old new db at o room (record { next = answer.next; used = answer.used + 1 })) (sym none) (record {

@@ -1,5 +1,5 @@
 -- A key moves with its value and its deadline.
-use Rattle.std.proofs.Common.{◌≡◌, inl, inr, ℕ, ◌+◌, ◌<◌, ◌^◌, List, [], ◌++◌, Option, Some, None, IsSome, is_some, refl, sym, ap, ◌∙◌, subst, arith}
+use Rattle.std.proofs.Common.{◌≡◌, inl, inr, ℕ, ◌+◌, ◌<◌, ◌^◌, List, [], ◌++◌, Option, Some, None, refl, sym, ap, ◌∙◌, subst, arith}
 use Rattle.std.proofs.lemmas.Bool.{cases_eq, eq-eqb, ne_eqb, cond-true, cond-false}
 use Rattle.std.specs.FinMap.{get, insert}
 use Rattle.std.specs.FinMap as map
@@ -7,7 +7,7 @@ use Rattle.blocks.specs.declared.BlockRef.{BlockRef}
 use Rattle.blocks.specs.Blocks.{Blocks, times, live, Changes}
 use Rattle.blocks.proofs.Times.{times-append}
 use Rattle.blocks.proofs.Refs.{ref_eq-refl}
-use Rattle.blocks.proofs.Change.{one, Changes-same, Changes-then, Changes-beside, Changes-owned}
+use Rattle.blocks.proofs.Change.{one, Changes-same, Changes-then, Changes-beside}
 use Rattle.rehash_dict.proofs.MapOf.{map_of-has}
 use Rattle.plain_world.specs.Worlds.{Value, Entry, World, Database, look, put, put_in, remove, selecting, deadline_of}
 use Rattle.expiry.specs.Timed.{Timed, moments}
@@ -21,11 +21,13 @@ use Rattle.held.proofs.Timing.{some_same, some_none}
 use Rattle.held.proofs.Bases.{owned_swaps, swapped_means, sound_joined}
 use Rattle.rehash_dict.specs.Keyed.{key_tables}
 use Rattle.held.specs.Scopes.{one_key, two_keys, no_key, Within}
-use Rattle.held.proofs.Tables.{some_bytes, get_removed}
+use Rattle.plain_world.proofs.Maps.{get_removed}
+use Rattle.plain_world.proofs.Lives.{put_twice}
+use Rattle.held.proofs.Tables.{some_bytes}
 use Rattle.held.specs.Written.{Written}
 use Rattle.held.proofs.Written.{written_named, two_settled}
 use Rattle.held.proofs.Within.{within_then, within_wider, within_swaps}
-use Rattle.held.proofs.Calls.{look_stands, deadline_seen, swapped_key, over_intact, put_twice}
+use Rattle.held.proofs.Calls.{look_stands, deadline_seen, swapped_key, over_intact}
 
 -- ---- worlds
 
@@ -92,24 +94,31 @@ module _ {V : Type 0} (refs_of : V → List BlockRef) (value_of : Blocks → V �
 
   module _ (old mid : Bases V) (db : ℕ) (m : Blocks) (intact : IsIntact refs_of old m []) (key : List ℕ) (at : ℕ) (stands : Stands m (table_at old db) at key) (deadline : Option ℕ) (lasts : get (moments m (deadlines_at old db)) key ≡ deadline)
       (c : ChangesTable old mid db) (was zero : V) (nothing : refs_of zero ≡ []) (s : Swaps (table_at old db) (table_at mid db) at was zero) (keyed : Keyed m (table_at mid db)) where
+    -- the element whose value is taken out has the first key
     out_key : m s.key ≡ Some key
     out_key = swapped_key refs_of value_of own old mid db m c at was zero s keyed intact.arranged key stands
 
+    -- where the value is taken out, the databases are intact with it out of them
     pub out_intact : IsIntact refs_of mid m (refs_of was)
     out_intact = over_intact refs_of value_of own old mid db m c at was zero s keyed intact.arranged [] (refs_of was) intact (λ r. omega (arith, ap (times r) nothing))
 
+    -- where the value is taken out, what stands in its place is put at the key with the key's deadline
     out_means : means value_of db mid m ≡ put (means value_of db old m) key (record { value = value_of m zero; deadline = deadline })
     out_means = swapped_means refs_of value_of own old mid db m intact.arranged at c keyed was zero s key out_key deadline lasts
 
+    -- at the first key stood the value that is taken out, with the key's deadline
     pub out_look : look (means value_of db old m) key ≡ Some (record { value = value_of m was; deadline = deadline })
     out_look = look_stands refs_of value_of own old db m intact.arranged key at (record { key = s.key; hash = s.hash; value = was }) s.found out_key deadline lasts
 
+    -- the databases owned the blocks of the value that is taken out besides what they own
     out_owned : (r : BlockRef) → times r (owned refs_of old) ≡ times r (owned refs_of mid) + times r (refs_of was)
     out_owned r = omega (arith, owned_swaps refs_of value_of own old mid db c.base r at was zero s, ap (times r) nothing)
 
+    -- where the value is taken out, sound databases are sound beside it and what was out already
     out_sound : (out : List BlockRef) → SoundBeside refs_of old m out → SoundBeside refs_of mid m (refs_of was ++ out)
     out_sound out sound = record { owns = λ r. omega (arith, sound.owns r, out_owned r, times-append r (refs_of was) out); arranged = out_intact.arranged }
 
+    -- that the value is taken out is within the scope of both keys
     pub out_within : key_tables m (table_at mid db) ≡ key_tables m (table_at old db) → (to_db : ℕ) (to : List ℕ) → Within refs_of (two_keys db key to_db to) old mid m m
     out_within tables to_db to = within_swaps refs_of (two_keys db key to_db to) old mid m db (inl refl) c at was zero s tables (inl (refl, some_bytes m s.key key out_key))
 
@@ -146,18 +155,18 @@ module _ {V : Type 0} (refs_of : V → List BlockRef) (value_of : Blocks → V �
     -- ---- it stands at the other key, and the first one leaves
 
     module _ (to_db : ℕ) (to : List ℕ) (new : Bases V) (after : Blocks) (p : Changes m after (owned refs_of mid ++ refs_of was) (owned refs_of new)) (a : IsArranged new after) where
-      pub moved_intact : IsIntact refs_of new after []
-      moved_intact = record { owned = λ r. omega (arith, Changes-owned m after (owned refs_of mid ++ refs_of was) (owned refs_of new) p r); arranged = a }
-
+      -- with the value at the other key sound databases are sound beside what was out
       pub moved_sound : (out : List BlockRef) → SoundBeside refs_of old m out → SoundBeside refs_of new after out
       moved_sound out sound = sound_joined refs_of value_of own mid new m after (refs_of was) p a (refs_of was ++ out) out (out_sound out sound) (λ r. times-append r (refs_of was) out)
 
+      -- with the value at the other key what is owned stands in place of what was owned
       pub moved_changes : Changes m after (owned refs_of old) (owned refs_of new)
       moved_changes =
           Changes-then m m after (owned refs_of old) (owned refs_of mid ++ refs_of was) (owned refs_of new)
           (Changes-beside m m [] [] (owned refs_of old) (owned refs_of mid ++ refs_of was) (Changes-same m [] (λ q. omega arith)) (λ r. omega (arith, intact.owned r)) (λ r. times r (owned refs_of old)) (λ r. omega arith)
           (λ r. omega (arith, out_owned r, times-append r (owned refs_of mid) (refs_of was)))) p
 
+      -- with the value at the other key and the first key gone, the key has moved in the world with its entry
       pub moved_means : means value_of to_db new after ≡ put (means value_of to_db mid m) to (record { value = value_of m was; deadline = deadline }) → (last : Bases V) (later : Blocks) → means value_of db last later ≡ without (means value_of db new after) key
           → ((db ≡ to_db) × (key ≡ to) → ⊥) → (entry : Entry) → look (means value_of db old m) key ≡ Some entry → means value_of db last later ≡ put_in (remove (means value_of db old m) key) to_db to entry
       moved_means put_there last later gone apart entry is =
@@ -170,57 +179,67 @@ module _ {V : Type 0} (refs_of : V → List BlockRef) (value_of : Blocks → V �
     -- ---- memory is refused, and it is put back
 
     module _ (to_db : ℕ) (new : Bases V) (after : Blocks) (same : after ≡ m) (keys : (number : ℕ) → table_at new number ≡ table_at mid number) (owns : (r : BlockRef) → times r (owned refs_of new) ≡ times r (owned refs_of mid)) (a : IsArranged new after) (kept : means value_of to_db new after ≡ means value_of to_db mid m) where
-      pub back_item : IsSome (item (table_at new db) at)
-      back_item = ap (λ (t : Table V). is_some (item t at)) (keys db) ∙ ap is_some s.updates.changed
-
+      -- where memory is refused, the databases mean what they meant when the value was taken out
       back_world : means value_of db new after ≡ means value_of db mid m
       back_world = ap (λ w. selecting w db) kept
 
+      -- where memory is refused, the first key has the deadline that it had
       back_lasts : get (moments after (deadlines_at new db)) key ≡ deadline
       back_lasts =
           deadline_seen refs_of value_of own new db after a key ∙ ap (λ w. deadline_of (look w key)) back_world
           ∙ sym (deadline_seen refs_of value_of own mid db m out_intact.arranged key) ∙ ap (λ (d : Timed). get (moments m d) key) c.deadlines ∙ lasts
 
       module _ (last : Bases V) (value : V) (returned : value ≡ was) (d : ChangesTable new last db) (vacant : V) (b : Swaps (table_at new db) (table_at last db) at vacant value) (last_keyed : Keyed after (table_at last db)) where
+        -- where memory is refused, the first key's element stands as it stood when the value was taken out
         back_found : item (table_at new db) at ≡ Some (record { key = s.key; hash = s.hash; value = zero })
         back_found = ap (λ (t : Table V). item t at) (keys db) ∙ s.updates.changed
 
+        -- where memory is refused, the first key stands at its item number
         back_stands : Stands after (table_at new db) at key
         back_stands = record { element = record { key = s.key; hash = s.hash; value = zero }; found = back_found; bytes = ap (λ x. x s.key) same ∙ out_key }
 
+        -- what stands in the place that the value goes back to owns no block
         back_zero : refs_of vacant ≡ []
         back_zero =
             let one : record { key = b.key; hash = b.hash; value = vacant } ≡ record { key = s.key; hash = s.hash; value = zero } = some_same (item (table_at new db) at) _ _ b.found back_found in
             ap (λ (x : Element V). refs_of x.value) one ∙ nothing
 
+        -- that the value is put back is within the scope of both keys
         pub back_within : key_tables after (table_at last db) ≡ key_tables after (table_at new db) → (to : List ℕ) → Within refs_of (two_keys db key to_db to) new last after after
         back_within tables to =
             within_swaps refs_of (two_keys db key to_db to) new last after db (inl refl) d at vacant value b tables
             (inl (refl, some_bytes after b.key key (swapped_key refs_of value_of own new last db after d at vacant value b last_keyed a key back_stands)))
 
+        -- the value that is put back means what it meant
         back_value : value_of after value ≡ value_of m was
         back_value = λ i. value_of (same i) (returned i)
 
+        -- where the value is put back, the databases mean the world that they meant at first
         pub refused_world : means value_of db last after ≡ means value_of db old m
         refused_world =
             swapped_means refs_of value_of own new last db after a at d last_keyed vacant value b key (swapped_key refs_of value_of own new last db after d at vacant value b last_keyed a key back_stands) deadline back_lasts
             ∙ (λ i. put (back_world i) key (record { value = back_value i; deadline = deadline }))
             ∙ ap (λ w. put w key (record { value = value_of m was; deadline = deadline })) out_means
-            ∙ put_twice refs_of value_of own (means value_of db old m) key _ _
+            ∙ put_twice (means value_of db old m) key _ _
             ∙ put_same (means value_of db old m) key _ out_look
 
+        -- where the value is put back, the databases own what they owned at first
         back_owned : (r : BlockRef) → times r (owned refs_of last) ≡ times r (owned refs_of old)
         back_owned r = (let returned_refs = ap (λ v. times r (refs_of v)) returned in omega (arith, owned_swaps refs_of value_of own new last db d.base r at vacant value b, ap (times r) back_zero, returned_refs, owns r, out_owned r))
 
+        -- until the value is put back the databases are intact with it out of them
         new_intact : IsIntact refs_of new after (refs_of value)
         new_intact = record { owned = λ r. (let returned_refs = ap (λ v. times r (refs_of v)) returned in let alive = ap (λ x. live x r) same in omega (arith, out_intact.owned r, owns r, returned_refs, alive)); arranged = a }
 
+        -- where the value is put back, the databases are arranged
         last_arranged : IsArranged last after
         last_arranged = (over_intact refs_of value_of own new last db after d at vacant value b last_keyed a (refs_of value) [] new_intact (λ r. omega (arith, ap (times r) back_zero))).arranged
 
+        -- where the value is put back, sound databases are sound beside what was out
         pub refused_sound : (out : List BlockRef) → SoundBeside refs_of old m out → SoundBeside refs_of last after out
         refused_sound out sound = record { owns = λ r. (let alive = ap (λ x. live x r) same in omega (arith, sound.owns r, back_owned r, alive)); arranged = last_arranged }
 
+        -- where the value is put back, what is owned stands in place of what was owned
         pub refused_same : Changes m after (owned refs_of old) (owned refs_of last)
         refused_same = subst (λ x. Changes m x (owned refs_of old) (owned refs_of last)) (sym same)
             (Changes-beside m m [] [] (owned refs_of old) (owned refs_of last) (Changes-same m [] (λ q. omega arith)) (λ r. omega (arith, intact.owned r)) (λ r. times r (owned refs_of old)) (λ r. omega arith) (λ r. omega (arith, back_owned r)))

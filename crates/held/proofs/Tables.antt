@@ -1,14 +1,12 @@
 -- What the elements of a key table keep, name and mean.
-use Rattle.std.proofs.Common.{◌≡◌, ℕ, zero, suc, ◌≤◌, Bool, true, false, cond, List, [], ◌∷◌, flat_map, get_or, set, length, ◌<◌, Option, Some, None, unwrap_or, refl, sym, ap, ◌∙◌, subst, arith}
+use Rattle.std.proofs.Common.{◌≡◌, ℕ, zero, suc, ◌≤◌, List, [], ◌∷◌, flat_map, get_or, set, length, ◌<◌, Option, Some, unwrap_or, refl, sym, ap, ◌∙◌, subst, arith}
 use Rattle.std.proofs.lemmas.Bool.{cond-true}
 use Rattle.std.proofs.lemmas.List.{get_or-set_same, get_or-set_other, get_or_default, length-set}
-use Rattle.std.specs.Ordering.{nat_cmp, eq_by_cmp}
-use Rattle.std.specs.Cmp.{eq_by_cmp_equiv}
-use Rattle.std.specs.Cmp.Lexicographic.{slice_cmp, nat_list_cmp_total}
-use Rattle.std.specs.FinMap.{FinMap, get, insert, get-insert, same_map, slice_cmp-IsAntisymmetric, nat_cmp-IsAntisymmetric, remove, get-remove}
 use Rattle.blocks.specs.declared.BlockRef.{BlockRef}
-use Rattle.blocks.specs.Blocks.{Blocks, bytes_at, times}
+use Rattle.blocks.specs.Blocks.{Blocks, ref_eq, bytes_at, times}
 use Rattle.blocks.proofs.Times.{times-append}
+use Rattle.blocks.proofs.Refs.{ref_eq-refl}
+use Rattle.blocks.proofs.Change.{one_if}
 use Rattle.rehash_dict.specs.Placed.{no_table}
 use Rattle.rehash_dict.specs.Table.{at_item}
 pub use Rattle.rehash_dict.proofs.MapOf.{map_of-empty}
@@ -16,28 +14,11 @@ use Rattle.held.specs.Table.{Table, Element, item, no_keys, Keyed, own_of, refs}
 use Rattle.held.specs.declared.databases.Base.{Base}
 use Rattle.held.specs.Databases.{Bases, base_at, no_base, SameSettings, ChangesBase}
 
--- ---- finite maps by keys of bytes
+-- ---- elements
 
-module _ {X : Type 0} where
-  pub maps_alike : (m n : FinMap (slice_cmp nat_cmp) X) → ((q : List ℕ) → get m q ≡ get n q) → m ≡ n
-  maps_alike = same_map nat_list_cmp_total (slice_cmp-IsAntisymmetric nat_cmp-IsAntisymmetric)
-
-  pub get_inserted : (m : FinMap (slice_cmp nat_cmp) X) (k : List ℕ) (x : X) → get (insert m k x) k ≡ Some x
-  get_inserted m k x = get-insert nat_list_cmp_total m k x k ∙ cond-true _ _ _ ((eq_by_cmp_equiv nat_list_cmp_total).refl k)
-
-  pub get_removed : (m : FinMap (slice_cmp nat_cmp) X) (k : List ℕ) → get (remove m k) k ≡ None
-  get_removed m k = get-remove nat_list_cmp_total m k k ∙ cond-true _ _ _ ((eq_by_cmp_equiv nat_list_cmp_total).refl k)
-
-  -- what is written over twice
-  pub insert_over : (m : FinMap (slice_cmp nat_cmp) X) (q : List ℕ) (a b : X) → insert (insert m q a) q b ≡ insert m q b
-  insert_over m q a b =
-      maps_alike _ _ (λ k.
-      get-insert nat_list_cmp_total (insert m q a) q b k ∙ ap (λ o. cond (eq_by_cmp (slice_cmp nat_cmp) k q) (Some b) o) (get-insert nat_list_cmp_total m q a k)
-      ∙ shadowed (eq_by_cmp (slice_cmp nat_cmp) k q) (Some b) (Some a) (get m k) ∙ sym (get-insert nat_list_cmp_total m q b k))
-    where
-      shadowed : (t : Bool) (x y z : Option X) → cond t x (cond t y z) ≡ cond t x z
-      shadowed true x y z = refl
-      shadowed false x y z = refl
+-- a reference is itself once
+pub key_itself : (r : BlockRef) → one_if (ref_eq r r) ≡ 1
+key_itself r = cond-true _ _ _ (ref_eq-refl r)
 
 pub some_bytes : (blocks : Blocks) (r : BlockRef) (key : List ℕ) → blocks r ≡ Some key → bytes_at blocks r ≡ key
 some_bytes blocks r key h = ap (λ o. unwrap_or o []) h

@@ -1,15 +1,11 @@
 -- What the deadlines keep where they change, or the keys.
 use Rattle.std.proofs.Common.{◌≡◌, ◌≢◌, ◌⊎◌, inl, inr, ℕ, ◌<◌, ◌^◌, List, Option, Some, None, IsSome, refl, sym, ap, ◌∙◌, subst}
 use Rattle.std.proofs.lemmas.Bool.{cases_eq}
-use Rattle.std.specs.FinMap.{get, empty, empty_of_len, get-empty}
-use Rattle.std.specs.Ordering.{nat_cmp}
-use Rattle.std.specs.Cmp.Lexicographic.{slice_cmp}
+use Rattle.std.specs.FinMap.{get}
 use Rattle.blocks.specs.declared.BlockRef.{BlockRef}
 use Rattle.blocks.specs.Blocks.{Blocks, bytes_at}
-use Rattle.rehash_dict.specs.Table.{table_len}
-use Rattle.rehash_dict.specs.MapOf.{content}
 use Rattle.rehash_dict.proofs.Keys.{Keyed-frame}
-use Rattle.rehash_dict.proofs.MapOf.{map_of-stands, map_of-lacks, map_of-frame, len-map_of}
+use Rattle.rehash_dict.proofs.MapOf.{map_of-lacks, map_of-frame}
 use Rattle.expiry.specs.Timed.{Timed, moments, no_deadline}
 use Rattle.expiry.specs.Changes.{Sets, Clears}
 use Rattle.expiry.specs.Changes.Sets.{changes, joins}
@@ -22,14 +18,6 @@ some_same o x y h k = cc
 
 pub some_none : {A : Type 0} {X : Type 0} (o : Option A) (x : A) → o ≡ Some x → o ≡ None → X
 some_none o x h k = cc
-
--- a table of no element lacks each key
-pub empty_lacks : {V : Type 0} (m : Blocks) (t : Table V) (key : List ℕ) → Keyed m t → table_len t ≡ 0 → Lacks m t key
-empty_lacks m t key k none = record {
-  each = λ at e found bytes.
-      (let nothing : content m t ≡ empty = empty_of_len (content m t) (len-map_of m (λ v. v) t k ∙ none) in
-      some_none (get (content m t) key) e.value (map_of-stands m (λ v. v) t at e key k found bytes) (ap (λ c. get c key) nothing ∙ get-empty (slice_cmp nat_cmp) key));
-}
 
 -- no deadline stands at a key that none has
 pub moments_lack : (m : Blocks) (d : Timed) (key : List ℕ) → Keyed m d.table → Lacks m d.table key → get (moments m d) key ≡ None

@@ -48,6 +48,7 @@ cursor_stays refs_of old new m after db w = elim (w.grew db) [ inl grows ↦ gro
 module _ {V : Type 0} (refs_of : V → List BlockRef) (value_of : Blocks → V → Value) (own : ReadsOwn refs_of value_of) where
   -- ---- the keys that were found leave
 
+  -- of the keys that were found none is dropped at first
   pub drop_begins : (found : List BlockRef) (old : Bases V) (m : Blocks) (db moment : ℕ) → IsIntact refs_of old m [] → IsDropped refs_of value_of found old old m m db moment 0
   drop_begins found old m db moment intact = record {
     thins = thins_none refs_of value_of own old m db moment;
@@ -58,6 +59,7 @@ module _ {V : Type 0} (refs_of : V → List BlockRef) (value_of : Blocks → V �
   }
 
   module _ (found : List BlockRef) (old now : Bases V) (m mid : Blocks) (db moment n : ℕ) (name : BlockRef) (gone : AreGone (deadlines_at old db).table moment found) (once : (r : BlockRef) → times r found ≤ 1) (at_n : slice_get found n ≡ Some name) (d : IsDropped refs_of value_of found old now m mid db moment n) where
+    -- the next key that was found is gone at the moment
     is_gone : IsGone (deadlines_at old db).table moment name
     is_gone = gone n name at_n
 
@@ -70,12 +72,15 @@ module _ {V : Type 0} (refs_of : V → List BlockRef) (value_of : Blocks → V �
       late = is_gone.past;
     }
 
+    -- the block that was found next names a key that still stands in its table
     pub next_named : Names (table_at now db) name
     next_named = passed_named refs_of value_of own now now mid mid db moment is_gone.at name d.arranged passed
 
+    -- where some of the keys that were found were dropped, the databases are intact
     pub drop_intact : IsIntact refs_of old m [] → IsIntact refs_of now mid []
     drop_intact intact = intact_after refs_of value_of own old now m mid d.changes d.arranged
 
+    -- where the next key that was found leaves with its deadline, one key more was dropped
     pub drop_next : (next : Bases V) (after : Blocks) → means value_of db next after ≡ without (means value_of db now mid) (bytes_at mid name) → Loses mid (deadlines_at now db) (deadlines_at next db) (bytes_at mid name)
         → Thinned refs_of (name ∷ []) now next mid after db → Within refs_of (no_key db) now next mid after → IsArranged next after → Changes mid after (owned refs_of now) (owned refs_of next)
         → IsDropped refs_of value_of found old next m after db moment (n + 1)
@@ -87,12 +92,14 @@ module _ {V : Type 0} (refs_of : V → List BlockRef) (value_of : Blocks → V �
       changes = Changes-then m mid after (owned refs_of old) (owned refs_of now) (owned refs_of next) d.changes p;
     }
 
+  -- where all keys that were found were dropped exactly these have left the database
   pub drop_ends : (found : List BlockRef) (old now : Bases V) (m after : Blocks) (db moment n : ℕ) → n ≡ length found → IsDropped refs_of value_of found old now m after db moment n → Thinned refs_of found old now m after db
   drop_ends found old now m after db moment n all d = subst (λ l. Thinned refs_of l old now m after db) (ap (λ k. take k found) all ∙ take-length found) d.thinned
 
   -- ---- one step
 
   module _ (old mid cycled : Bases V) (m : Blocks) (db moment : ℕ) (a : IsArranged old m) (here : db ≡ old.turn) (c : ChangesDeadlines old cycled db) (same : (deadlines_at cycled db).table ≡ (deadlines_at old db).table) (passes : mid ≡ record cycled { turn = (cycled.turn + 1) % 16 }) where
+    -- where a cycle leaves the table of deadlines, each deadline is still that of a key
     cycled_timed : IsTimed m (table_at old db) (deadlines_at cycled db)
     cycled_timed = record {
       keyed = subst (Keyed m) (sym same) (a.timed db).keyed;
@@ -100,9 +107,11 @@ module _ {V : Type 0} (refs_of : V → List BlockRef) (value_of : Blocks → V �
       latest = λ at e found. (a.timed db).latest at e (ap (λ (t : Table ℕ). item t at) (sym same) ∙ found);
     }
 
+    -- where a cycle leaves the table of deadlines, the databases stay arranged
     cycled_arranged : IsArranged cycled m
     cycled_arranged = arranged_changed refs_of value_of own old cycled db m c.base a (order_times m old cycled db a c cycled_timed (ap (λ (t : Table ℕ). t.seed) same))
 
+    -- with the turn passed to the next database the databases are arranged
     pub passed_arranged : IsArranged mid m
     passed_arranged = subst (λ (b : Bases V). IsArranged b m) (sym passes) (record {
       keyed = cycled_arranged.keyed;
@@ -113,27 +122,33 @@ module _ {V : Type 0} (refs_of : V → List BlockRef) (value_of : Blocks → V �
       turn = omega arith;
     })
 
+    -- with the turn passed on the databases own what they owned
     passed_times : (r : BlockRef) → times r (owned refs_of mid) ≡ times r (owned refs_of old)
     passed_times r = ap (λ (b : Bases V). times r (owned refs_of b)) passes ∙ owned_times refs_of value_of own old cycled db c r
 
+    -- with the turn passed on intact databases stay intact
     pub passed_intact : IsIntact refs_of old m [] → IsIntact refs_of mid m []
     passed_intact intact = record { owned = λ r. omega (arith, intact.owned r, passed_times r); arranged = passed_arranged }
 
+    -- with the turn passed on each database but the cycled one is as it was
     mid_others : (number : ℕ) → number ≢ db → base_at mid number ≡ base_at old number
     mid_others number other = ap (λ (b : Bases V). base_at b number) passes ∙ c.base.others number other
 
+    -- a cycle and the passing of the turn leave each key table
     mid_keys : (number : ℕ) → table_at mid number ≡ table_at old number
     mid_keys number = elim (cases_eq number db) [
       | inl at_db ↦ ap (table_at mid) at_db ∙ ap (λ (b : Bases V). table_at b db) passes ∙ c.keys ∙ ap (table_at old) (sym at_db)
       | inr other ↦ ap (λ (b : Base V). b.keys) (mid_others number other)
     ]
 
+    -- a cycle and the passing of the turn leave each table of deadlines
     mid_table : (number : ℕ) → (deadlines_at mid number).table ≡ (deadlines_at old number).table
     mid_table number = elim (cases_eq number db) [
       | inl at_db ↦ ap (λ n. (deadlines_at mid n).table) at_db ∙ ap (λ (b : Bases V). (deadlines_at b db).table) passes ∙ same ∙ ap (λ n. (deadlines_at old n).table) (sym at_db)
       | inr other ↦ ap (λ (b : Base V). b.deadlines.table) (mid_others number other)
     ]
 
+    -- a cycle and the passing of the turn leave what each database means
     mid_means : (number : ℕ) → base_means value_of m (base_at mid number) ≡ base_means value_of m (base_at old number)
     mid_means number = elim (cases_eq number db) [
       | inl at_db ↦ subst (λ n. base_means value_of m (base_at mid n) ≡ base_means value_of m (base_at old n)) (sym at_db) alike
@@ -144,6 +159,7 @@ module _ {V : Type 0} (refs_of : V → List BlockRef) (value_of : Blocks → V �
         alike = λ i. with_deadlines (map_of m (value_of m) (mid_keys db i)) (map_of m (λ v. v) (mid_table db i))
 
     module _ (new : Bases V) (after : Blocks) (found : List BlockRef) (t : Thinned refs_of found mid new m after db) where
+      -- the keys that leave after the turn was passed on are those that left since before the cycle
       old_thinned : Thinned refs_of found old new m after db
       old_thinned = record {
         others = λ number other. t.others number other ∙ mid_others number other;
@@ -154,6 +170,7 @@ module _ {V : Type 0} (refs_of : V → List BlockRef) (value_of : Blocks → V �
         stayed = λ number at e left. (let s = t.stayed number at e left in record { stood = ap (λ (k : Table V). item k at) (sym (mid_keys number)) ∙ s.stood; bytes = s.bytes });
       }
 
+      -- where the keys that a cycle finds leave, the databases made one expiry step
       pub step_expires : found ≡ found_in (deadlines_at old db) moment → (deadlines_at cycled db).cursor ≡ cursor_behind (deadlines_at old db) moment → KeepsCursor (deadlines_at mid db) (deadlines_at new db) → SameSettings mid new → Expires refs_of moment old new m after
       step_expires finds moved stays settings = record {
         thinned = subst (λ d. Thinned refs_of (found_in (deadlines_at old d) moment) old new m after d) here (subst (λ l. Thinned refs_of l old new m after db) finds old_thinned);
@@ -163,11 +180,13 @@ module _ {V : Type 0} (refs_of : V → List BlockRef) (value_of : Blocks → V �
         seed = settings.seed ∙ ap (λ (b : Bases V). b.seed) passes ∙ c.base.settings.seed;
       }
 
+      -- a change of the store from what is owned after the cycle is one from what was owned before it
       pub step_changes : IsIntact refs_of old m [] → Changes m after (owned refs_of mid) (owned refs_of new) → Changes m after (owned refs_of old) (owned refs_of new)
       step_changes intact p =
           Changes-then m m after (owned refs_of old) (owned refs_of mid) (owned refs_of new)
           (subst (λ (b : Bases V). Changes m m (owned refs_of old) (owned refs_of b)) (sym passes) (cleared_changes refs_of value_of own old cycled cycled db m intact c refl)) p
 
+      -- an expiry step leaves all that lives at its moment, whichever database is selected
       pub step_lives : (n : ℕ) → Thins value_of mid new m after db moment n → (number : ℕ) → live (means value_of number new after) moment ≡ live (means value_of number old m) moment
       step_lives n thins number = λ i. record { bases = λ other. each other i; selected = number }
         where
@@ -179,6 +198,7 @@ module _ {V : Type 0} (refs_of : V → List BlockRef) (value_of : Blocks → V �
 
   -- ---- several steps
 
+  -- where no step was made all is kept
   pub outlives_none : (old : Bases V) (m : Blocks) (moment : ℕ) → IsIntact refs_of old m [] → Outlives refs_of value_of old old m m moment
   outlives_none old m moment intact = record {
     lives = λ number. refl;
@@ -189,6 +209,7 @@ module _ {V : Type 0} (refs_of : V → List BlockRef) (value_of : Blocks → V �
     seed = refl;
   }
 
+  -- what several steps keep is kept with one more that leaves what lives at the moment
   pub outlives_next : (a b c : Bases V) (m mid after : Blocks) (moment : ℕ) → Outlives refs_of value_of a b m mid moment → Expires refs_of moment b c mid after
       → ((number : ℕ) → live (means value_of number c after) moment ≡ live (means value_of number b mid) moment) → IsArranged c after → Changes mid after (owned refs_of b) (owned refs_of c) → Outlives refs_of value_of a c m after moment
   outlives_next a b c m mid after moment o e lives arranged changes = record {

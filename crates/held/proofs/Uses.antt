@@ -1,13 +1,11 @@
 -- For whoever calls a keyspace: what a command function needs to say that the keyspace is sound after it, and which
 -- world it leaves. Each lemma takes the clauses of the calls as they stand.
-use Rattle.std.proofs.Common.{Some, ◌≡◌, ℕ, ◌+◌, ◌≤◌, List, [], ◌++◌, Option, sym, ap, ◌∙◌, subst, arith}
+use Rattle.std.proofs.Common.{◌≡◌, ℕ, ◌+◌, ◌≤◌, List, [], ◌++◌, Option, sym, ap, ◌∙◌, subst, arith}
 use Rattle.blocks.specs.declared.BlockRef.{BlockRef}
 use Rattle.blocks.specs.Blocks.{Blocks, times, Changes}
 use Rattle.blocks.proofs.Times.{times-append}
-use Rattle.std.proofs.lemmas.Bool.{cond-true}
-use Rattle.blocks.proofs.Refs.{ref_eq-refl}
-use Rattle.blocks.proofs.Change.{one, Counts-changed}
-use Rattle.plain_world.specs.Worlds.{Value, Entry, World, look, put, stand}
+use Rattle.blocks.proofs.Change.{Counts-changed}
+use Rattle.plain_world.specs.Worlds.{Value, Entry, put, stand}
 use Rattle.plain_world.specs.Worlds as model
 use Rattle.held.specs.declared.keyspace.Lifted.{Lifted}
 use Rattle.held.specs.Databases.{ReadsOwn, Bases, means}
@@ -18,20 +16,10 @@ use Rattle.held.proofs.Within.{within_then, within_store}
 use Rattle.std.specs.FinMap.{get}
 use Rattle.plain_world.proofs.Lives.{live_put, live_put_in_time, was_in_time}
 use Rattle.held.proofs.Bases.{arranged_out, means_out, kept_inside, kept_timed, sound_intact}
-use Rattle.held.proofs.Calls.{item_owned, put_twice, look_put}
+use Rattle.held.proofs.Tables.{key_itself}
+use Rattle.held.proofs.Calls.{item_owned}
 
 module _ {V : Type 0} (refs_of : V → List BlockRef) (value_of : Blocks → V → Value) (own : ReadsOwn refs_of value_of) where
-  -- what each call asks follows from soundness
-  pub Sound-intact : (bases : Bases V) (m : Blocks) (out : List BlockRef) → SoundBeside refs_of bases m out → IsIntact refs_of bases m out
-  Sound-intact = sound_intact refs_of value_of own
-
-  -- what was put at a key stands there, and what is put there next takes its place
-  pub Look-put : (w : World) (key : List ℕ) (a : Entry) → look (put w key a) key ≡ Some a
-  Look-put = look_put refs_of value_of own
-
-  pub Put-twice : (w : World) (key : List ℕ) (a b : Entry) → put (put w key a) key b ≡ put w key b
-  Put-twice = put_twice refs_of value_of own
-
   -- ---- what is out of the databases changes: a value is made, changed or released
 
   module _ (bases : Bases V) (m after : Blocks) (out later xs ys : List BlockRef) (sound : SoundBeside refs_of bases m out) (p : Changes m after xs ys) (part : (r : BlockRef) → times r xs ≤ times r out) where
@@ -104,9 +92,6 @@ module _ {V : Type 0} (refs_of : V → List BlockRef) (value_of : Blocks → V �
               (omega (arith, key_itself lifts.place.element.key, item_owned refs_of value_of own mid db lifted.item lifts.place.element lifts.place.element.key lifts.place.found)) ∙ lifts.place.bytes;
           lasts = ap (λ t. get t key) (kept_timed refs_of value_of own mid m after (refs_of lifted.value ++ out) (refs_of lifted.value) (refs_of changed.value) (sound_intact refs_of value_of own mid m (refs_of lifted.value ++ out) sound) p part db).1 ∙ lifts.place.lasts;
         }))
-      where
-        key_itself : (r : BlockRef) → one r r ≡ 1
-        key_itself r = cond-true _ _ _ (ref_eq-refl r)
 
     module _ (new : Bases V) where
       -- from the clause `sound` of `lower`

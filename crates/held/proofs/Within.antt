@@ -17,14 +17,16 @@ use Rattle.held.specs.Table.{Table, Element, item, Swaps, Removes, TableGrows}
 use Rattle.held.specs.Databases.{ReadsOwn, Bases, no_base, base_at, table_at, deadlines_at, ChangesBase, ChangesTable, ChangesDeadlines}
 use Rattle.held.specs.Sound.{IsArranged, IsIntact}
 use Rattle.held.specs.Calls.{Joins}
-use Rattle.held.specs.Scopes.{Scope, untouched, keys_of, no_key, BaseGrows, AreGrown, Grew, Stayed, Within}
+use Rattle.held.specs.Scopes.{Scope, keys_of, no_key, BaseGrows, AreGrown, Grew, Stayed, Within}
 use Rattle.held.proofs.Tables.{named_in}
 use Rattle.held.proofs.Bases.{table_owned, kept_inside}
 
 module _ {V : Type 0} where
+  -- a database comes from itself by no step
   grows_none : (seed : ℕ) (base : Base V) (m : Blocks) → BaseGrows seed base base m m
   grows_none seed base m = record { keys = no_step; deadlines = no_step; cursor = refl }
 
+  -- where a database comes from a second one and this from a first, it comes from the first
   grows_then : (seed : ℕ) (a b c : Base V) (m mid after : Blocks) → BaseGrows seed a b m mid → BaseGrows seed b c mid after → BaseGrows seed a c m after
   grows_then seed a b c m mid after p q = record {
     keys = Served-then _ _ _ p.keys q.keys;
@@ -36,6 +38,7 @@ module _ {V : Type 0} where
   grows_anew : (seed : ℕ) (b : Base V) (m mid after : Blocks) → BaseGrows seed (no_base seed) b mid after → BaseGrows seed (no_base seed) b m after
   grows_anew seed b m mid after p = record { keys = p.keys; deadlines = p.deadlines; cursor = p.cursor }
 
+  -- a database that comes from another in two steps comes from it, also where either step emptied it
   grew_then : (emptied : Type 0) (seed : ℕ) (a b c : Base V) (m mid after : Blocks) → Grew emptied seed a b m mid → Grew emptied seed b c mid after → Grew emptied seed a c m after
   grew_then emptied seed a b c m mid after p q = elim q [
     | inr anew ↦ inr (anew.0, grows_anew seed c m mid after anew.1)
@@ -62,6 +65,7 @@ module _ {V : Type 0} (refs_of : V → List BlockRef) where
     seed = refl;
   }
 
+  -- databases and a store that stay as they were are within any scope
   pub within_same : (scope : Scope) (old new : Bases V) (m after : Blocks) → new ≡ old → after ≡ m → Within refs_of scope old new m after
   within_same scope old new m after same stays = subst (λ (b : Bases V). Within refs_of scope old b m after) (sym same) (subst (Within refs_of scope old old m) (sym stays) (within_none scope old m))
 
@@ -93,10 +97,6 @@ module _ {V : Type 0} (refs_of : V → List BlockRef) where
   pub within_grown : (scope : Scope) (old new : Bases V) (m after : Blocks) → Within refs_of scope old new m after → AreGrown old m → AreGrown new after
   within_grown scope old new m after p grown = λ db. grown_on old new m after db grown p.seed (p.grew db)
 
-  -- what writes nothing is within any scope
-  pub within_any : (scope : Scope) (old new : Bases V) (m after : Blocks) → Within refs_of untouched old new m after → Within refs_of scope old new m after
-  within_any scope old new m after p = within_wider untouched scope (λ db no. absurd no) (λ db key no. absurd no) (λ db no. absurd no) old new m after p
-
   -- what writes no key of a database is within any keys of it
   pub within_keys : (db : ℕ) (named : List ℕ → Type 0) (old new : Bases V) (m after : Blocks) → Within refs_of (no_key db) old new m after → Within refs_of (keys_of db named) old new m after
   within_keys db named old new m after p = within_wider (no_key db) (keys_of db named) (λ number here. here) (λ number key none. absurd none.1) (λ number no. absurd no) old new m after p
@@ -104,12 +104,14 @@ module _ {V : Type 0} (refs_of : V → List BlockRef) where
   -- ---- one database changes over the same store
 
   module _ (scope : Scope) (old new : Bases V) (m : Blocks) (db : ℕ) (touched : scope.touches db) where
+    -- where one database comes from its old tables and no other changes, each comes from its old tables
     here_or_same : ChangesBase old new db → BaseGrows old.seed (base_at old db) (base_at new db) m m → (number : ℕ) → Grew (scope.empties number) old.seed (base_at old number) (base_at new number) m m
     here_or_same c grows number = elim (cases_eq number db) [
       | inl here ↦ inl (subst (λ n. BaseGrows old.seed (base_at old n) (base_at new n) m m) (sym here) grows)
       | inr other ↦ inl (subst (λ (b : Base V). BaseGrows old.seed (base_at old number) b m m) (sym (c.others number other)) (grows_none old.seed (base_at old number) m))
     ]
 
+    -- where only a touched database changes, each one that isn't touched stays
     same_apart : ChangesBase old new db → (number : ℕ) → (scope.touches number → ⊥) → base_at new number ≡ base_at old number
     same_apart c number apart = elim (cases_eq number db) [
       | inl here ↦ absurd (apart (subst scope.touches (sym here) touched))
@@ -120,6 +122,7 @@ module _ {V : Type 0} (refs_of : V → List BlockRef) where
     abbrev pub FromOld : Type 0
     FromOld = (at : ℕ) (e : Element V) → item (table_at new db) at ≡ Some e → (scope.writes db (bytes_at m e.key) → ⊥) → item (table_at old db) at ≡ Some e
 
+    -- where the one database that changes has no new element but written ones, each unwritten element stayed
     from_here : ChangesBase old new db → FromOld → (number at : ℕ) (e : Element V) → item (table_at new number) at ≡ Some e → (scope.writes number (bytes_at m e.key) → ⊥) → Stayed refs_of old m m number at e
     from_here c from number at e found apart = record {
       stood = elim (cases_eq number db) [
@@ -160,6 +163,7 @@ module _ {V : Type 0} (refs_of : V → List BlockRef) where
     }
 
     module _ (a : IsArranged old m) (within : db < 16) where
+      -- a key table that comes from the old one, with no new element but written ones, is within the scope
       pub within_table : ChangesTable old new db → Grown (hash_of (table_at old db).seed) (key_tables m (table_at old db)) (key_tables m (table_at new db)) → FromOld → Within refs_of scope old new m m
       within_table c grown from = record {
         same = same_apart c.base;
@@ -172,6 +176,7 @@ module _ {V : Type 0} (refs_of : V → List BlockRef) where
         seed = c.base.settings.seed;
       }
 
+      -- deadlines that come from the old ones and keep the cursor are within a scope that touches the database
       pub within_times : ChangesDeadlines old new db → Grown (hash_of (deadlines_at old db).table.seed) (key_tables m (deadlines_at old db).table) (key_tables m (deadlines_at new db).table) → KeepsCursor (deadlines_at old db) (deadlines_at new db) → Within refs_of scope old new m m
       within_times c grown cursor = record {
         same = same_apart c.base;
@@ -216,6 +221,7 @@ module _ {V : Type 0} (refs_of : V → List BlockRef) where
 -- ---- the store changes outside the databases
 
 module _ {V : Type 0} (refs_of : V → List BlockRef) (value_of : Blocks → V → Value) (own : ReadsOwn refs_of value_of) where
+  -- a store that changes only blocks that were out leaves the databases within any scope
   pub within_store : (scope : Scope) (bases : Bases V) (m after : Blocks) (out xs ys : List BlockRef) → IsIntact refs_of bases m out → Changes m after xs ys → ((r : BlockRef) → times r xs ≤ times r out) → Within refs_of scope bases bases m after
   within_store scope bases m after out xs ys intact p part = record {
     same = λ db apart. refl;

@@ -46,22 +46,7 @@ impl<V: Held, B: BlockStore> Keyspace<V, B> {
         false
     }
 
-    // Looks at the tables, and makes one step of a rehash. `false` comes exactly where no table is in one.
-    fn step_any(&mut self) -> bool
-        requires arranged { IsArranged self.old.bases (B.blocks self.old.store) }
-        ensures steps { result ≡ true → Rehashes (B.blocks self.old.store) self.old.bases self.new.bases }
-        ensures still { result ≡ false → AreStill self.old.bases }
-        ensures same { result ≡ false → self.new.bases ≡ self.old.bases }
-        ensures kept { Preserves V.refs_of V.value_of (B.blocks self.old.store) self.old.bases self.new.bases }
-        ensures store { self.new.store ≡ self.old.store }
-    {
-        if self.step_keys() {
-            return true;
-        }
-        self.step_deadlines()
-    }
-
-    // The same, but looks at no table where none may be in a rehash.
+    // Makes one step of a rehash, and looks at no table where none may be in one. `false` comes exactly where no table is in one.
     fn step(&mut self) -> bool
         requires arranged { IsArranged self.old.bases (B.blocks self.old.store) }
         ensures steps { result ≡ true → Rehashes (B.blocks self.old.store) self.old.bases self.new.bases }
@@ -73,7 +58,10 @@ impl<V: Held, B: BlockStore> Keyspace<V, B> {
         if !self.bases.stirs() {
             return false;
         }
-        if self.step_any() {
+        if self.step_keys() {
+            return true;
+        }
+        if self.step_deadlines() {
             return true;
         }
         self.bases.rest();

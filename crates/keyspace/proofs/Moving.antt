@@ -9,9 +9,7 @@ use Rattle.std.proofs.lemmas.List.{length-map}
 use Rattle.std.proofs.lemmas.List.Sums.{count_by-le-length}
 use Rattle.blocks.specs.declared.BlockRef.{BlockRef}
 use Rattle.blocks.specs.declared.Moved.{Moved}
-use Rattle.blocks.specs.Blocks.{Blocks, Changes, Owned}
-use Rattle.blocks.proofs.Change.{Changes-same}
-use Rattle.blocks.proofs.Sweeps.{Calmer-same}
+use Rattle.blocks.specs.Blocks.{Blocks, Changes}
 use Rattle.blocks.specs.Slabs.{Heap, wants, Calmer}
 use Rattle.blocks.proofs.Sums.{count_cons}
 use Rattle.plain_world.specs.Worlds.{Str}
@@ -19,7 +17,6 @@ use Rattle.string_object.specs.declared.text.Text as string
 use Rattle.string_object.specs.declared.text.Text.TheVariants.{Number, Whole, Raw}
 use Rattle.string_object.specs.Text.{text_bytes, text_refs, is_raw}
 use Rattle.held.specs.Relocation.{is_before, is_passed, PassesPart}
-use Rattle.keyspace.specs.declared.value.Value.{Value}
 use Rattle.keyspace.specs.declared.value.Value.TheVariants.{Text}
 use Rattle.keyspace.specs.Values.{value_of, value_refs, value_marks, OfText, encoding_of}
 

@@ -24,8 +24,8 @@ same_held blocks step scope keyspace sound = record { sound = sound; served = Se
 
 -- nothing is changed
 pub unchanged : {S E : Type 0} (blocks : S → Blocks) (step : S → S → Type 0) (scope : Scope) (keyspace : Keyspace S) (result : Result (List Part) E) → Sound keyspace.bases (blocks keyspace.store) → Kept blocks step scope keyspace keyspace result
-unchanged blocks step scope keyspace (Ok reply) sound = record { refusals = λ refused. refl; sound = sound; served = Served.no_step; settings = same_settings keyspace.bases; within = unmoved scope keyspace.bases (blocks keyspace.store) }
-unchanged blocks step scope keyspace (Err e) sound = record { refusals = tt; sound = sound; served = Served.no_step; settings = same_settings keyspace.bases; within = unmoved scope keyspace.bases (blocks keyspace.store) }
+unchanged blocks step scope keyspace (Ok reply) sound = record { refusals = λ refused. refl; held = same_held blocks step scope keyspace sound }
+unchanged blocks step scope keyspace (Err e) sound = record { refusals = tt; held = same_held blocks step scope keyspace sound }
 
 -- one part after another
 pub held_then : {S : Type 0} (blocks : S → Blocks) (step : S → S → Type 0) (scope : Scope) (a b c : Keyspace S) → Held blocks step scope a b → Held blocks step scope b c → Held blocks step scope a c
@@ -38,8 +38,8 @@ held_then blocks step scope a b c p q = record {
 
 -- no refusal: what the parts hold is kept
 pub calm : {S E : Type 0} (blocks : S → Blocks) (step : S → S → Type 0) (scope : Scope) (old new : Keyspace S) (result : Result (List Part) E) → IfOk result (λ reply. IsRefusal reply → ⊥) → Held blocks step scope old new → Kept blocks step scope old new result
-calm blocks step scope old new (Ok reply) f held = record { refusals = λ refused. absurd (f refused); sound = held.sound; served = held.served; settings = held.settings; within = held.within }
-calm blocks step scope old new (Err e) f held = record { refusals = tt; sound = held.sound; served = held.served; settings = held.settings; within = held.within }
+calm blocks step scope old new (Ok reply) f held = record { refusals = λ refused. absurd (f refused); held = held }
+calm blocks step scope old new (Err e) f held = record { refusals = tt; held = held }
 
 -- what shows nothing
 pub nothing_shown : {E : Type 0} (result : Result (List Part) E) → IfOk result (λ reply. Unit {0})

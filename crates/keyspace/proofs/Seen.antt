@@ -1,10 +1,10 @@
 -- What is seen of a world after a call, from what the call says of the whole one.
 use Rattle.std.proofs.Common.{◌≡◌, inl, inr, ◌<◌, ℕ, Bool, true, false, cond, List, Option, Some, None, IfSome, IfNone, is_some, refl, sym, ap, ◌∙◌, arith}
 use Rattle.std.specs.Prelude.{ℤ, pos, int_lt, nat_le}
-use Rattle.std.proofs.lemmas.Bool.{cases_Bool, cond-true, cond-false, leb-true}
+use Rattle.std.proofs.lemmas.Bool.{cases_Bool, cond-false, leb-true}
 use Rattle.plain_world.specs.Worlds.{World, Entry, in_time, live, look, put, remove, deadline_of}
 use Rattle.plain_world.proofs.Lives.{shown, look_live, live_put_in_time, live_remove, was_in_time}
-use Rattle.plain_model.specs.Deadlines.{expire, persist, lasts_until, lasts, from_zero}
+use Rattle.plain_model.specs.Deadlines.{expire, lasts_until, from_zero}
 use Rattle.held.specs.Calls.{HasUntil}
 
 pub not_le : (a b : ℕ) → b < a → nat_le a b ≡ false
@@ -29,37 +29,11 @@ timed old new moment key entry to seen clause late = ap (λ w. live w moment) (c
 
 -- what is expired: the deadline is set, or the key is removed
 module _ (old new : World) (moment : ℕ) (key : List ℕ) (due : ℤ) where
-  pub expire_none : look (live old moment) key ≡ None → live old moment ≡ expire (live old moment) moment key due (look (live old moment) key)
-  expire_none none = sym (ap (expire (live old moment) moment key due) none)
-
-  pub expire_later : (entry : Entry) (d : ℕ) → look (live old moment) key ≡ Some entry → int_lt (pos moment) due ≡ true → d ≡ from_zero due → ((e : Entry) → look (live old moment) key ≡ Some e → live new moment ≡ put (live old moment) key (record { value = e.value; deadline = Some d })) → live new moment ≡ expire (live old moment) moment key due (look (live old moment) key)
-  expire_later entry d seen later is clause =
-      clause entry seen
-      ∙ ap (λ n. put (live old moment) key (lasts_until entry.value n)) is
-      ∙ sym (cond-true (int_lt (pos moment) due) (put (live old moment) key (lasts_until entry.value (from_zero due))) (remove (live old moment) key) later)
-      ∙ sym (ap (expire (live old moment) moment key due) seen)
-
   pub expire_now : (entry : Entry) → look (live old moment) key ≡ Some entry → int_lt (pos moment) due ≡ false → new ≡ remove old key → live new moment ≡ expire (live old moment) moment key due (look (live old moment) key)
   expire_now entry seen past clause =
       ap (λ w. live w moment) clause ∙ live_remove old moment key
       ∙ sym (cond-false (int_lt (pos moment) due) (put (live old moment) key (lasts_until entry.value (from_zero due))) (remove (live old moment) key) past)
       ∙ sym (ap (expire (live old moment) moment key due) seen)
-
--- a deadline goes
-module _ (old new : World) (moment : ℕ) (key : List ℕ) where
-  pub persist_none : is_some (deadline_of (look (live old moment) key)) ≡ false → live old moment ≡ persist (live old moment) key (look (live old moment) key)
-  persist_none none = told (look (live old moment) key) none
-    where
-      told : (o : Option Entry) → is_some (deadline_of o) ≡ false → live old moment ≡ persist (live old moment) key o
-      told None h = refl
-      told (Some e) h = sym (cond-false (is_some e.deadline) (put (live old moment) key (lasts e.value)) (live old moment) h)
-
-  pub persist_some : is_some (deadline_of (look (live old moment) key)) ≡ true → ((e : Entry) → look (live old moment) key ≡ Some e → live new moment ≡ put (live old moment) key (record { value = e.value; deadline = None })) → live new moment ≡ persist (live old moment) key (look (live old moment) key)
-  persist_some some clause = told (look (live old moment) key) refl some
-    where
-      told : (o : Option Entry) → look (live old moment) key ≡ o → is_some (deadline_of o) ≡ true → live new moment ≡ persist (live old moment) key o
-      told None is h = cc
-      told (Some e) is h = clause e is ∙ sym (cond-true (is_some e.deadline) (put (live old moment) key (lasts e.value)) (live old moment) h)
 
 -- what is seen of a key that was sought
 module _ (world : World) (key : List ℕ) (there : Option ℕ) (deadline : Option ℕ) (until : IfSome there (λ item. HasUntil world key deadline)) (gone : IfNone there (look world key ≡ None)) where

@@ -1,9 +1,9 @@
 -- For whoever calls a keyspace: what a command function needs to say that the keyspace is sound after it, and which
 -- world it leaves. Each lemma takes the clauses of the calls as they stand.
-use Rattle.std.proofs.Common.{Some, ◌≡◌, ℕ, ◌+◌, ◌≤◌, List, [], ◌++◌, Option, refl, sym, ap, ◌∙◌, subst, lit<}
+use Rattle.std.proofs.Common.{◌≡◌, ℕ, ◌+◌, ◌≤◌, List, [], ◌++◌, Option, refl, sym, ap, ◌∙◌, subst, lit<}
 use Rattle.blocks.specs.declared.BlockRef.{BlockRef}
 use Rattle.blocks.specs.Blocks.{Blocks, times, Changes, Owned}
-use Rattle.plain_world.specs.Worlds.{Entry, World, look, put, stand}
+use Rattle.plain_world.specs.Worlds.{Entry, put, stand}
 use Rattle.plain_world.specs.Worlds as model
 use Rattle.std.specs.List.{Contains}
 use Rattle.object_codec.specs.declared.name.Name.{Name}
@@ -20,18 +20,12 @@ use Rattle.keyspace.specs.Sound.{IsIntact, Sound, SoundBeside}
 use Rattle.keyspace.specs.Scopes.{Scope, one_key, Within}
 use Rattle.held.specs.Calls.{HasOnly}
 use Rattle.keyspace.specs.Calls.{Lifted, IsPlace, IsVacant, Lifts, AreParts}
+use Rattle.held.proofs.Bases.{sound_intact}
 use Rattle.held.proofs.Uses as held
 
 -- what each call asks follows from soundness
-pub Sound-intact : (bases : Bases) (m : Blocks) (out : List BlockRef) → SoundBeside bases m out → IsIntact bases m out
-Sound-intact = held.Sound-intact value_refs value_of value_own
-
--- what was put at a key stands there, and what is put there next takes its place
-pub Look-put : (w : World) (key : List ℕ) (a : Entry) → look (put w key a) key ≡ Some a
-Look-put = held.Look-put value_refs value_of value_own
-
-pub Put-twice : (w : World) (key : List ℕ) (a b : Entry) → put (put w key a) key b ≡ put w key b
-Put-twice = held.Put-twice value_refs value_of value_own
+pub sound_is_intact : (bases : Bases) (m : Blocks) (out : List BlockRef) → SoundBeside bases m out → IsIntact bases m out
+sound_is_intact = sound_intact value_refs value_of value_own
 
 -- ---- what is out of the databases changes: a value is made, changed or released
 

@@ -38,10 +38,7 @@ pub record Held {S : Type 0} (blocks : S → Blocks) (step : S → S → Type 0)
 pub record Kept {S E : Type 0} (blocks : S → Blocks) (step : S → S → Type 0) (scope : Scope) (old new : Keyspace S)
     (result : Result (List Part) E) : Type 0 where
   pub refusals : IfOk result (λ reply. IsRefusal reply → new ≡ old)
-  pub sound : Sound new.bases (blocks new.store)
-  pub served : Served step old.store new.store
-  pub settings : SameSettings old.bases new.bases
-  pub within : Within scope old.bases new.bases (blocks old.store) (blocks new.store)
+  pub held : Held blocks step scope old new
 
 -- The command is a step of the model on what the keyspace means, before and after, and what it writes is encoded by its
 -- rule.
