@@ -4,7 +4,7 @@ use Rattle.std.specs.Prelude.{pos, is_some, not, ◌==◌, ◌&&◌, bytes_eq, i
 use Rattle.std.specs.FinMap.{get}
 use Rattle.std.proofs.lemmas.Bool.{cond-true, cond-false}
 use Rattle.blocks.specs.declared.BlockRef.{BlockRef}
-use Rattle.blocks.specs.Blocks.{Blocks, times, Changes, Owned}
+use Rattle.blocks.specs.Blocks.{Blocks, times, Changes}
 use Rattle.blocks.proofs.Times.{times-append}
 use Rattle.blocks.proofs.Change.{Owned-others, Changes-same}
 use Rattle.plain_world.specs.Worlds.{Entry, World, look, put, live, look_in, put_in, selecting, with_base}
@@ -17,19 +17,20 @@ use Rattle.plain_model.specs.KeySteps.{counts, or_selected, copy, copy_outcome}
 use Rattle.plain_model.specs.declared.keys.CopyOptions.{CopyOptions}
 use Rattle.plain_model.specs.declared.ctx.Ctx.{Ctx}
 use Rattle.held.proofs.Bases.{kept_inside, kept_timed, means_out}
-use Rattle.held.proofs.Calls.{key_itself, item_owned}
+use Rattle.held.proofs.Tables.{key_itself}
+use Rattle.held.proofs.Calls.{item_owned}
 use Rattle.held.proofs.Maps.{same_entry}
 use Rattle.keyspace.specs.declared.value.Value.{Value}
 use Rattle.keyspace.specs.Values.{value_of, value_refs, value_own}
 use Rattle.keyspace.specs.Databases.{Bases, means}
 use Rattle.keyspace.specs.Sound.{IsIntact, SoundBeside}
 use Rattle.held.specs.Calls.{HasOnly}
-use Rattle.keyspace.specs.Calls.{Lifted, IsPlace, IsVacant, Lifts, AreParts}
+use Rattle.keyspace.specs.Calls.{Lifted, IsPlace, Lifts, AreParts}
 use Rattle.held.proofs.Within.{within_store, within_wider}
 use Rattle.keyspace.specs.Scopes.{one_key, two_keys, Within}
 use Rattle.keyspace.specs.Commands.{seen}
 use Rattle.keyspace.proofs.Serving.{further}
-use Rattle.keyspace.proofs.Uses.{Sound-intact, Changed-sound}
+use Rattle.keyspace.proofs.Uses.{sound_is_intact, Changed-sound}
 use Rattle.cmd_keys.proofs.KeyLemmas.{some_entry}
 use Rattle.cmd_keys.proofs.Emptying.{same_base}
 use Rattle.cmd_keys.proofs.Moving.{live_put_in}
@@ -56,22 +57,16 @@ module _ (old mid : Bases) (m own after : Blocks) (db moment : ℕ) (key : List 
   pub copy_intact : IsIntact mid after (value_refs lifted.value)
   copy_intact = record { owned = λ r. omega (arith, beside.owns r, times-append r (value_refs lifted.value) extra); arranged = beside.arranged }
 
-  pub copy_vacant : IsVacant mid lifted.db lifted.item
-  copy_vacant = subst (λ d. IsVacant mid d lifted.item) (sym lifts.same_db) lifts.vacant
-
   place : IsPlace mid after lifted.db lifted.item key lifts.deadline
   place =
-      let intact = Sound-intact mid m (value_refs lifted.value ++ []) sound in
+      let intact = sound_is_intact mid m (value_refs lifted.value ++ []) sound in
       subst (λ d. IsPlace mid after d lifted.item key lifts.deadline) (sym lifts.same_db) (record {
         element = lifts.place.element;
         found = lifts.place.found;
         bytes = kept_inside value_refs value_of value_own mid m after (value_refs lifted.value ++ []) [] extra intact p nothing lifts.place.element.key
-            (omega (arith, key_itself value_refs value_of value_own lifts.place.element.key, item_owned value_refs value_of value_own mid db lifted.item lifts.place.element lifts.place.element.key lifts.place.found)) ∙ lifts.place.bytes;
+            (omega (arith, key_itself lifts.place.element.key, item_owned value_refs value_of value_own mid db lifted.item lifts.place.element lifts.place.element.key lifts.place.found)) ∙ lifts.place.bytes;
         lasts = ap (λ t. get t key) (kept_timed value_refs value_of value_own mid m after (value_refs lifted.value ++ []) [] extra intact p nothing db).1 ∙ lifts.place.lasts;
       })
-
-  pub copy_owned : Owned (value_refs lifted.value) own
-  copy_owned = subst (Owned (value_refs lifted.value)) (sym stays) lifts.owned
 
   value_kept : value_of after lifted.value ≡ value_of m lifted.value
   value_kept = value_own m after lifted.value (λ r within. Owned-others m after [] extra (value_refs lifted.value) lifts.owned p r within refl)
@@ -86,7 +81,7 @@ module _ (old mid : Bases) (m own after : Blocks) (db moment : ℕ) (key : List 
         subst (Within (one_key db key) old new m) (sym same)
         (further (one_key db key) old mid new m m after taken
         (further (one_key db key) mid mid new m after after
-        (within_store value_refs value_of value_own (one_key db key) mid m after (value_refs lifted.value ++ []) [] extra (Sound-intact mid m (value_refs lifted.value ++ []) sound) p nothing)
+        (within_store value_refs value_of value_own (one_key db key) mid m after (value_refs lifted.value ++ []) [] extra (sound_is_intact mid m (value_refs lifted.value ++ []) sound) p nothing)
         (subst (λ d. Within (one_key d key) mid new after after) lifts.same_db (clause key lifts.deadline place))))
 
     -- from the clause `has` of `lower`
@@ -100,7 +95,7 @@ module _ (old mid : Bases) (m own after : Blocks) (db moment : ℕ) (key : List 
         let there = (was_in_time (means db old m) moment key _ lifts.stands).0 ∙ ap (λ v. Some (record { value = v; deadline = lifts.deadline })) (sym value_kept) in
         ap (means db new) same
         ∙ subst (λ d. means d new after ≡ put (means d mid after) key entry) lifts.same_db (clause key lifts.deadline place)
-        ∙ ap (λ w. put w key entry) (means_out value_refs value_of value_own mid m after (value_refs lifted.value ++ []) [] extra (Sound-intact mid m (value_refs lifted.value ++ []) sound) p nothing db)
+        ∙ ap (λ w. put w key entry) (means_out value_refs value_of value_own mid m after (value_refs lifted.value ++ []) [] extra (sound_is_intact mid m (value_refs lifted.value ++ []) sound) p nothing db)
         ∙ lifts.back entry ∙ put_same (means db old m) key entry there
 
   -- the copy means what stands at the key

@@ -7,7 +7,7 @@ use Rattle.std.proofs.lemmas.List.{get_or_past}
 use Rattle.blocks.specs.Blocks.{Blocks}
 use Rattle.rehash_dict.proofs.MapOf.{map_of-empty}
 use Rattle.expiry.specs.Timed.{moments}
-use Rattle.plain_world.specs.Worlds.{World, Database, live, live_keys, with_base}
+use Rattle.plain_world.specs.Worlds.{World, live, live_keys, with_base}
 use Rattle.plain_world.specs.Worlds as model
 use Rattle.plain_world.proofs.Lives.{live_none, live_with, live_twice}
 use Rattle.plain_model.specs.declared.ctx.Ctx.{Ctx}

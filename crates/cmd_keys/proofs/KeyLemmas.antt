@@ -11,9 +11,8 @@ use Rattle.plain_model.specs.Deadlines.{due, expire}
 use Rattle.plain_world.specs.Worlds.{World, Entry, live, look, in_time, deadline_of}
 use Rattle.plain_world.specs.declared.reply.Part.{Part}
 use Rattle.plain_world.specs.declared.reply.Part.TheVariants.{Number, Bulk}
-use Rattle.plain_world.proofs.Lives.{was_in_time}
 use Rattle.plain_model.specs.Outcomes.{IsOutcome, IsRefusal, leaves, tells, refused}
-use Rattle.plain_model.specs.KeySteps.{key_outcome, may_keys, counts, permits, expire_where_permitted, expire_outcome, deadline_told, time_told}
+use Rattle.plain_model.specs.KeySteps.{key_outcome, may_keys, counts, permits, expire_where_permitted, expire_outcome, time_told}
 use Rattle.plain_model.specs.Meant.{IsAsked}
 use Rattle.plain_model.proofs.Asked.{IsOneOf16, FitsKeys, command_fits}
 use Rattle.plain_model.specs.declared.ctx.Ctx.{Ctx}
@@ -46,20 +45,10 @@ pub record StandsUntil (world : World) (moment : ℕ) (key : List ℕ) (deadline
   pub same : entry.deadline ≡ deadline
   pub late : in_time moment deadline ≡ true
 
+-- where something stands at a key there is an entry that stands there
 pub some_entry : (o : Option Entry) → is_some o ≡ true → (e : Entry) × (o ≡ Some e)
 some_entry None there = cc
 some_entry (Some e) there = (e, refl)
-
-pub stands_until : (world : World) (moment : ℕ) (key : List ℕ) (deadline : Option ℕ) → is_some (look (live world moment) key) ≡ true → deadline ≡ deadline_of (look world key) → StandsUntil world moment key deadline
-stands_until world moment key deadline there is =
-    let found = some_entry (look (live world moment) key) there in
-    let was = was_in_time world moment key found.0 found.1 in
-    let same : found.0.deadline ≡ deadline = sym (is ∙ ap deadline_of was.0) in
-    record { entry = found.0; stands = found.1; same = same; late = sym (ap (in_time moment) same) ∙ was.1 }
-
--- whatever is told of it
-pub told_there : (world : World) (moment : ℕ) (key : List ℕ) (deadline : Option ℕ) → StandsUntil world moment key deadline → (tell : ℕ → ℕ) → time_told tell (look (live world moment) key) ≡ deadline_told tell deadline
-told_there world moment key deadline stands tell = ap (time_told tell) stands.stands ∙ ap (deadline_told tell) stands.same
 
 -- what is told of a deadline is told
 pub time_answered : {E : Type 0} (old : World) (key : List ℕ) (tell : ℕ → ℕ) (deadline : Result ℕ Timeless) (told : ℤ) (result : Result (List Part) E)
@@ -88,6 +77,7 @@ expire_given old new moment key time options d deadline (Err x) is fits there la
 
 -- ---- what a command function says is what running the command means
 
+-- a command on keys that a request asks for has its database, its count and its cursor in range
 pub fits_keys : (command : KeyCommand) → IsAsked (Keys command) → FitsKeys command
 fits_keys command asked = command_fits asked.words (Keys command) asked.means
 
@@ -99,6 +89,7 @@ asked_copy command from to options asked is = one_of options.db (subst FitsKeys 
     one_of None h = tt
     one_of (Some number) h = h
 
+-- the database of a MOVE that a request asks for is one of 16
 pub asked_move : (command : KeyCommand) (key : List ℕ) (number : ℕ) → IsAsked (Keys command) → command ≡ keys.MoveKey key number → number < 16
 asked_move command key number asked is = subst FitsKeys is (fits_keys command asked)
 
@@ -161,7 +152,7 @@ served_connection {E = E} blocks step old new at command same (Ok reply) is none
   answers = outcome_connection (sight blocks old at) at.moment command none reply (sight blocks new at) (subst (λ c. IsOutcome (connection_outcome at.moment (sight blocks old at) c) reply (sight blocks new at)) (sym is) (outcome_is (connection_outcome at.moment (sight blocks old at) same) reply (sight blocks new at) given));
   kept = subst (λ c. Kept {E = E} blocks step (connection_scope at.db c) old new (Ok reply)) (sym is) kept;
   shows = connection_shows {E = E} blocks old new command none (Ok reply);
-  forms = formed_scope Unwritten (connection_scope at.db same) (connection_writes at.db same) old.bases new.bases (blocks old.store) (blocks new.store) kept.within;
+  forms = formed_scope Unwritten (connection_scope at.db same) (connection_writes at.db same) old.bases new.bases (blocks old.store) (blocks new.store) kept.held.within;
 }
 served_connection {E = E} blocks step old new at command same (Err x) is none given kept = record { answers = tt; kept = subst (λ c. Kept {E = E} blocks step (connection_scope at.db c) old new (Err x)) (sym is) kept; shows = tt; forms = tt }
 
@@ -190,7 +181,7 @@ pub removed_keys : {S E : Type 0} (blocks : S → Blocks) (step : S → S → Ty
     → command ≡ same → Gives blocks old new at same result → Kept blocks step (key_scope at.db same) old new result → Runs blocks step old new at (Keys command) result
 removed_keys blocks step old new at command same result fixed shows none is given kept =
     ran_keys blocks step old new at command same result fixed shows is given kept
-    (formed_ok blocks (key_form at.db same) old new result (formed_scope (key_form at.db same) (key_scope at.db same) none old.bases new.bases (blocks old.store) (blocks new.store) kept.within))
+    (formed_ok blocks (key_form at.db same) old new result (formed_scope (key_form at.db same) (key_scope at.db same) none old.bases new.bases (blocks old.store) (blocks new.store) kept.held.within))
 
 -- a command on keys only looked
 pub asked_keys : {S E : Type 0} (blocks : S → Blocks) (step : S → S → Type 0) (keyspace : Keyspace S) (at : Ctx) (command same : KeyCommand) (result : Result (List Part) E)

@@ -25,7 +25,7 @@ use Rattle.held.proofs.Timing.{some_same}
 use Rattle.keyspace.specs.declared.value.Value.{Value}
 use Rattle.keyspace.specs.Databases.{Bases, means, table_at}
 use Rattle.keyspace.specs.Sound.{IsArranged, IsIntact, Sound}
-use Rattle.keyspace.proofs.Uses.{Sound-intact}
+use Rattle.keyspace.proofs.Uses.{sound_is_intact}
 use Rattle.keyspace.specs.Values.{value_refs, value_of, value_own}
 use Rattle.keyspace.specs.Shown.{PassesAt, Sifted}
 use Rattle.cmd_keys.specs.Sieve.{is_type, numbers}
@@ -44,7 +44,7 @@ module _ (bases : Bases) (m : Blocks) (at : Ctx) (below : at.db < 16) (sound : S
   a = sound.arranged
 
   intact : IsIntact bases m []
-  intact = Sound-intact bases m [] sound
+  intact = sound_is_intact bases m [] sound
 
   abbrev seen : World
   seen = live (means at.db bases m) at.moment

@@ -103,9 +103,6 @@ completes_next P all rest item old new c (inl added) more s =
     subst (Sifted P all) (sym (ap (λ (l : List (List ℕ)). l ++ more) added.2 ∙ append_assoc old (added.0 ∷ []) more)) (c (added.0 ∷ more) (keeps item added.0 rest more added.1 s))
 completes_next P all rest item old new c (inr stays) more s = subst (λ (l : List (List ℕ)). Sifted P all (l ++ more)) (sym stays.1) (c more (drops item rest more stays.0 s))
 
-pub completes_first : (P : ℕ → List ℕ → Type 0) (all : List ℕ) (names : List (List ℕ)) → names ≡ [] → Completes P all all names
-completes_first P all names e more s = subst (λ (l : List (List ℕ)). Sifted P all (l ++ more)) (sym e) s
-
 pub completes_last : (P : ℕ → List ℕ → Type 0) (all rest : List ℕ) (names : List (List ℕ)) → rest ≡ [] → Completes P all rest names → Sifted P all names
 completes_last P all rest names e c = subst (Sifted P all) (append-nil names) (c [] (subst (λ (l : List ℕ). Sifted P l []) (sym e) end))
 

@@ -39,11 +39,6 @@ looked_at heap class uses new u size slabs used is before =
     ∙ ap (λ x. filter has_slab (map (class_slabs heap) (range_with_len 0 class)) ++ (if has_slab x then x ∷ [] else [])) (use_is heap class u size slabs used)
     ∙ sym (filter_of_map_range_with_len_more has_slab (class_slabs heap) 0 class class (omega arith))
 
--- one more class was told
-pub told_behind : (uses : List ClassUse) (u : ClassUse) → flat_map use_parts (uses ++ u ∷ []) ≡ flat_map use_parts uses ++ use_parts u
-told_behind [] u = refl
-told_behind (x ∷ uses) u = ap (λ l. use_parts x ++ l) (told_behind uses u)
-
 told_as : (uses : List ClassUse) → flat_map use_parts uses ≡ flat_map class_parts (map class_used uses)
 told_as [] = refl
 told_as (u ∷ uses) = ap (λ l. use_parts u ++ l) (told_as uses)

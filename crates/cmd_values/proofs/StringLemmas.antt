@@ -50,7 +50,8 @@ use Rattle.plain_model.specs.declared.times.TimeUnit.{TimeUnit}
 use Rattle.plain_model.specs.declared.times.TimeOrigin.TheVariants.{Now}
 use Rattle.cmd_values.proofs.Ranges.{written_length}
 use Rattle.plain_world.proofs.Lives.{live_put_in_time, live_remove}
-use Rattle.keyspace.proofs.Uses.{Put-means, Look-put, Put-twice}
+use Rattle.plain_world.proofs.Lives.{look_put, put_twice}
+use Rattle.keyspace.proofs.Uses.{Put-means}
 use Rattle.cmd_values.specs.Found.{GivesIn, Gives, FoundText, IsThere, Becomes, IsStringBefore, OldValue, NumberAt, IsSetReply, values_at}
 
 -- what a command gives is a step of the model
@@ -99,9 +100,6 @@ set_lasting old new moment key value unit n d deadline line (Ok reply) is fits f
     ∙ ap (leaves (ok ∷ [])) (sym world) ∙ ap (λ r. leaves r new) (sym (told ∙ ap (λ x. x ∷ []) same))
 set_lasting old new moment key value unit n d deadline line (Err x) is fits from world same told = tt
 
-pub due_refused : (old : World) (moment : ℕ) (time : Time) (answer : ℤ → Outcome) → ¬ (FitsSigned w64 (due moment time)) → with_due old moment time answer ≡ refused InvalidExpireTime old
-due_refused old moment time answer large = ap (λ b. if b then answer (due moment time) else refused InvalidExpireTime old) (no_fit (due moment time) large)
-
 -- a string that was made is put at a key
 pub replaced : {E : Type 0} (at : Ctx) (bases : Bases) (m after : Blocks) (text : Text) (sound : Sound bases m) (p : Changes m after [] (text_refs text)) (new : Bases) (later : Blocks) (key value : List ℕ) (deadline : Option ℕ)
     → text_bytes after text ≡ value → (result : Result (Unit {0}) E)
@@ -112,10 +110,12 @@ replaced at bases m after text sound p new later key value deadline is (Ok u) h 
     ∙ ap (λ b. stand (seen at bases m) at.moment key (record { value = Str b; deadline = deadline })) is
 replaced at bases m after text sound p new later key value deadline is (Err x) h = tt
 
+-- no reply is due behind the string of a value, or the null for another type
 none_in : (value : Value) (n : ℕ) → n + following (string_part value) ≡ n
 none_in (Str bytes) n = omega arith
 none_in other n = omega arith
 
+-- no reply is due behind the string at a key, or the null where none stands
 none_follows : (entry : Option Entry) (n : ℕ) → n + following (string_or_null entry) ≡ n
 none_follows None n = omega arith
 none_follows (Some entry) n = none_in entry.value n
@@ -125,6 +125,7 @@ pub values_are_replies : (world : World) (keys : List (List ℕ)) → AreReplies
 values_are_replies world [] = tt
 values_are_replies world (key ∷ keys) = subst (λ n. AreReplies n (values_at world keys)) (sym (none_follows (look world key) (length keys))) (values_are_replies world keys)
 
+-- the head of an array and the strings or nulls at its keys are one whole reply
 values_are_one : (world : World) (keys : List (List ℕ)) → IsReply (Array (length keys) ∷ values_at world keys)
 values_are_one world keys = let e : 0 + length keys ≡ length keys = omega arith in subst (λ n. AreReplies n (values_at world keys)) (sym e) (values_are_replies world keys)
 
@@ -145,6 +146,7 @@ removed at bases new m later key reply old h =
 
 -- ---- APPEND and SETRANGE
 
+-- where these bytes are the string at a key, whatever is made of the string there is made of them
 there_before : (world : World) (key bytes : List ℕ) → IsThere world key bytes → IsStringBefore world key (Some bytes)
 there_before world key bytes t = some_before world key bytes t.deadline t.stands
 
@@ -175,6 +177,7 @@ written_reply moment old new key piece bytes at n (Ok reply) before was same som
     ∙ ap (λ r. leaves r (change old key (written_over bytes at piece))) (sym is) ∙ ap (leaves reply) (sym becomes)
 written_reply moment old new key piece bytes at n (Err x) before was same some long becomes is = tt
 
+-- SETRANGE of a piece with a byte into the string that stands at a key answers the new length
 pub range_some : {E : Type 0} (moment : ℕ) (old new : World) (key piece bytes : List ℕ) (at n : ℕ) (result : Result (List Part) E)
     → IsThere old key bytes → 0 < length piece → n ≡ max (length bytes) (at + length piece) → Becomes old key (λ b. written_over b at piece) new
     → IfOk result (λ reply. reply ≡ Number (pos n) ∷ []) → GivesIn moment old (strings.SetRange key at piece) new result
@@ -187,17 +190,18 @@ pub range_none : {E : Type 0} (moment : ℕ) (old mid new : World) (key piece : 
     → IfOk result (λ reply. reply ≡ Number (pos n) ∷ []) → GivesIn moment old (strings.SetRange key at piece) new result
 range_none moment old mid new key piece at n result none put_first some long becomes is =
     let empty : Entry = plain [] in
-    let stands : look mid key ≡ Some empty = ap (λ w. look w key) put_first ∙ Look-put old key empty in
+    let stands : look mid key ≡ Some empty = ap (λ w. look w key) put_first ∙ look_put old key empty in
     let written = written_over [] at piece in
     let world : new ≡ change old key written =
     becomes [] (record { deadline = None; stands = stands })
     ∙ ap (λ d. put mid key (record { value = Str written; deadline = d })) (ap deadline_of stands)
-    ∙ ap (λ w. put w key (plain written)) put_first ∙ Put-twice old key empty (plain written)
+    ∙ ap (λ w. put w key (plain written)) put_first ∙ put_twice old key empty (plain written)
     ∙ ap (λ d. put old key (record { value = Str written; deadline = d })) (sym (ap deadline_of none)) in
     written_reply moment old new key piece [] at n result None (λ answer. ap (λ o. on_string old o answer) none) refl some (omega arith) world is
 
 -- ---- numbers
 
+-- a fact that holds anyway holds where a call succeeds
 pub on_ok : {A E P : Type 0} (result : Result A E) → P → OnOk result P
 on_ok (Ok a) h = h
 on_ok (Err e) h = tt
@@ -237,6 +241,7 @@ number_read world blocks key text answer found reads = record {
 pub counted_on : (old : World) (key : List ℕ) (n : ℤ) → FitsSigned w64 n → count_to old key n ≡ leaves (Number n ∷ []) (change old key (canonical n))
 counted_on old key n fits = ap (λ b. if b then leaves (Number n ∷ []) (change old key (canonical n)) else refused Overflow old) (fits_to n fits)
 
+-- a new number that 64 bits with a sign don't hold is refused, and the world stays
 pub not_counted : (old : World) (key : List ℕ) (n : ℤ) → ¬ (FitsSigned w64 n) → count_to old key n ≡ refused Overflow old
 not_counted old key n large = ap (λ b. if b then leaves (Number n ∷ []) (change old key (canonical n)) else refused Overflow old) (no_fit n large)
 
@@ -285,7 +290,7 @@ pub removed_strings : {S E : Type 0} (blocks : S → Blocks) (step : S → S →
     → ((db : ℕ) (key : List ℕ) → (string_scope at.db same).writes db key → ⊥) → command ≡ Strings own → own ≡ same → Gives blocks old new at same result → Kept blocks step (string_scope at.db same) old new result → Runs blocks step old new at command result
 removed_strings blocks step old new at command own same result none e f given kept =
     ran_strings blocks step old new at command own same result e f given kept
-    (formed_ok blocks (string_form (sight blocks old at) same) old new result (formed_scope (string_form (sight blocks old at) same) (string_scope at.db same) none old.bases new.bases (blocks old.store) (blocks new.store) kept.within))
+    (formed_ok blocks (string_form (sight blocks old at) same) old new result (formed_scope (string_form (sight blocks old at) same) (string_scope at.db same) none old.bases new.bases (blocks old.store) (blocks new.store) kept.held.within))
 
 -- a command on strings only looked
 pub looked_strings : {S E : Type 0} (blocks : S → Blocks) (step : S → S → Type 0) (keyspace : Keyspace S) (at : Ctx) (command : Command) (own same : StringCommand) (result : Result (List Part) E)
@@ -295,7 +300,7 @@ looked_strings blocks step keyspace at command own same result e f given ready =
 
 -- what was put stands there
 pub put_there : (old mid : World) (key bytes : List ℕ) → mid ≡ replace old key bytes → is_some (look mid key) ≡ true
-put_there old mid key bytes e = ap is_some (ap (λ w. look w key) e ∙ Look-put old key (plain bytes))
+put_there old mid key bytes e = ap is_some (ap (λ w. look w key) e ∙ look_put old key (plain bytes))
 
 -- the piece of a request's SETRANGE ends at the greatest length at most
 pub asked_fits : (command : Command) (own : StringCommand) (key piece : List ℕ) (at : ℕ) → IsAsked command → command ≡ Strings own → own ≡ strings.SetRange key at piece → 0 < length piece → at + length piece ≤ 536870912

@@ -3,7 +3,8 @@
 ghost use Rattle.std.specs.Prelude.{◌≡◌, ◌<◌, ◌≤◌, ◌+◌, ◌++◌, List, ℕ, [], IfOk, OnOk, length, is_some, true, if◌then◌else◌};
 ghost use Rattle.plain_world.specs.Words.{longest};
 ghost use Rattle.plain_world.specs.Worlds.{look};
-ghost use Rattle.plain_model.specs.StringSteps.{written_over};
+ghost use Rattle.blocks.specs.Blocks.{Changes, Owned, Served};
+ghost use Rattle.string_object.specs.Text.{text_bytes, text_refs, is_raw};
 ghost use Rattle.plain_model.specs.declared.command.StringCommand.TheVariants as strings;
 ghost use Rattle.keyspace.specs.Scopes.{one_key};
 ghost use Rattle.held.specs.Calls.{AllAt};
@@ -11,54 +12,54 @@ ghost use Rattle.keyspace.specs.Forms.{Whole, Raw, Formed};
 ghost use Rattle.keyspace.specs.Values.{IsRaw};
 ghost use Rattle.keyspace.specs.Commands.{Ready, Held, Kept, sight};
 ghost use Rattle.cmd_values.specs.Found.{Gives, IsThere, Becomes};
+ghost use Rattle.cmd_values.specs.Changed.{changed, HasRoom};
 
 use crate::strings::look::{length_at, length_reply, length_sought};
 use crate::strings::writing::put_string;
 use blocks::BlockStore;
 use keyspace::{Keyspace, Lifted, Value, seek};
 use plain_model::{Ctx, LONGEST, Memory, Refusal, Reply};
+use string_object::Text;
 
-// Appends to the string at a key.
-fn append_there<B: BlockStore>(
-    keyspace: &mut Keyspace<B>,
-    at: &Ctx,
-    key: &[u8],
-    tail: &[u8],
-) -> Result<(), Memory>
-    requires ready { Ready B.blocks keyspace.old at.now }
-    requires there { is_some (look (sight B.blocks keyspace.old at.now) key.now) ≡ true }
-    requires room { (bytes : List ℕ) → IsThere (sight B.blocks keyspace.old at.now) key.now bytes → length bytes + length tail.now ≤ longest }
-    ensures becomes { OnOk result (Becomes (sight B.blocks keyspace.old at.now) key.now (λ bytes. bytes ++ tail.now) (sight B.blocks keyspace.new at.now)) }
-    ensures held { Held B.blocks B.step (one_key at.now.db key.now) keyspace.old keyspace.new }
-    ensures raw { OnOk result (AllAt IsRaw keyspace.new.bases (B.blocks keyspace.new.store) at.now.db key.now) }
+// What becomes of a string.
+#[derive(Clone, Copy)]
+enum Change<'a> {
+    // These bytes stand behind it.
+    Append(&'a [u8]),
+    // A piece that isn't empty stands over it from a place on.
+    Write(u64, &'a [u8]),
+}
+
+// Changes a string.
+fn change_text<B: BlockStore>(
+    text: &mut Text,
+    store: &mut B,
+    change: Change<'_>,
+) -> Result<u64, Memory>
+    requires owned { Owned (text_refs text.old) (B.blocks store.old) }
+    requires room { HasRoom change (text_bytes (B.blocks store.old) text.old) }
+    ensures bytes { OnOk result (text_bytes (B.blocks store.new) text.new ≡ changed change.entry (text_bytes (B.blocks store.old) text.old)) }
+    ensures raw { OnOk result (is_raw text.new ≡ true) }
+    ensures changes { Changes (B.blocks store.old) (B.blocks store.new) (text_refs text.old) (text_refs text.new) }
+    ensures served { Served B.step store.old store.new }
 {
-    let Some(lifted) = keyspace.lift(at.db, key, at.moment) else {
-        unreachable!();
-    };
-    let Lifted { db, item, value } = lifted;
-    let mut text = value.into_text();
-    let appended = text.append(&mut keyspace.store, tail);
-    let value = Value::Text(text);
-    keyspace.lower(Lifted { db, item, value });
-    match appended {
-        Ok(_) => Ok(()),
-        Err(error) => Err(error),
+    match change {
+        Change::Append(tail) => text.append(store, tail),
+        Change::Write(place, piece) => text.set_range(store, place, piece),
     }
 }
 
-// Writes a piece that isn't empty into the string at a key.
-fn write_there<B: BlockStore>(
+// Changes the string at a key.
+fn change_there<B: BlockStore>(
     keyspace: &mut Keyspace<B>,
     at: &Ctx,
     key: &[u8],
-    place: u64,
-    piece: &[u8],
+    change: Change<'_>,
 ) -> Result<(), Memory>
     requires ready { Ready B.blocks keyspace.old at.now }
     requires there { is_some (look (sight B.blocks keyspace.old at.now) key.now) ≡ true }
-    requires some { 0 < length piece.now }
-    requires room { place + length piece.now ≤ longest }
-    ensures becomes { OnOk result (Becomes (sight B.blocks keyspace.old at.now) key.now (λ bytes. written_over bytes place piece.now) (sight B.blocks keyspace.new at.now)) }
+    requires room { (bytes : List ℕ) → IsThere (sight B.blocks keyspace.old at.now) key.now bytes → HasRoom change bytes }
+    ensures becomes { OnOk result (Becomes (sight B.blocks keyspace.old at.now) key.now (changed change.entry) (sight B.blocks keyspace.new at.now)) }
     ensures held { Held B.blocks B.step (one_key at.now.db key.now) keyspace.old keyspace.new }
     ensures raw { OnOk result (AllAt IsRaw keyspace.new.bases (B.blocks keyspace.new.store) at.now.db key.now) }
 {
@@ -67,10 +68,10 @@ fn write_there<B: BlockStore>(
     };
     let Lifted { db, item, value } = lifted;
     let mut text = value.into_text();
-    let written = text.set_range(&mut keyspace.store, place, piece);
+    let done = change_text(&mut text, &mut keyspace.store, change);
     let value = Value::Text(text);
     keyspace.lower(Lifted { db, item, value });
-    match written {
+    match done {
         Ok(_) => Ok(()),
         Err(error) => Err(error),
     }
@@ -102,7 +103,7 @@ pub fn append<B: BlockStore>(
             if length > LONGEST {
                 return Reply::refused(alloc, Refusal::ValueOutOfRange);
             }
-            append_there(keyspace, at, key, tail)?;
+            change_there(keyspace, at, key, Change::Append(tail))?;
             length_reply(alloc, length)
         }
     }
@@ -130,14 +131,14 @@ pub fn setrange<B: BlockStore>(
                 return length_reply(alloc, 0);
             }
             put_string(keyspace, at, key, Some(found), &[])?;
-            write_there(keyspace, at, key, place, piece)?;
+            change_there(keyspace, at, key, Change::Write(place, piece))?;
             length_reply(alloc, place as usize + piece.len())
         }
         Some(length) => {
             if piece.is_empty() {
                 return length_reply(alloc, length);
             }
-            write_there(keyspace, at, key, place, piece)?;
+            change_there(keyspace, at, key, Change::Write(place, piece))?;
             length_reply(alloc, length.max(place as usize + piece.len()))
         }
     }

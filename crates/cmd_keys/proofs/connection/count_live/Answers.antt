@@ -1,10 +1,10 @@
 use Rattle.std.proofs.Common.{[], ◌∙◌}
-use Rattle.keyspace.proofs.Uses.{Sound-intact}
+use Rattle.keyspace.proofs.Uses.{sound_is_intact}
 use Rattle.cmd_keys.proofs.Emptying.{selected_purged, purged_count}
 use Rattle.cmd_keys.proofs.connection.count_live.Goals as goal
 
 pub count-requires-clause-intact : goal.count-requires-clause-intact
-count-requires-clause-intact g c = Sound-intact c.purge.new.self.bases _ [] (c.purge.ensures.sound [] c.requires.ready.sound)
+count-requires-clause-intact g c = sound_is_intact c.purge.new.self.bases _ [] (c.purge.ensures.sound [] c.requires.ready.sound)
 
 pub returns-clause-count : goal.returns-clause-count
 returns-clause-count g c = c.count.ensures ∙ purged_count c.args.at.now c.args.keyspace.now.bases c.purge.new.self.bases _ _ c.purge.ensures.means

@@ -1,4 +1,4 @@
-use Rattle.std.proofs.Common.{sym, ap, is_some}
+use Rattle.std.proofs.Common.{ap, is_some}
 use Rattle.std.proofs.lemmas.Bool.{ne_eqb}
 use Rattle.keyspace.specs.Commands.{seen}
 use Rattle.cmd_keys.proofs.Moving.{move_done}

@@ -10,10 +10,10 @@ use Rattle.keyspace.specs.Forms.{Whole, Raw, Formed}
 use Rattle.keyspace.proofs.Forming.{unformed, formed_ok, formed_key}
 use Rattle.cmd_values.proofs.strings.changing.append.Goals as goal
 
-pub returns-in_ok-append_there-in-Some-clause-gives : goal.returns-in_ok-append_there-in-Some-clause-gives
-returns-in_ok-append_there-in-Some-clause-gives g c =
+pub returns-in_ok-change_there-in-Some-clause-gives : goal.returns-in_ok-change_there-in-Some-clause-gives
+returns-in_ok-change_there-in-Some-clause-gives g c =
     let there = c.in-Some.ensures in
-    append_some c.args.at.now.moment _ _ c.args.key.now c.args.tail.now there.0 _ c.length_reply-in-Some.result there.1 (omega (arith, there.2)) (omega (arith, c.if-length-gt-LONGEST.false)) c.in_ok-append_there-in-Some.ensures.becomes c.length_reply-in-Some.ensures
+    append_some c.args.at.now.moment _ _ c.args.key.now c.args.tail.now there.0 _ c.length_reply-in-Some.result there.1 (omega (arith, there.2)) (omega (arith, c.if-length-gt-LONGEST.false)) c.in_ok-change_there-in-Some.ensures.becomes c.length_reply-in-Some.ensures
 
 pub returns-then-tail-gt-LONGEST-clause-kept : goal.returns-then-tail-gt-LONGEST-clause-kept
 returns-then-tail-gt-LONGEST-clause-kept g c =
@@ -34,9 +34,9 @@ returns-in_ok-put_string-in-None-clause-forms g c =
     formed_ok g.B.BlockStore.blocks (if is_some (look (sight g.B.BlockStore.blocks c.args.keyspace.now c.args.at.now) c.args.key.now) then Raw else Whole) c.args.keyspace.now c.put_string.new.keyspace _
     (subst (λ (o : Option Entry). Formed g.B.BlockStore.blocks (if is_some o then Raw else Whole) c.args.keyspace.now c.put_string.new.keyspace) (sym c.in-None.ensures) c.in_ok-put_string-in-None.ensures.forms)
 
-pub returns-in_ok-append_there-in-Some-clause-forms : goal.returns-in_ok-append_there-in-Some-clause-forms
-returns-in_ok-append_there-in-Some-clause-forms g c =
-    let held = c.append_there.ensures.held in
-    formed_ok g.B.BlockStore.blocks (if is_some (look (sight g.B.BlockStore.blocks c.args.keyspace.now c.args.at.now) c.args.key.now) then Raw else Whole) c.args.keyspace.now c.append_there.new.keyspace _
-    (subst (λ (o : Option Entry). Formed g.B.BlockStore.blocks (if is_some o then Raw else Whole) c.args.keyspace.now c.append_there.new.keyspace) (sym c.in-Some.ensures.1.stands)
-    (formed_key Raw c.args.at.now.db c.args.key.now c.args.keyspace.now.bases c.append_there.new.keyspace.bases _ _ held.within held.sound.arranged c.in_ok-append_there-in-Some.ensures.raw))
+pub returns-in_ok-change_there-in-Some-clause-forms : goal.returns-in_ok-change_there-in-Some-clause-forms
+returns-in_ok-change_there-in-Some-clause-forms g c =
+    let held = c.change_there.ensures.held in
+    formed_ok g.B.BlockStore.blocks (if is_some (look (sight g.B.BlockStore.blocks c.args.keyspace.now c.args.at.now) c.args.key.now) then Raw else Whole) c.args.keyspace.now c.change_there.new.keyspace _
+    (subst (λ (o : Option Entry). Formed g.B.BlockStore.blocks (if is_some o then Raw else Whole) c.args.keyspace.now c.change_there.new.keyspace) (sym c.in-Some.ensures.1.stands)
+    (formed_key Raw c.args.at.now.db c.args.key.now c.args.keyspace.now.bases c.change_there.new.keyspace.bases _ _ held.within held.sound.arranged c.in_ok-change_there-in-Some.ensures.raw))

@@ -10,10 +10,12 @@ returns-clause-gives g c = removed c.args.at.now c.args.keyspace.now.bases c.dro
 pub returns-clause-kept : goal.returns-clause-kept
 returns-clause-kept g c = record {
   refusals = search rules;
-  sound = c.drop_hashed.ensures.sound [] c.requires.ready.sound;
-  served = c.drop_hashed.ensures.served;
-  settings = c.drop_hashed.ensures.settings;
-  within = c.drop_hashed.ensures.within;
+  held = record {
+    sound = c.drop_hashed.ensures.sound [] c.requires.ready.sound;
+    served = c.drop_hashed.ensures.served;
+    settings = c.drop_hashed.ensures.settings;
+    within = c.drop_hashed.ensures.within;
+  };
 }
 
 pub returns-in_err-reply-clause-kept : goal.returns-in_err-reply-clause-kept

@@ -1,0 +1,42 @@
+use Rattle.std.proofs.Common.{rules, [], ap}
+use Rattle.cmd_values.proofs.Lowering.{text_intact, text_sound, text_within, text_has, text_becomes}
+use Rattle.std.proofs.Common.{sym, subst}
+use Rattle.keyspace.specs.Values.{IsRaw}
+use Rattle.cmd_values.specs.Changed.{changed}
+use Rattle.cmd_values.proofs.strings.changing.change_there.Goals as goal
+
+pub lower-requires-clause-intact : goal.lower-requires-clause-intact
+lower-requires-clause-intact g c =
+    text_intact c.args.at.now _ _ _ _ _ c.args.key.now c.in-Some.lifted c.into_text-text.result c.change_text-done.new.text c.into_text-text.ensures (ap g.B.BlockStore.blocks c.in-Some.ensures.store)
+    c.in-Some.ensures.lifts (c.in-Some.ensures.sound [] c.requires.ready.sound) c.change_text-done.ensures.changes
+
+pub returns-in-Ok-clause-held : goal.returns-in-Ok-clause-held
+returns-in-Ok-clause-held g c = record {
+  sound =
+      text_sound c.args.at.now _ _ _ _ _ c.args.key.now c.in-Some.lifted c.into_text-text.result c.change_text-done.new.text c.into_text-text.ensures (ap g.B.BlockStore.blocks c.in-Some.ensures.store)
+      c.in-Some.ensures.lifts (c.in-Some.ensures.sound [] c.requires.ready.sound) c.change_text-done.ensures.changes _ _ (ap g.B.BlockStore.blocks c.lower.ensures.store) c.lower.ensures.sound;
+  served = search rules;
+  settings = search rules;
+  within = text_within c.args.at.now c.args.keyspace.now.bases c.lift.new.self.bases _ _ _ c.args.key.now c.in-Some.lifted c.into_text-text.result c.change_text-done.new.text c.into_text-text.ensures (ap g.B.BlockStore.blocks c.in-Some.ensures.store) c.in-Some.ensures.lifts (c.in-Some.ensures.sound [] c.requires.ready.sound) c.change_text-done.ensures.changes c.lower.new.self.bases _ (ap g.B.BlockStore.blocks c.lower.ensures.store) c.in-Some.ensures.within c.lower.ensures.within;
+}
+
+pub returns-in-Err-clause-held : goal.returns-in-Err-clause-held
+returns-in-Err-clause-held g c = record {
+  sound =
+      text_sound c.args.at.now _ _ _ _ _ c.args.key.now c.in-Some.lifted c.into_text-text.result c.change_text-done.new.text c.into_text-text.ensures (ap g.B.BlockStore.blocks c.in-Some.ensures.store)
+      c.in-Some.ensures.lifts (c.in-Some.ensures.sound [] c.requires.ready.sound) c.change_text-done.ensures.changes _ _ (ap g.B.BlockStore.blocks c.lower.ensures.store) c.lower.ensures.sound;
+  served = search rules;
+  settings = search rules;
+  within = text_within c.args.at.now c.args.keyspace.now.bases c.lift.new.self.bases _ _ _ c.args.key.now c.in-Some.lifted c.into_text-text.result c.change_text-done.new.text c.into_text-text.ensures (ap g.B.BlockStore.blocks c.in-Some.ensures.store) c.in-Some.ensures.lifts (c.in-Some.ensures.sound [] c.requires.ready.sound) c.change_text-done.ensures.changes c.lower.new.self.bases _ (ap g.B.BlockStore.blocks c.lower.ensures.store) c.in-Some.ensures.within c.lower.ensures.within;
+}
+
+pub returns-in-Ok-clause-becomes : goal.returns-in-Ok-clause-becomes
+returns-in-Ok-clause-becomes g c =
+    text_becomes c.args.at.now c.args.keyspace.now.bases c.lift.new.self.bases _ _ _ c.args.key.now c.in-Some.lifted c.into_text-text.result c.change_text-done.new.text c.into_text-text.ensures (ap g.B.BlockStore.blocks c.in-Some.ensures.store)
+    c.in-Some.ensures.lifts (c.in-Some.ensures.sound [] c.requires.ready.sound) c.change_text-done.ensures.changes c.lower.new.self.bases _ (ap g.B.BlockStore.blocks c.lower.ensures.store) c.lower.ensures.means
+    (changed c.args.change) c.in-Ok.ensures.bytes
+
+pub returns-in-Ok-clause-raw : goal.returns-in-Ok-clause-raw
+returns-in-Ok-clause-raw g c i e found bytes =
+    let has = text_has c.args.at.now c.args.keyspace.now.bases c.lift.new.self.bases _ _ _ c.args.key.now c.in-Some.lifted c.into_text-text.result c.change_text-done.new.text c.into_text-text.ensures (ap g.B.BlockStore.blocks c.in-Some.ensures.store) c.in-Some.ensures.lifts (c.in-Some.ensures.sound [] c.requires.ready.sound) c.change_text-done.ensures.changes c.lower.new.self.bases _ (ap g.B.BlockStore.blocks c.lower.ensures.store) c.lower.ensures.has in
+    subst IsRaw (sym (has i e found bytes)) c.in-Ok.ensures.raw
