@@ -42,12 +42,14 @@ use Rattle.redis_core.proofs.Fitting.{Fits, fits_of, covers_or}
 
 -- where databases mean what they meant no key is lost
 module _ (old new : Bases) (m after : Blocks) (before : IsArranged old m) (later : IsArranged new after) (same : (number : ℕ) → means number new after ≡ means number old m) where
+  -- where databases mean what they meant no key table lost a key
   no_key_gone : (db : ℕ) → Lost m after (table_at old db) (table_at new db) → ⊥
   no_key_gone db lost =
       let stood = look_stands value_refs value_of value_own old db m before lost.key lost.at lost.stood.element lost.stood.found lost.stood.bytes _ refl in
       let gone = look_lacks value_refs value_of value_own new db after later lost.key lost.gone in
       let both = sym gone ∙ ap (λ w. look w lost.key) (same db) ∙ stood in cc
 
+  -- where databases mean what they meant no table of deadlines lost a key
   no_deadline_gone : (db : ℕ) → Lost m after (deadlines_at old db).table (deadlines_at new db).table → ⊥
   no_deadline_gone db lost =
       let stood = map_of-stands m (λ v. v) (deadlines_at old db).table lost.at lost.stood.element lost.key (before.timed db).keyed lost.stood.found lost.stood.bytes in
@@ -56,6 +58,7 @@ module _ (old new : Bases) (m after : Blocks) (before : IsArranged old m) (later
       let two = deadline_seen value_refs value_of value_own new db after later lost.key in
       let both = sym gone ∙ two ∙ ap (λ w. deadline_of (look w lost.key)) (same db) ∙ sym one ∙ stood in cc
 
+  -- where databases mean what they meant no table has to be settled
   pub settles_means : Settles old new m after
   settles_means = record { keys = λ db lost. absurd (no_key_gone db lost); deadlines = λ db lost. absurd (no_deadline_gone db lost) }
 
@@ -69,25 +72,30 @@ settles_none bases m = record {
 module _ (scope : Scope) (touched : Touched) (fits : Fits scope touched) (old new : Bases) (m after : Blocks) (sound : Sound old m) (within : Within scope old new m after) where
   -- a key of a database that isn't touched stays where it is, with its bytes
   module _ (db : ℕ) (apart : covers touched db → ⊥) where
+    -- the scope touches no database but those that the command touches
     untouched : scope.touches db → ⊥
     untouched touches = apart (fits.from db touches)
 
+    -- each key of a database that isn't touched has the bytes that it had
     key_kept : (at : ℕ) (e : Element Value) → item (table_at old db) at ≡ Some e → after e.key ≡ m e.key
     key_kept at e found =
         let itself : one_if (ref_eq e.key e.key) ≡ 1 = cond-true _ _ _ (ref_eq-refl e.key) in
         (within.stayed db at e (ap (λ (b : Base Value). item b.keys at) (within.same db untouched) ∙ found) (λ written. untouched (fits.tight db _ written))).bytes e.key (omega (arith, itself))
 
+    -- the key table of a database that isn't touched lost no key
     no_key_lost : Lost m after (table_at old db) (table_at new db) → ⊥
     no_key_lost lost =
         lost.gone.each lost.at lost.stood.element (ap (λ (b : Base Value). item b.keys lost.at) (within.same db untouched) ∙ lost.stood.found)
         (key_kept lost.at lost.stood.element lost.stood.found ∙ lost.stood.bytes)
 
+    -- the table of deadlines of a database that isn't touched lost no key
     no_deadline_lost : Lost m after (deadlines_at old db).table (deadlines_at new db).table → ⊥
     no_deadline_lost lost =
         let named = (sound.arranged.timed db).names lost.at lost.stood.element lost.stood.found in
         let kept : after lost.stood.element.key ≡ m lost.stood.element.key = ap after (sym named.same) ∙ key_kept named.at named.element named.found ∙ ap m named.same in
         lost.gone.each lost.at lost.stood.element (ap (λ (b : Base Value). item b.deadlines.table lost.at) (within.same db untouched) ∙ lost.stood.found) (kept ∙ lost.stood.bytes)
 
+  -- each table that lost a key is settled, if both tables of each touched database are
   pub settles_from : ((db : ℕ) → covers touched db → AreSettled new db) → Settles old new m after
   settles_from settled = record {
     keys = λ db lost. elim (covers_or touched db) [ inl here ↦ (settled db here).keys | inr apart ↦ absurd (no_key_lost db apart lost) ];
@@ -107,6 +115,7 @@ connection_shows_on blocks old mid new connection.MemorySlabs none reply s = abs
 connection_shows_on blocks old mid new (connection.DebugRehash n) none reply s = absurd none
 connection_shows_on blocks old mid new (connection.DebugDefrag n) none reply s = absurd none
 
+-- what the reply of a common command shows of the tables before it, it shows whatever follows
 shows_on : {S : Type 0} (blocks : S → Blocks) (old mid new : Keyspace S) (at : Ctx) (command : Command) → IsCommon command → (reply : List Part) → Shows blocks old mid at command reply → Shows blocks old new at command reply
 shows_on blocks old mid new at (Strings command) none reply s = tt
 shows_on blocks old mid new at (Keys command) none reply s = s
@@ -116,12 +125,14 @@ shows_on blocks old mid new at (Connection command) none reply s = connection_sh
 
 module _ {S E : Type 0} (blocks : S → Blocks) (step : S → S → Type 0) (old mid new : Keyspace S) (at : Ctx) (command : Command) (reply : List Part) (calm : IsRefusal reply → ⊥)
     (ran : Runs {E = E} blocks step old mid at command (Ok reply)) (settled : Held blocks step (shrinking (touched_of at.db command)) mid new) where
+  -- a command and the settling of its tables are together within the command's scope
   both_within : Within (scope_of at.db command) old.bases new.bases (blocks old.store) (blocks new.store)
-  both_within = further (scope_of at.db command) old.bases mid.bases new.bases (blocks old.store) (blocks mid.store) (blocks new.store) ran.kept.within
+  both_within = further (scope_of at.db command) old.bases mid.bases new.bases (blocks old.store) (blocks mid.store) (blocks new.store) ran.kept.held.within
       (within_wider value_refs (shrinking (touched_of at.db command)) (scope_of at.db command) (fits_of at.db command).into (λ number key no. absurd no) (λ number no. absurd no) mid.bases new.bases (blocks mid.store) (blocks new.store) settled.within)
 
+  -- after a command and the settling of its tables the keyspace is sound, changed within the command's scope
   held_both : Held blocks step (scope_of at.db command) old new
-  held_both = held_then blocks step (scope_of at.db command) old mid new (record { sound = ran.kept.sound; served = ran.kept.served; settings = ran.kept.settings; within = ran.kept.within })
+  held_both = held_then blocks step (scope_of at.db command) old mid new ran.kept.held
       (record {
         sound = settled.sound;
         served = settled.served;
@@ -129,22 +140,25 @@ module _ {S E : Type 0} (blocks : S → Blocks) (step : S → S → Type 0) (old
         within = within_wider value_refs (shrinking (touched_of at.db command)) (scope_of at.db command) (fits_of at.db command).into (λ number key no. absurd no) (λ number no. absurd no) mid.bases new.bases (blocks mid.store) (blocks new.store) settled.within;
       })
 
+  -- a common command with its tables settled behind it runs as it did, where the settling leaves the world
   pub settled_runs : IsCommon command → ((number : ℕ) → means number new.bases (blocks new.store) ≡ means number mid.bases (blocks mid.store)) → Runs {E = E} blocks step old new at command (Ok reply)
   settled_runs none world = record {
     shows = shows_on blocks old mid new at command none reply ran.shows;
     forms = formed_on blocks (form_of at.db (sight blocks old at) command) (shrinking (touched_of at.db command)) old mid new (λ db key no. no) ran.forms settled.within;
     answers = subst (λ w. may old.bases.seed (sight blocks old at) at.moment command reply (live w at.moment)) (sym (world at.db)) ran.answers;
-    kept = record { refusals = λ refused. absurd (calm refused); sound = held_both.sound; served = held_both.served; settings = held_both.settings; within = held_both.within };
+    kept = record { refusals = λ refused. absurd (calm refused); held = held_both };
   }
 
+  -- where the settling behind a command fails, the keyspace is sound, changed within the command's scope
   pub settled_fails : (e : E) → Runs {E = E} blocks step old new at command (Err e)
   settled_fails e = record {
     shows = tt;
     forms = tt;
     answers = tt;
-    kept = record { refusals = tt; sound = held_both.sound; served = held_both.served; settings = held_both.settings; within = held_both.within };
+    kept = record { refusals = tt; held = held_both };
   }
 
+  -- where the touched databases are settled, each table that lost a key since the command began is
   pub settled_settles : Sound old.bases (blocks old.store) → ((number : ℕ) → covers (touched_of at.db command) number → AreSettled new.bases number) → Settles old.bases new.bases (blocks old.store) (blocks new.store)
   settled_settles sound done = settles_from (scope_of at.db command) (touched_of at.db command) (fits_of at.db command) old.bases new.bases (blocks old.store) (blocks new.store) sound both_within done
 
@@ -195,15 +209,19 @@ all_settled bases sixteen below number = elim (cases_lt number 16) [
       })
 ]
 
+-- where a call succeeds what follows from a fact of it holds, if the fact does
 pub ok_so : {A E P Q : Type 0} (result : Result A E) → (P → Q) → OnOk result P → OnOk result Q
 ok_so (Ok a) f h = f h
 ok_so (Err e) f h = tt
 
+-- where only one database is touched and it is settled, each touched one is
 pub one_settled : (bases : Bases) (db : ℕ) → AreSettled bases db → (number : ℕ) → covers (One db) number → AreSettled bases number
 one_settled bases db done number here = subst (AreSettled bases) (sym here) done
 
+-- where only two databases are touched and both are settled, each touched one is
 pub two_settled : (bases : Bases) (db other : ℕ) → AreSettled bases db → AreSettled bases other → (number : ℕ) → covers (Two db other) number → AreSettled bases number
 two_settled bases db other first last number here = elim here [ inl one ↦ subst (AreSettled bases) (sym one) first | inr two ↦ subst (AreSettled bases) (sym two) last ]
 
+-- equal accounts of what is touched have the same databases settled
 pub covered : (touched same : Touched) → touched ≡ same → (bases : Bases) → ((number : ℕ) → covers same number → AreSettled bases number) → (number : ℕ) → covers touched number → AreSettled bases number
 covered touched same is bases done number here = done number (subst (λ (t : Touched). covers t number) is here)

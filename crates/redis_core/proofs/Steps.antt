@@ -4,7 +4,7 @@ use Rattle.std.specs.Prelude.{MatchResult, IfErr, codes}
 use Rattle.blocks.specs.Blocks.{Blocks, Served, no_step}
 use Rattle.plain_world.specs.Words.{Words}
 use Rattle.plain_world.specs.Worlds.{World, live}
-use Rattle.plain_model.specs.Meant.{meant, IsAsked, is_quit}
+use Rattle.plain_model.specs.Meant.{meant, asks_to_quit, IsAsked, is_quit}
 use Rattle.plain_model.specs.Outcomes.{IsRefusal}
 use Rattle.plain_model.proofs.Asked.{FitsCommand, command_fits}
 use Rattle.plain_model.specs.declared.command.Command.TheVariants.{Strings, Keys, Connection}
@@ -38,7 +38,7 @@ use Rattle.redis_core.specs.Walking.{connection_tends, Tends, IsDefragged}
 use Rattle.redis_core.proofs.Settled.{settles_none, settles_means}
 use Rattle.redis_core.proofs.Walks.{ends_once, table_of_slabs}
 use Rattle.redis_core.specs.declared.answering.Answered.{Answered}
-use Rattle.redis_core.specs.Engines.{State, keyspace_of, world_of, Keeps, Executes, Stands, Answers, answered_with, quits}
+use Rattle.redis_core.specs.Engines.{State, keyspace_of, world_of, Keeps, Executes, Stands, Answers, answered_with}
 
 -- what is told of a line that is known
 pub ok_told : {E : Type 0} (result : Result (List Part) E) (line : List ℕ) → line ≡ codes "OK" → IfOk result (λ reply. reply ≡ Simple line ∷ []) → IfOk result (λ reply. reply ≡ Simple (codes "OK") ∷ [])
@@ -47,6 +47,7 @@ ok_told (Err e) line is told = tt
 
 -- a common command makes no steps, moves nothing, and leaves the walk
 
+-- a common command on the connection or the server leaves the walk that is open
 common_connection : {S : Type 0} (blocks : S → Blocks) (heap : S → Heap) (old new : Keyspace S) (walk : Option Walk) (command : ConnectionCommand) (reply : List Part) → IsCommon (Connection command) → connection_tends blocks heap old new walk walk command reply
 common_connection blocks heap old new walk (connection.Ping text) reply common = refl
 common_connection blocks heap old new walk (connection.Echo text) reply common = refl
@@ -59,6 +60,7 @@ common_connection blocks heap old new walk connection.MemorySlabs reply common =
 common_connection blocks heap old new walk (connection.DebugRehash n) reply common = refl
 common_connection blocks heap old new walk (connection.DebugDefrag n) reply common = absurd common
 
+-- a common command of any family leaves the walk that is open
 common_tends : {S : Type 0} (blocks : S → Blocks) (heap : S → Heap) (old new : Keyspace S) (walk : Option Walk) (command : Command) (reply : List Part) → IsCommon command → Tends blocks heap old new walk walk command reply
 common_tends blocks heap old new walk (Strings command) reply common = refl
 common_tends blocks heap old new walk (Keys command) reply common = refl
@@ -69,26 +71,26 @@ module _ {S E : Type 0} (blocks : S → Blocks) (heap : S → Heap) (step_of : S
   pub family_answers : (old new : Keyspace S) (command : Command) (result : Result (List Part) E) (quit : Bool) → at.db < 16 → quit ≡ is_quit command → IsCommon command → Runs blocks step_of old new at command result
       → IfOk result (λ reply. Settles old.bases new.bases (blocks old.store) (blocks new.store)) → Answers blocks heap step_of old new walk walk at (Ok command) (answered_with at.db quit result)
   family_answers old new command (Ok reply) quit within is common r settles = record {
-    served = λ none. r.kept.served;
+    served = λ none. r.kept.held.served;
     tends = common_tends blocks heap old new walk command reply common;
-    within = λ none. r.kept.within;
+    within = λ none. r.kept.held.within;
     shows = r.shows;
     forms = λ none. r.forms;
     settles = settles;
     answers = r.answers;
     quits = is;
-    stands = record { within = within; refused = λ refused. (r.kept.refusals refused, refl); sound = r.kept.sound; settings = r.kept.settings };
+    stands = record { within = within; refused = λ refused. (r.kept.refusals refused, refl); sound = r.kept.held.sound; settings = r.kept.held.settings };
   }
   family_answers old new command (Err e) quit within is common r settles = record {
-    served = λ none. r.kept.served;
+    served = λ none. r.kept.held.served;
     tends = refl;
-    within = λ none. r.kept.within;
+    within = λ none. r.kept.held.within;
     shows = tt;
     forms = tt;
     settles = tt;
     answers = tt;
     quits = tt;
-    stands = record { within = tt; refused = tt; sound = r.kept.sound; settings = r.kept.settings };
+    stands = record { within = tt; refused = tt; sound = r.kept.held.sound; settings = r.kept.held.settings };
   }
 
   -- nothing changed
@@ -222,13 +224,14 @@ observed_keeps blocks engine inside last e sound = record {
   settings = record { limits = ap (λ x. x.bases.limits) e; seed = ap (λ x. x.bases.seed) e; turn = ap (λ x. x.bases.turn) e };
 }
 
+-- the store of an engine that used a moment and did nothing more comes from the one before by no step
 pub observed_served : {S : Type 0} (step_of : S → S → Type 0) (engine inside : State S) (last : ℕ) → inside ≡ record engine { last = last } → Served step_of engine.store inside.store
 observed_served step_of engine inside last e = subst (Served step_of engine.store) (sym (ap (λ x. x.store) e)) no_step
 
 module _ {S : Type 0} (blocks : S → Blocks) (heap : S → Heap) (step_of : S → S → Type 0) where
   -- a reply that came says the same whatever else might have come
   came_alone : {E : Type 0} (old new : Keyspace S) (before after : Option Walk) (at : Ctx) (words : Words) (answered : Answered) → Answers {E = E} blocks heap step_of old new before after at (meant words) (Ok answered)
-      → Answers {E = ⊥} blocks heap step_of old new before after at (meant words) (Ok (record { reply = answered.reply; selected = answered.selected; quit = quits words }))
+      → Answers {E = ⊥} blocks heap step_of old new before after at (meant words) (Ok (record { reply = answered.reply; selected = answered.selected; quit = asks_to_quit words }))
   came_alone old new before after at words answered a = record {
     answers = a.answers;
     quits = refl;
@@ -247,7 +250,7 @@ module _ {S : Type 0} (blocks : S → Blocks) (heap : S → Heap) (step_of : S �
       → Executes blocks heap step_of moment engine words answered.reply (record inside { bases = bases; store = store; selected = answered.selected; walk = walk })
   executes engine inside moment words answered bases store walk e alive a = record {
     last = ap (λ x. x.last) e;
-    answers = subst (λ (x : State S). Answers {E = ⊥} blocks heap step_of (keyspace_of x) (record { bases = bases; store = store }) x.walk walk (record { db = x.selected; moment = inside.last }) (meant words) (Ok (record { reply = answered.reply; selected = answered.selected; quit = quits words }))) e
+    answers = subst (λ (x : State S). Answers {E = ⊥} blocks heap step_of (keyspace_of x) (record { bases = bases; store = store }) x.walk walk (record { db = x.selected; moment = inside.last }) (meant words) (Ok (record { reply = answered.reply; selected = answered.selected; quit = asks_to_quit words }))) e
         (came_alone (keyspace_of inside) (record { bases = bases; store = store }) inside.walk walk (record { db = inside.selected; moment = inside.last }) words answered a);
     alive = alive;
   }

@@ -79,10 +79,6 @@ pub record Keeps {S : Type 0} (blocks : S → Blocks) (old new : State S) : Type
   pub sound : Sound new.bases (blocks new.store)
   pub settings : SameSettings old.bases new.bases
 
--- QUIT ends the run (Redis command reference, "QUIT")
-abbrev pub quits : Words → Bool
-quits words = asks_to_quit words
-
 -- a command that the engine answers itself
 abbrev pub own_command : Own → ConnectionCommand
 own_command (own.Select number) = connection.Select number
@@ -143,5 +139,5 @@ pub record Executes {S : Type 0} (blocks : S → Blocks) (heap : S → Heap) (st
   pub last : new.last ≡ max old.last moment
   pub answers : Answers {E = ⊥} blocks heap step_of (keyspace_of old) (keyspace_of new) old.walk new.walk
       (record { db = old.selected; moment = new.last }) (meant words)
-      (Ok (record { reply = reply; selected = new.selected; quit = quits words }))
+      (Ok (record { reply = reply; selected = new.selected; quit = asks_to_quit words }))
   pub alive : new.is_spent ≡ false

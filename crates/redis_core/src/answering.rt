@@ -86,8 +86,8 @@ fn run_family<B: BlockStore>(
     }
 }
 
-// Whether a reply is an error.
-fn is_refusal(reply: &Reply) -> bool
+/// Whether a reply is an error.
+pub fn is_refusal(reply: &Reply) -> bool
     ensures refused { IsTrue result → IsRefusal reply.now }
     ensures calm { IsFalse result → IsRefusal reply.now → ⊥ }
 {
@@ -151,8 +151,12 @@ fn debug_defrag<B: BlockStore>(
     }
 }
 
-// What a reply leads to.
-fn replied(reply: Result<Reply, Memory>, selected: usize, quit: bool) -> Result<Answered, Memory>
+/// What a reply leads to.
+pub fn replied(
+    reply: Result<Reply, Memory>,
+    selected: usize,
+    quit: bool,
+) -> Result<Answered, Memory>
     ensures { result ≡ answered_with selected quit reply }
 {
     match reply {
@@ -194,9 +198,9 @@ fn run<B: BlockStore>(
     }
 }
 
-/// Answers a request: reads its words, and runs the command that they mean. Random picks are drawn from the dice, and DEBUG
+/// Answers any request: reads its words, and runs the command that they mean. Random picks are drawn from the dice, and DEBUG
 /// DEFRAG makes steps of the walk.
-pub fn answer<B: BlockStore>(
+pub fn answer_any<B: BlockStore>(
     keyspace: &mut Keyspace<B>,
     walk: &mut Option<Walk>,
     at: &Ctx,

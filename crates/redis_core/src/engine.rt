@@ -3,21 +3,21 @@
 ghost use Rattle.std.specs.Prelude.{◌≡◌, ◌<◌, ◌⊎◌, None, false, true, max, IfOk, is_err};
 ghost use Rattle.outside.specs.Files.{IsListed};
 ghost use Rattle.blocks.specs.Blocks.{no_blocks, Served};
-ghost use Rattle.plain_model.specs.Meant.{meant};
+ghost use Rattle.plain_model.specs.Meant.{meant, asks_to_quit};
 ghost use Rattle.object_codec.specs.Limits.{AreInRange};
 ghost use Rattle.keyspace.specs.Sound.{Sound};
 ghost use Rattle.keyspace.specs.Scopes.{anything, Within};
 ghost use Rattle.keyspace.specs.Forms.{AreWhole};
 ghost use Rattle.rdb_reader.specs.Fetching.{Counts};
 ghost use Rattle.rdb_reader.specs.Loads.{Loads};
-ghost use Rattle.redis_core.specs.Engines.{world_of, keyspace_of, HasNoKey, IsNew, Stays, Keeps, Executes, quits, is_memory};
+ghost use Rattle.redis_core.specs.Engines.{world_of, keyspace_of, HasNoKey, IsNew, Stays, Keeps, Executes, is_memory};
 ghost use Rattle.redis_core.specs.Background.{EngineRests, no_steps};
 ghost use Rattle.redis_core.specs.Touched.{AsksNoMoves};
 ghost use Rattle.redis_core.specs.Walking.{IsTidy, HasLeastSlabs, EndsPass};
 ghost use Rattle.redis_core.specs.declared.background.StepsDone.{StepsDone};
 
-use crate::answering::answer;
 use crate::background::{StepsDone, work};
+use crate::short::answer;
 use blocks::BlockStore;
 use defrag::Walk;
 use keyspace::Keyspace;
@@ -157,7 +157,7 @@ impl<B: BlockStore> Engine<B> {
     /// `Memory` where memory was refused in this call or an earlier one; then the open walk, or that none is open, stays.
     pub fn execute(&mut self, request: &Request<'_>, moment: u64) -> Result<Done, Memory>
         ensures executes { IfOk result (λ done. Executes B.blocks B.heap B.step moment self.old request.now done.reply self.new) }
-        ensures quit { IfOk result (λ done. done.quit ≡ quits request.now) }
+        ensures quit { IfOk result (λ done. done.quit ≡ asks_to_quit request.now) }
         ensures moment { self.new.last ≡ max self.old.last moment }
         ensures spent { self.new.is_spent ≡ is_err result }
         ensures spent_before { self.old.is_spent ≡ true → (is_err result ≡ true) × Stays self.old self.new }
@@ -201,7 +201,7 @@ impl<B: BlockStore> Server for Engine<B> {
 
     ghost works = { λ moment plan old new. (done : StepsDone) × EngineRests B.blocks B.heap B.step moment plan old new done };
 
-    ghost quits = { quits };
+    ghost quits = { asks_to_quit };
 
     ghost spent = { λ engine. engine.is_spent };
 

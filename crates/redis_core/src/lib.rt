@@ -10,6 +10,7 @@ mod laws;
 #[cfg(test)]
 mod scan_tests;
 mod settling;
+mod short;
 #[cfg(test)]
 mod test_talk;
 #[cfg(test)]

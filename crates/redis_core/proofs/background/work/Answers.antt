@@ -1,6 +1,6 @@
 use Rattle.std.proofs.Common.{[], refl, subst, sym}
 use Rattle.keyspace.specs.Sound.{Sound}
-use Rattle.keyspace.proofs.Uses.{Sound-intact}
+use Rattle.keyspace.proofs.Uses.{sound_is_intact}
 use Rattle.redis_core.proofs.Working.{worked}
 use Rattle.redis_core.proofs.background.work.Goals as goal
 
@@ -17,4 +17,4 @@ returns-clause-works g c =
     worked g.B.BlockStore.blocks g.B.BlockStore.heap g.B.BlockStore.step c.args.moment c.args.plan c.args.keyspace.now c.expire-expired.new.self c.rehash-rehash.new.self c.pack.new.keyspace c.args.walk.now c.pack.new.walk _ e.steps e.none e.lives e.served e.limits e.seed r.steps r.store r.means r.settings p.packs refl p.means p.sound p.settings
 
 pub rehash-rehash-requires : goal.rehash-rehash-requires
-rehash-rehash-requires g c = record { intact = Sound-intact _ _ [] (c.expire-expired.ensures.sound [] c.requires.sound) }
+rehash-rehash-requires g c = record { intact = sound_is_intact _ _ [] (c.expire-expired.ensures.sound [] c.requires.sound) }

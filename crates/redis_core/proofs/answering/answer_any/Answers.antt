@@ -1,7 +1,7 @@
 use Rattle.std.proofs.Common.{subst, sym}
 use Rattle.redis_core.specs.Engines.{Answers}
 use Rattle.redis_core.proofs.Steps.{nothing_answers, refused_answers}
-use Rattle.redis_core.proofs.answering.answer.Goals as goal
+use Rattle.redis_core.proofs.answering.answer_any.Goals as goal
 
 pub returns-in-Ok-refused-clause-answers : goal.returns-in-Ok-refused-clause-answers
 returns-in-Ok-refused-clause-answers g c =
