@@ -9,12 +9,14 @@ use Rattle.rdb_grammar.specs.Files.{IsFile, IsFault}
 use Rattle.rdb_grammar.specs.declared.fault.LoadKind.{LoadKind}
 use Rattle.rdb_grammar.proofs.OneWorld.{exactly_one}
 use Rattle.rdb_reader.specs.Named.{IsFileOf}
-use Rattle.redis_core.specs.Engines.{quits}
+use Rattle.plain_model.specs.Meant.{asks_to_quit}
 use Rattle.resp_frames.specs.Ends.{End, Frames}
 use Rattle.serving.specs.Exactly as exactly
-use Rattle.serving.specs.Exactly.{NoReadFault, NoWriteFault, EndsWell, EndsWhole}
+use Rattle.serving.specs.Exactly.{NoReadFault, EndsWell}
 use Rattle.serving.specs.declared.ending.Ended.{Ended}
 use Rattle.serving.proofs.Said.{ends_exactly, completes}
+use Rattle.serving.proofs.Wholes as wholes
+use Rattle.serving.proofs.Wholes.{NoWriteFault, EndsWhole}
 use Rattle.redis_core_cli.specs.Given.{Options, Given, Wrong, Run, Outside, LeavesAll}
 use Rattle.redis_core_cli.specs.Notes.{Notes, refused_line, line_of}
 use Rattle.redis_core_cli.specs.Running.{Fails, RunsOptions, begun, not_begun, RunsOf, RunsWords, read, unread}
@@ -27,24 +29,29 @@ use Rattle.redis_core_cli.proofs.Counted.{stayed, reads_at, reads_surely, writes
 
 -- ---- the bytes of a file that is told
 
+-- the bytes of a name's file are those that the host tells
 told_file : (files : Files) (name bytes other : List ℕ) → IsTold files name bytes → IsFileOf files name other → other ≡ bytes
 told_file None name bytes other t o = absurd t
 told_file (Some all) name bytes other t o = cc
 
+-- where the host tells that a name has no file it has no bytes
 no_file : (files : Files) (name bytes : List ℕ) → IsAbsent files name → IsFileOf files name bytes → ⊥
 no_file None name bytes none p = absurd none
 no_file (Some all) name bytes none p = cc
 
+-- a name whose bytes the host tells has a file
 is_listed : (files : Files) (name bytes : List ℕ) → IsTold files name bytes → IsListed files name
 is_listed None name bytes t = absurd t
 is_listed (Some all) name bytes t = let P : Option (List ℕ) → Type 0 = λ o. IsSome o in subst P (sym t) refl
 
+-- the same bytes aren't both a file of a world and at fault at one moment
 not_both : (a b : List ℕ) (moment : ℕ) (world : World) (what : LoadKind) (at : ℕ) → a ≡ b → IsFile a moment world → IsFault b moment what at → ⊥
 not_both a b moment world what at e file fault = let P : List ℕ → Type 0 = λ x. IsFile x moment world in (exactly_one b moment).not_both world what at (subst P e file) fault
 
 -- ---- a file that is not loaded
 
 module _ (files : Files) (limit : ℕ) (name : List ℕ) (moment : ℕ) where
+  -- where a file that can be loaded isn't loaded the host failed or memory wanted
   loadable_excused : (bytes : List ℕ) (world : World) → IsTold files name bytes → length bytes ≤ limit → IsFile bytes moment world → (ending : Ending) → NotLoaded files limit name moment ending → Excused (status_of ending)
   loadable_excused bytes world t few file endings.Host n = inl refl
   loadable_excused bytes world t few file (endings.Refused what at) n = absurd (not_both bytes n.bytes moment world what at (sym (told_file files name bytes n.bytes t n.is)) file n.fault)
@@ -58,6 +65,7 @@ module _ (files : Files) (limit : ℕ) (name : List ℕ) (moment : ℕ) where
   loadable_excused bytes world t few file endings.ReadFault n = absurd n
   loadable_excused bytes world t few file endings.WriteFault n = absurd n
 
+  -- where the name has no file to be loaded the host failed or memory wanted
   absent_excused : IsAbsent files name → (ending : Ending) → NotLoaded files limit name moment ending → Excused (status_of ending)
   absent_excused none endings.Host n = inl refl
   absent_excused none (endings.Refused what at) n = absurd (no_file files name n.bytes none n.is)
@@ -71,6 +79,7 @@ module _ (files : Files) (limit : ℕ) (name : List ℕ) (moment : ℕ) where
   absent_excused none endings.ReadFault n = absurd n
   absent_excused none endings.WriteFault n = absurd n
 
+  -- a file longer than the limit that isn't loaded gives status 9, unless the host failed or memory wanted
   long_ends : (bytes : List ℕ) → IsTold files name bytes → limit < length bytes → (ending : Ending) → NotLoaded files limit name moment ending → Excused (status_of ending) ⊎ (status_of ending ≡ 9)
   long_ends bytes t long endings.Host n = inl (inl refl)
   long_ends bytes t long (endings.Refused what at) n = absurd (omega (arith, ap length (told_file files name bytes n.bytes t n.is), n.few))
@@ -94,6 +103,7 @@ module _ (files : Files) (limit : ℕ) (name : List ℕ) (moment : ℕ) where
         let Q : ℕ → Type 0 = λ x. Notes noted noted' (refused_line l x) in
         subst Q one.1 (subst P one.0 h)
 
+    -- a file within the limit with a fault gives status 7 and its line, unless the host failed or memory wanted
     refused_ends : (bytes : List ℕ) (what : LoadKind) (at : ℕ) → IsTold files name bytes → length bytes ≤ limit → IsFault bytes moment what at → (ending : Ending) → NotLoaded files limit name moment ending → Notes noted noted' (line_of ending)
         → Excused (status_of ending) ⊎ ((status_of ending ≡ 7) × Notes noted noted' (refused_line what at))
     refused_ends bytes what at t few fault endings.Host n w = inl (inl refl)
@@ -111,12 +121,15 @@ module _ (files : Files) (limit : ℕ) (name : List ℕ) (moment : ℕ) where
 -- ---- the clauses
 
 module _ (before after : Outside) (ending : Ending) (line : Notes before.notes after.notes (line_of ending)) where
+  -- a run with these options ended so, from what stood outside before it to what stands after it
   abbrev Ran : Options → Type 0
   Ran options = RunsOptions Begins may_answer may_answer never standing_clock options before after ending
 
+  -- a run with what was given ended so, which may be wrong words
   abbrev RanOf : Given → Type 0
   RanOf given = RunsOf Begins may_answer may_answer never standing_clock given before after ending
 
+  -- a run with what was given ended so, where memory may have wanted before the words were read
   abbrev ReadOf : Given → Type 0
   ReadOf given = RunsWords Begins may_answer may_answer never standing_clock given before after ending
 
@@ -126,9 +139,11 @@ module _ (before after : Outside) (ending : Ending) (line : Notes before.notes a
 
   -- ---- what is counted
 
+  -- a run that doesn't begin has no status of 5 or less
   fails_read : (options : Options) → Fails options before after ending → (n : ℕ) → n ≤ 5 → status_of ending ≡ n → ⊥
   fails_read options f n le e = omega (arith, le, e, not_begun_status before.host.files options.max_input options.file f.moment ending f.why)
 
+  -- a run with options counts a fault exactly where it is ended by it
   run_counts : (options : Options) → Ran options → CountsFaults (Run options) before after (status_of ending)
   run_counts options (begun first last ended b host s reads is) =
       let P : Ending → Type 0 = λ e. CountsFaults (Run options) before after (status_of e) in
@@ -163,15 +178,18 @@ module _ (before after : Outside) (ending : Ending) (line : Notes before.notes a
     no_file = λ none. ap (λ o. o.host) same;
   }
 
+  -- a run with wrong words counts no fault
   wrong_counts : ending ≡ endings.Usage → LeavesAll before after → CountsFaults Wrong before after (status_of ending)
   wrong_counts is same =
       let one : status_of ending ≡ 1 = ap status_of is in
       untouched_counts Wrong (λ e. omega (arith, e, one)) (λ e. omega (arith, e, one)) (λ e. omega (arith, e, one)) same
 
+  -- a run with what was given counts a fault exactly where it is ended by it
   counts_of : (given : Given) → RanOf given → CountsFaults given before after (status_of ending)
   counts_of Wrong r = wrong_counts r.0 r.1
   counts_of (Run options) r = run_counts options r
 
+  -- a run counts a fault exactly where it is ended by it, also where memory wanted for its words
   counts_read : (given : Given) → ReadOf given → CountsFaults given before after (status_of ending)
   counts_read given (read r) = counts_of given r
   counts_read given (unread same is) =
@@ -180,6 +198,7 @@ module _ (before after : Outside) (ending : Ending) (line : Notes before.notes a
 
   -- ---- when each status comes
 
+  -- status 1 comes of wrong words alone
   wrong_alone : (given : Given) → RanOf given → status_of ending ≡ 1 → given ≡ Wrong
   wrong_alone Wrong r e = refl
   wrong_alone (Run options) (begun first last ended b host s reads is) e = absurd (not_served ended 1 refl (ap status_of (sym is) ∙ e))
@@ -189,9 +208,11 @@ module _ (before after : Outside) (ending : Ending) (line : Notes before.notes a
   loaded_as : (options : Options) (name : List ℕ) (first : Standing) → options.file ≡ Some name → Begins options before first → IsLoaded before.host.files options.max_input name first.last first.world
   loaded_as options name first is b = let P : Option (List ℕ) → Type 0 = λ o. BeginsWith before.host.files options.max_input o first.last first.world in subst P is b.world
 
+  -- a run that doesn't begin didn't load the file that its options name
   not_loaded_as : (options : Options) (name : List ℕ) → options.file ≡ Some name → (f : Fails options before after ending) → NotLoaded before.host.files options.max_input name f.moment ending
   not_loaded_as options name is f = let P : Option (List ℕ) → Type 0 = λ o. NotBegun before.host.files options.max_input o f.moment ending in subst P is f.why
 
+  -- a file within the limit that has a fault ends with status 7 and its line, or the host failed or memory wanted
   refused : (options : Options) → Ran options → (name bytes : List ℕ) (what : LoadKind) (at : ℕ) → options.file ≡ Some name → IsTold before.host.files name bytes → length bytes ≤ options.max_input
       → AtFirst before.clock (λ moment. IsFault bytes moment what at) → Excused (status_of ending) ⊎ ((status_of ending ≡ 7) × Notes before.notes after.notes (refused_line what at))
   refused options (begun first last ended b host s reads is) name bytes what at file t few fault =
@@ -218,15 +239,18 @@ module _ (before after : Outside) (ending : Ending) (line : Notes before.notes a
   refusal options f (Some name) is n endings.ReadFault same seven = absurd (omega (arith, seven))
   refusal options f (Some name) is n endings.WriteFault same seven = absurd (omega (arith, seven))
 
+  -- status 7 comes only of a file that is refused
   refused_alone : (given : Given) → RanOf given → status_of ending ≡ 7 → IsRefused given before after
   refused_alone Wrong r e = absurd (omega (arith, ap status_of r.0, e))
   refused_alone (Run options) (begun first last ended b host s reads is) e = absurd (not_served ended 7 refl (ap status_of (sym is) ∙ e))
   refused_alone (Run options) (not_begun f) e = refusal options f options.file refl f.why ending refl e
 
+  -- a file of more bytes than the limit ends the run with status 9, unless the host failed or memory wanted
   long : (options : Options) → Ran options → (name bytes : List ℕ) → options.file ≡ Some name → IsTold before.host.files name bytes → options.max_input < length bytes → Excused (status_of ending) ⊎ (status_of ending ≡ 9)
   long options (begun first last ended b host s reads is) name bytes file t h = let l = loaded_as options name first file b in absurd (omega (arith, ap length (told_file before.host.files name bytes l.bytes t l.is), l.few, h))
   long options (not_begun f) name bytes file t h = long_ends before.host.files options.max_input name f.moment bytes t h ending (not_loaded_as options name file f)
 
+  -- a run whose name has no file ends by a fault of the host, or by want of memory
   absent : (options : Options) → Ran options → (name : List ℕ) → options.file ≡ Some name → IsAbsent before.host.files name → Excused (status_of ending)
   absent options (begun first last ended b host s reads is) name file none = let l = loaded_as options name first file b in absurd (no_file before.host.files name l.bytes none l.is)
   absent options (not_begun f) name file none = absent_excused before.host.files options.max_input name f.moment none ending (not_loaded_as options name file f)
@@ -238,10 +262,12 @@ module _ (before after : Outside) (ending : Ending) (line : Notes before.notes a
       let file = can.file f.moment after.clock f.read in
       loadable_excused before.host.files options.max_input name f.moment can.bytes file.0 can.is can.few file.1 ending n
 
-  served : (options : Options) → Ran options → CanBegin before options options.file → Excused (status_of ending) ⊎ ((ended : Ended) × (status_of ending ≡ status_of (ending_of ended)) × exactly.ServesExactly quits options.max_input before.input after.input ended)
-  served options (begun first last ended b host s reads is) can = inr (ended, ap status_of is, ends_exactly (may_answer options first) (may_answer options first) quits never options.max_input before.input after.input before.output after.output last ended s)
+  -- a run that can begin ends as its input does, unless the host failed or memory wanted
+  served : (options : Options) → Ran options → CanBegin before options options.file → Excused (status_of ending) ⊎ ((ended : Ended) × (status_of ending ≡ status_of (ending_of ended)) × exactly.ServesExactly asks_to_quit options.max_input before.input after.input ended)
+  served options (begun first last ended b host s reads is) can = inr (ended, ap status_of is, ends_exactly (may_answer options first) (may_answer options first) asks_to_quit never options.max_input before.input after.input before.output after.output last ended s)
   served options (not_begun f) can = inl (could_begin options f options.file can f.why)
 
+  -- each status of a run whose words were read comes exactly when it is due
   exactly_of : (given : Given) → RanOf given → Exactly given before after (status_of ending)
   exactly_of given r = record {
     wrong = λ e. let P : Given → Type 0 = RanOf in inl (ap status_of (subst P e r).0);
@@ -253,6 +279,7 @@ module _ (before after : Outside) (ending : Ending) (line : Notes before.notes a
     served = λ options e. served options (ran_as given options r e);
   }
 
+  -- each status comes exactly when it is due, also where memory wanted before the words were read
   exactly_read : (given : Given) → ReadOf given → Exactly given before after (status_of ending)
   exactly_read given (read r) = exactly_of given r
   exactly_read given (unread same is) =
@@ -269,10 +296,11 @@ module _ (before after : Outside) (ending : Ending) (line : Notes before.notes a
 
   -- ---- a run that completes
 
+  -- serving that ends whole has status 0, or 8 where memory wanted
   whole_status : (ended : Ended) → EndsWhole ended → (status_of (ending_of ended) ≡ 0) ⊎ (status_of (ending_of ended) ≡ 8)
-  whole_status ended (exactly.whole is) = inl (ap (λ e. status_of (ending_of e)) is)
-  whole_status ended (exactly.quit is) = inl (ap (λ e. status_of (ending_of e)) is)
-  whole_status ended (exactly.no_memory is) = inr (ap (λ e. status_of (ending_of e)) is)
+  whole_status ended (wholes.whole is) = inl (ap (λ e. status_of (ending_of e)) is)
+  whole_status ended (wholes.quit is) = inl (ap (λ e. status_of (ending_of e)) is)
+  whole_status ended (wholes.no_memory is) = inr (ap (λ e. status_of (ending_of e)) is)
 
   -- the host did not fail
   no_host_fault : (options : Options) (f : Fails options before after ending) (file : Option (List ℕ)) → options.file ≡ file → CanBegin before options file → NotBegun before.host.files options.max_input file f.moment ending → NoHostFault before after → status_of ending ≡ 6 → ⊥
@@ -284,43 +312,53 @@ module _ (before after : Outside) (ending : Ending) (line : Notes before.notes a
         | inr never ↦ never (counts.host.came six)
       ]
 
+  -- where the host didn't fail a run that is excused has status 0 or 8
   excused_whole : Excused (status_of ending) → (status_of ending ≡ 6 → ⊥) → (status_of ending ≡ 0) ⊎ (status_of ending ≡ 8)
   excused_whole (inl six) not = absurd (not six)
   excused_whole (inr eight) not = inr eight
 
+  -- where the output has no fault no put fails from the first state on
   no_put_fault : (options : Options) (first : Standing) → Begins options before first → (asked : List Words) → NoOutputFault options before after asked → NoWriteFault (may_answer options first) asked before.output after.output
   no_put_fault options first b asked (inl fit) = inl (fit first b)
   no_put_fault options first b asked (inr none) = inr none
 
-  run_completes : (options : Options) → Ran options → (bytes : List ℕ) (asked : List Words) (end : End) → CanBegin before options options.file → before.input.told ≡ Some bytes → Frames bytes asked end → EndsWell quits asked end → length bytes < options.max_input
+  -- a run with options completes where nothing fails: its status is 0, or 8 where memory wanted
+  run_completes : (options : Options) → Ran options → (bytes : List ℕ) (asked : List Words) (end : End) → CanBegin before options options.file → before.input.told ≡ Some bytes → Frames bytes asked end → EndsWell asks_to_quit asked end → length bytes < options.max_input
       → NoHostFault before after → NoReadFault before.input after.input → NoOutputFault options before after asked → (status_of ending ≡ 0) ⊎ (status_of ending ≡ 8)
   run_completes options (begun first last ended b host s reads is) bytes asked end can told frames well few no_host no_read no_write =
       let P : Ending → Type 0 = λ e. (status_of e ≡ 0) ⊎ (status_of e ≡ 8) in
-      let whole = completes (may_answer options first) (may_answer options first) quits never options.max_input before.input after.input before.output after.output last ended s bytes asked end told frames well few no_read (no_put_fault options first b asked no_write) in
+      let whole = completes (may_answer options first) (may_answer options first) asks_to_quit never options.max_input before.input after.input before.output after.output last ended s bytes asked end told frames well few no_read (no_put_fault options first b asked no_write) in
       subst P (sym is) (whole_status ended whole)
   run_completes options (not_begun f) bytes asked end can told frames well few no_host no_read no_write =
       excused_whole (could_begin options f options.file can f.why) (no_host_fault options f options.file refl can f.why no_host)
 
+  -- a run with what was given completes where nothing fails, unless memory wanted
   completes_of : (given : Given) → RanOf given → Completes given before after (status_of ending)
   completes_of given r options bytes asked end e can told frames well few no_host no_read no_write = run_completes options (ran_as given options r e) bytes asked end can told frames well few no_host no_read no_write
 
+  -- a run completes where nothing fails, unless memory wanted, be it before the words were read
   completes_read : (given : Given) → ReadOf given → Completes given before after (status_of ending)
   completes_read given (read r) = completes_of given r
   completes_read given (unread same is) = λ options bytes asked end e can told frames well few no_host no_read no_write. inr (ap status_of is)
 
   -- the same of the status that is answered
   module _ (given : Given) (r : ReadOf given) (status : ℕ) (is : status ≡ status_of ending) where
+    -- the run and its line in the notes conclude with the status that is answered
     pub concludes_as : Concludes given before after status
     concludes_as = record { ending = ending; is = is; run = r; line = line }
 
+    -- a fault is counted exactly where the status that is answered says that it ended the run
     pub counts_as : CountsFaults given before after status
     counts_as = let P : ℕ → Type 0 = λ s. CountsFaults given before after s in subst P (sym is) (counts_read given r)
 
+    -- the status that is answered comes exactly when it is due
     pub exactly_as : Exactly given before after status
     exactly_as = let P : ℕ → Type 0 = λ s. Exactly given before after s in subst P (sym is) (exactly_read given r)
 
+    -- where nothing fails, the status that is answered is 0, or 8 where memory wanted
     pub completes_as : Completes given before after status
     completes_as = let P : ℕ → Type 0 = λ s. Completes given before after s in subst P (sym is) (completes_read given r)
 
+    -- the line in the notes is that of an ending of the status that is answered
     pub notes_as : NotesStatus before after status
     notes_as = record { ending = ending; is = is; line = line }

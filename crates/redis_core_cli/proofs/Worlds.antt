@@ -13,7 +13,8 @@ use Rattle.plain_model.specs.Steps.{step}
 use Rattle.plain_model.proofs.Covered.{runs_covered}
 use Rattle.redis_core.proofs.Steps.{executes_step}
 use Rattle.redis_core.specs.Background.{EngineRests}
-use Rattle.redis_core.specs.Engines.{Executes, quits}
+use Rattle.plain_model.specs.Meant.{asks_to_quit}
+use Rattle.redis_core.specs.Engines.{Executes}
 use Rattle.redis_core.specs.declared.background.StepsDone.{StepsDone}
 use Rattle.serving.proofs.Said.{served_as}
 use Rattle.serving.specs.Path.{path, CutPath, whole, at_last}
@@ -47,7 +48,8 @@ record Turned (first : Timed Engine) (words : Words) (reply : List Part) (next :
   seed : next.engine.bases.seed ≡ first.engine.bases.seed
   alive : next.engine.is_spent ≡ false
 
-answered_turn : (moment : ℕ) (first : Timed Engine) (words : Words) (reply : List Part) (next : Timed Engine) → TimedReply (Executes heap_blocks heap_slabs IsClassHeapStep) works quits moment first words reply next → Turned first words reply next
+-- a request that is answered at the moment that the clock tells is one turn
+answered_turn : (moment : ℕ) (first : Timed Engine) (words : Words) (reply : List Part) (next : Timed Engine) → TimedReply (Executes heap_blocks heap_slabs IsClassHeapStep) works asks_to_quit moment first words reply next → Turned first words reply next
 answered_turn moment first words reply next a = record {
   now = a.read.now;
   read = a.read.read;
@@ -64,7 +66,8 @@ worked_world moment plan old new done r same =
     ∙ ap (λ number. live (means number old.bases (heap_blocks old.store)) new.last) r.selected
     ∙ ap (λ last. live (means old.selected old.bases (heap_blocks old.store)) last) same
 
-rested_turn : (ends : Bool) (moment : ℕ) (first : Timed Engine) (words : Words) (reply : List Part) (mid next : Timed Engine) → mid.engine.last ≡ max first.engine.last moment → Turned first words reply mid → timed.Rests (Executes heap_blocks heap_slabs IsClassHeapStep) works quits ends moment mid next → Turned first words reply next
+-- a turn stays one where what is planned is done behind it, or the request ends the run
+rested_turn : (ends : Bool) (moment : ℕ) (first : Timed Engine) (words : Words) (reply : List Part) (mid next : Timed Engine) → mid.engine.last ≡ max first.engine.last moment → Turned first words reply mid → timed.Rests (Executes heap_blocks heap_slabs IsClassHeapStep) works asks_to_quit ends moment mid next → Turned first words reply next
 rested_turn true moment first words reply mid next later t same = subst (Turned first words reply) (sym same) t
 rested_turn false moment first words reply mid next later t w =
     let r = w.0.done.1 in
@@ -79,8 +82,9 @@ rested_turn false moment first words reply mid next later t w =
       alive = r.alive ∙ t.alive;
     }
 
+-- a request that is answered and the planned work behind it are one turn
 step_turn : (first : Timed Engine) (words : Words) (reply : List Part) (next : Timed Engine) → Steps first words reply next → Turned first words reply next
-step_turn first words reply next s = rested_turn (quits words) s.moment first words reply s.mid next s.answered.answers.last (answered_turn s.moment first words reply s.mid s.answered) s.rests
+step_turn first words reply next s = rested_turn (asks_to_quit words) s.moment first words reply s.mid next s.answered.answers.last (answered_turn s.moment first words reply s.mid s.answered) s.rests
 
 -- the turns of an engine's way, also where the last one was cut off
 path_turned : (asked : List Words) (replies : List (List Part)) (first last : Timed Engine) → path Steps first asked replies last → path Turned first asked replies last
@@ -89,12 +93,14 @@ path_turned [] (reply ∷ replies) first last p = absurd p
 path_turned (words ∷ asked) [] first last p = absurd p
 path_turned (words ∷ asked) (reply ∷ replies) first last p = (p.0, step_turn first words reply p.0 p.1, path_turned asked replies p.0 last p.2)
 
+-- a way of turns and one more turn behind it are a way of turns
 one_more : (asked : List Words) (replies : List (List Part)) (first mid last : Timed Engine) (words : Words) (reply : List Part) → path Turned first asked replies mid → Turned mid words reply last → path Turned first (asked ++ words ∷ []) (replies ++ reply ∷ []) last
 one_more [] [] first mid last words reply p t = (last, subst (λ e. Turned e words reply last) p t, refl)
 one_more [] (r ∷ replies) first mid last words reply p t = absurd p
 one_more (w ∷ asked) [] first mid last words reply p t = absurd p
 one_more (w ∷ asked) (r ∷ replies) first mid last words reply p t = (p.0, p.1, one_more asked replies p.0 mid last words reply p.2 t)
 
+-- an engine's way is one of turns, also where its last step was cut off
 cut_turned : (asked : List Words) (replies : List (List Part)) (first last : Timed Engine) → CutPath Steps StepsLast first asked replies last → path Turned first asked replies last
 cut_turned asked replies first last (whole p) = path_turned asked replies first last p
 cut_turned asked replies first last (at_last others words front reply mid is are p c) =
@@ -108,6 +114,7 @@ record Turns (seed : ℕ) (first : Standing) (asked : List Words) (replies : Lis
   are : replies_of turns ≡ replies
   ran : run seed first.world turns last.world
 
+-- a way of turns is a run of the model on what the engine holds
 turned_turns : (seed : ℕ) (asked : List Words) (replies : List (List Part)) (first last : Timed Engine) → first.engine.bases.seed ≡ seed → path Turned first asked replies last → Turns seed (standing_of first) asked replies (standing_of last)
 turned_turns seed [] [] first last same p = record {
   turns = [];
@@ -127,14 +134,17 @@ turned_turns seed (words ∷ asked) (reply ∷ replies) first last same p =
       ran = (refl, world_of mid.engine, subst (λ s. step s (world_of first.engine) mid.engine.last words reply (world_of mid.engine)) same p.1.ran, next.ran);
     }
 
+-- a plain map may answer the requests by the replies of a way of turns
 turned_answers : (seed : ℕ) (asked : List Words) (replies : List (List Part)) (first last : Timed Engine) → first.engine.bases.seed ≡ seed → path Turned first asked replies last → MayAnswer seed (standing_of first) asked replies (standing_of last)
 turned_answers seed asked replies first last same p =
     let t = turned_turns seed asked replies first last same p in
     record { turns = t.turns; clocked = t.clocked; are = t.are; ran = t.ran; covered = runs_covered seed (world_of first.engine) t.turns (world_of last.engine) t.ran }
 
+-- a plain map may answer the requests by the replies of an engine's way
 pub path_answers : (seed : ℕ) (asked : List Words) (replies : List (List Part)) (first last : Timed Engine) → first.engine.bases.seed ≡ seed → path Steps first asked replies last → MayAnswer seed (standing_of first) asked replies (standing_of last)
 path_answers seed asked replies first last same p = turned_answers seed asked replies first last same (path_turned asked replies first last p)
 
+-- a plain map may answer the requests by the replies of a way, also where its last step was cut off
 pub cut_answers : (seed : ℕ) (asked : List Words) (replies : List (List Part)) (first last : Timed Engine) → first.engine.bases.seed ≡ seed → CutPath Steps StepsLast first asked replies last → MayAnswer seed (standing_of first) asked replies (standing_of last)
 cut_answers seed asked replies first last same p = turned_answers seed asked replies first last same (cut_turned asked replies first last p)
 
@@ -158,15 +168,17 @@ reads_none served.WriteFault clock = tt
 -- a run of the engine is one of its worlds
 pub run_seen : (options : Options) (before after : Outside) (ending : Ending) → RunsOptions BeginsEngine goes goes_cut is_spent engine_clock options before after ending → RunsOptions Begins may_answer may_answer never standing_clock options before after ending
 run_seen options before after ending (begun first last ended b host s reads is) =
-    let w = served_as (goes options first) (goes_cut options first) (may_answer options (standing_of first)) (may_answer options (standing_of first)) quits is_spent never standing_of (λ asked replies last p. path_answers options.seed asked replies first last b.is.seed_is p)
+    let w = served_as (goes options first) (goes_cut options first) (may_answer options (standing_of first)) (may_answer options (standing_of first)) asks_to_quit is_spent never standing_of (λ asked replies last p. path_answers options.seed asked replies first last b.is.seed_is p)
     (λ asked replies last p. cut_answers options.seed asked replies first last b.is.seed_is p) options.max_input before.input after.input before.output after.output last ended s in
     running.begun (standing_of first) w.0 ended b.begins host w.1 (reads_seen last w.0 ended after.clock w.2 reads) is
 run_seen options before after ending (not_begun f) = running.not_begun f
 
+-- what is given runs on the engine's worlds as it runs on the engine, wrong words too
 pub run_of_seen : (given : Given) (before after : Outside) (ending : Ending) → RunsEngine given before after ending → RunsOf Begins may_answer may_answer never standing_clock given before after ending
 run_of_seen Wrong before after ending r = r
 run_of_seen (Run options) before after ending r = run_seen options before after ending r
 
+-- a run of the engine is one of its worlds, also where memory wanted before the words were read
 pub run_words_seen : (given : Given) (before after : Outside) (ending : Ending) → RunsWords BeginsEngine goes goes_cut is_spent engine_clock given before after ending → RunsWords Begins may_answer may_answer never standing_clock given before after ending
 run_words_seen given before after ending (running.read r) = running.read (run_of_seen given before after ending r)
 run_words_seen given before after ending (unread same is) = running.unread same is
@@ -204,10 +216,11 @@ turned_alive (words ∷ asked) [] first last alive p = absurd p
 turned_alive (words ∷ asked) (reply ∷ replies) first last alive p = turned_alive asked replies p.0 last p.1.alive p.2
 
 module _ (limit : ℕ) (before after : Streams) (first last : Timed Engine) (ended : Ended) (goes : Goes limit before after first last ended) where
+  -- a plain map that begins with what a lent engine holds may answer as the engine does
   lent_answers : AnswersLent limit before after first last ended
   lent_answers =
       let seed = first.engine.bases.seed in
-      let w = served_as (path Steps first) (CutPath Steps StepsLast first) (MayAnswer seed (standing_of first)) (MayAnswer seed (standing_of first)) quits is_spent never standing_of (λ asked replies last p. path_answers seed asked replies first last refl p)
+      let w = served_as (path Steps first) (CutPath Steps StepsLast first) (MayAnswer seed (standing_of first)) (MayAnswer seed (standing_of first)) asks_to_quit is_spent never standing_of (λ asked replies last p. path_answers seed asked replies first last refl p)
       (λ asked replies last p. cut_answers seed asked replies first last refl p) limit before.input after.input before.output after.output last ended goes in
       record { seen = w.0; answers = w.1; left = w.2 }
 
@@ -220,6 +233,7 @@ module _ (limit : ℕ) (before after : Streams) (first last : Timed Engine) (end
     | no_memory a is ↦ inl (ap (λ e. status_of (ending_of e)) is)
   ]
 
+  -- what `serve` answers of an engine that wasn't spent, where the notes have the line of the end
   pub lent : (ending : Ending) (status : ℕ) → Notes before.notes after.notes (line_of (ending_of ended)) → first.engine.is_spent ≡ false → ending ≡ ending_of ended → status ≡ status_of ending → Lent limit before after first last status
   lent ending status line alive is of = record {
     ended = ended;

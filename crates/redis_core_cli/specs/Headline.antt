@@ -11,7 +11,7 @@ use Rattle.plain_model.specs.Runs.{run, Call, Turn, calls_of, replies_of, moment
 use Rattle.rdb_grammar.specs.Files.{IsFile, IsFault}
 use Rattle.rdb_grammar.specs.declared.fault.LoadKind.{LoadKind}
 use Rattle.rdb_reader.specs.Named.{RefusesFile}
-use Rattle.redis_core.specs.Engines.{quits}
+use Rattle.plain_model.specs.Meant.{asks_to_quit}
 use Rattle.resp_frames.specs.Ends.{End, Frames}
 use Rattle.serving.specs.declared.ending.Ended.{Ended}
 use Rattle.serving.specs.Timed.{ReadsMoment}
@@ -152,7 +152,7 @@ pub record Exactly (given : Given) (before after : Outside) (status : ℕ) : Typ
   -- a run that can begin ends as its input does
   pub served : (options : Options) → given ≡ Run options → CanBegin before options options.file
       → Excused status ⊎ ((ended : Ended) × (status ≡ status_of (ending_of ended))
-      × ServesExactly quits options.max_input before.input after.input ended)
+      × ServesExactly asks_to_quit options.max_input before.input after.input ended)
 
 -- no fault of the host: none comes that surely doesn't, or none was counted
 abbrev pub NoHostFault : Outside → Outside → Type 0
@@ -172,6 +172,6 @@ abbrev pub Completes : Given → Outside → Outside → ℕ → Type 0
 Completes given before after status =
     (options : Options) (bytes : List ℕ) (asked : List Words) (end : End) → given ≡ Run options
     → CanBegin before options options.file → before.input.told ≡ Some bytes → Frames bytes asked end
-    → EndsWell quits asked end → length bytes < options.max_input
+    → EndsWell asks_to_quit asked end → length bytes < options.max_input
     → NoHostFault before after → NoReadFault before.input after.input → NoOutputFault options before after asked
     → (status ≡ 0) ⊎ (status ≡ 8)

@@ -1,7 +1,7 @@
 -- What serving does with an engine that it is lent.
 use Rattle.std.specs.Prelude.{◌≡◌, ◌⊎◌, ℕ, true}
 use Rattle.outside.specs.Streams.{SourceSeen, SinkSeen}
-use Rattle.redis_core.specs.Engines.{quits}
+use Rattle.plain_model.specs.Meant.{asks_to_quit}
 use Rattle.serving.specs.Path.{path, CutPath}
 use Rattle.serving.specs.Served.{Served}
 use Rattle.serving.specs.Timed.{Timed}
@@ -23,7 +23,7 @@ pub record Streams : Type 0 where
 -- the replies are those of the way from this engine to the one that is left
 abbrev pub Goes : ℕ → Streams → Streams → Timed Engine → Timed Engine → Ended → Type 0
 Goes limit before after first last ended =
-    Served (path Steps first) (CutPath Steps StepsLast first) quits is_spent limit
+    Served (path Steps first) (CutPath Steps StepsLast first) asks_to_quit is_spent limit
     before.input after.input before.output after.output last ended
 
 -- the same, with the line of its end in the notes
@@ -36,7 +36,7 @@ pub record GoesNoted (limit : ℕ) (before after : Streams) (first last : Timed 
 pub record AnswersLent (limit : ℕ) (before after : Streams) (first last : Timed Engine) (ended : Ended) : Type 0 where
   pub seen : Standing
   pub answers : Served (MayAnswer first.engine.bases.seed (standing_of first))
-      (MayAnswer first.engine.bases.seed (standing_of first)) quits never limit
+      (MayAnswer first.engine.bases.seed (standing_of first)) asks_to_quit never limit
       before.input after.input before.output after.output seen ended
   pub left : (ended ≡ served.WriteFault) ⊎ ((ended ≡ served.Memory) ⊎ (seen ≡ standing_of last))
 

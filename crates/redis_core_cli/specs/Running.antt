@@ -3,7 +3,7 @@ use Rattle.std.specs.Prelude.{◌≡◌, ℕ, List, Option, Bool, false}
 use Rattle.outside.specs.Clocks.{Answers}
 use Rattle.plain_world.specs.Words.{Words}
 use Rattle.plain_world.specs.declared.reply.Part.{Part}
-use Rattle.redis_core.specs.Engines.{quits}
+use Rattle.plain_model.specs.Meant.{asks_to_quit}
 use Rattle.serving.specs.Served.{Served}
 use Rattle.serving.specs.Timed.{ReadsMoment}
 use Rattle.serving.specs.declared.ending.Ended.{Ended}
@@ -38,7 +38,7 @@ module _ {E : Type 0} (Begins : Options → Outside → E → Type 0)
   pub data RunsOptions (options : Options) (before after : Outside) (ending : Ending) : Type 0 where
     begun : (first last : E) (ended : Ended) → Begins options before first
         → UsesHost options.file before.host after.host false
-        → Served (Allowed options first) (AllowedCut options first) quits spent options.max_input
+        → Served (Allowed options first) (AllowedCut options first) asks_to_quit spent options.max_input
         before.input after.input before.output after.output last ended
         → ReadsNoMore ended (clock_of last) after.clock → ending ≡ ending_of ended
         → RunsOptions options before after ending

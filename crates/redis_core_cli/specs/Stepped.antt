@@ -7,7 +7,8 @@ use Rattle.class_heap.specs.Heap.{heap_blocks, heap_slabs, IsClassHeapStep}
 use Rattle.plain_world.specs.Words.{Words}
 use Rattle.plain_world.specs.declared.reply.Part.{Part}
 use Rattle.redis_core.specs.Background.{EngineRests}
-use Rattle.redis_core.specs.Engines.{Executes, quits}
+use Rattle.plain_model.specs.Meant.{asks_to_quit}
+use Rattle.redis_core.specs.Engines.{Executes}
 use Rattle.redis_core.specs.declared.background.StepsDone.{StepsDone}
 use Rattle.serving.specs.Path.{path, CutPath}
 use Rattle.serving.specs.Served.{Served}
@@ -32,11 +33,11 @@ works moment plan old new =
 
 -- a request is answered at the moment that the clock tells, and then what the pacers plan is done
 abbrev pub Steps : Timed Engine → Words → List Part → Timed Engine → Type 0
-Steps = TimedStep (Executes heap_blocks heap_slabs IsClassHeapStep) works quits
+Steps = TimedStep (Executes heap_blocks heap_slabs IsClassHeapStep) works asks_to_quit
 
 -- a request is answered, and nothing comes after it
 abbrev pub StepsLast : Timed Engine → Words → List Part → Timed Engine → Type 0
-StepsLast = TimedCut (Executes heap_blocks heap_slabs IsClassHeapStep) works quits
+StepsLast = TimedCut (Executes heap_blocks heap_slabs IsClassHeapStep) works asks_to_quit
 
 -- The run begins with an engine that holds the world and has the seed and the limits, sound over a store that was
 -- served from the first block on. Each pacer was tuned to the effort.
