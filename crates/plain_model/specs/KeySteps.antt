@@ -1,7 +1,7 @@
 -- What commands on keys answer, and what they leave (Redis command reference, "Generic").
 use Rattle.std.specs.Prelude.{◌≡◌, ◌⊎◌, ℕ, ◌+◌, ◌-◌, ◌/◌, ◌==◌, List, [], ◌∷◌, ℤ, pos, negsuc, int_lt, Option, None, Some, is_some, Bool, true, not, ◌&&◌, ◌||◌, bytes_eq, codes, if◌then◌else◌}
 use Rattle.std.specs.List.{count_by, Contains}
-use Rattle.plain_world.specs.Worlds.{World, Value, Str, ListOf, SetOf, HashOf, SortedOf, Entry, look, put, remove, deadline_of, look_in, put_in}
+use Rattle.plain_world.specs.Worlds.{World, Value, Str, ListOf, SetOf, HashOf, SortedOf, StreamOf, Entry, look, put, remove, deadline_of, look_in, put_in}
 use Rattle.plain_model.specs.Outcomes.{Outcome, tells, refused, leaves, IsOutcome}
 use Rattle.plain_model.specs.Deadlines.{with_due, expire, persist}
 pub use Rattle.plain_model.specs.Types.{type_name, type_at}
@@ -151,6 +151,7 @@ encodings (ListOf elements) = codes "listpack" ∷ codes "quicklist" ∷ []
 encodings (SetOf members) = codes "intset" ∷ codes "listpack" ∷ codes "hashtable" ∷ []
 encodings (HashOf fields) = codes "listpack" ∷ codes "hashtable" ∷ []
 encodings (SortedOf scores) = codes "listpack" ∷ codes "skiplist" ∷ []
+encodings (StreamOf stream) = codes "stream" ∷ []
 
 -- null where nothing stands at the key, or else the name of an encoding of the value's type
 abbrev pub IsEncoding : Option Entry → List Part → Type 0

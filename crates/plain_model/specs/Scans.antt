@@ -2,13 +2,12 @@
 use Rattle.std.specs.Prelude.{◌≡◌, ◌<◌, ◌≤◌, ◌-◌, ◌^◌, ℕ, List, ◌∷◌, length, map, Option, None, Some, is_some, Bool, true, false, bytes_eq}
 use Rattle.std.specs.List.{Contains, count_by}
 use Rattle.std.specs.FinMap.{get}
-use Rattle.std.specs.FinSet.{contains}
 use Rattle.digests.specs.Siphash.{sip}
 use Rattle.rev_cursor.specs.Place.{place, end_of}
 use Rattle.glob.specs.Pattern.{Matches}
 use Rattle.std.specs.Fmt.{decimal}
 use Rattle.plain_world.specs.Words.{in_lower_case}
-use Rattle.plain_world.specs.Worlds.{World, Value, Str, ListOf, SetOf, HashOf, SortedOf, Entry, look_in}
+use Rattle.plain_world.specs.Worlds.{World, Value, Str, ListOf, SetOf, HashOf, SortedOf, StreamOf, Entry, look_in}
 use Rattle.plain_world.specs.declared.reply.Part.{Part}
 use Rattle.plain_world.specs.declared.reply.Part.TheVariants.{Bulk, Array}
 use Rattle.plain_model.specs.Types.{type_at}
@@ -31,9 +30,10 @@ pub record Sought : Type 0 where
 abbrev pub holds : Value → List ℕ → Bool
 holds (Str bytes) element = false
 holds (ListOf elements) element = false
-holds (SetOf members) element = contains members element
+holds (SetOf members) element = is_some (get members element)
 holds (HashOf fields) element = is_some (get fields element)
 holds (SortedOf scores) element = is_some (get scores element)
+holds (StreamOf stream) element = false
 
 abbrev pub holds_at : Option Entry → List ℕ → Bool
 holds_at None element = false

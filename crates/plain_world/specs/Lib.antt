@@ -3,5 +3,6 @@ pub mod Words
 pub mod Parts
 pub mod Refusals
 pub mod Spelling
+pub mod Streams
 pub mod Worlds
 pub mod Laws

@@ -1,19 +1,20 @@
 -- What a server holds (Redis command reference, "Data types", "SELECT", "EXPIRE").
 use Rattle.std.specs.Prelude.{◌≡◌, ◌==◌, ℕ, ◌-◌, ◌^◌, List, Option, None, Some, Bool, true, false, nat_le, if◌then◌else◌, ℤ}
-use Rattle.std.specs.FinSet.{FinSet}
 use Rattle.std.specs.FinMap.{FinMap, empty, get, insert, retain_keys}
 use Rattle.std.specs.FinMap as map
 use Rattle.std.specs.Cmp.Lexicographic.{slice_cmp}
 use Rattle.std.specs.Ordering.{nat_cmp}
+use Rattle.plain_world.specs.Streams.{Stream}
 
--- a value: a string; a list; a set; a hash, which is a finite map from fields to values; a sorted set, which is a
--- finite map from members to whole scores
+-- a value: a string; a list; a set, which is a finite map that has nothing at each member; a hash, which is a finite
+-- map from fields to values; a sorted set, which is a finite map from members to whole scores; a stream
 pub data Value : Type 0 where
   Str : List ℕ → Value
   ListOf : List (List ℕ) → Value
-  SetOf : FinSet (slice_cmp nat_cmp) → Value
+  SetOf : FinMap (slice_cmp nat_cmp) (Unit {0}) → Value
   HashOf : FinMap (slice_cmp nat_cmp) (List ℕ) → Value
   SortedOf : FinMap (slice_cmp nat_cmp) ℤ → Value
+  StreamOf : Stream → Value
 
 -- what stands at a key: its value, and a deadline in milliseconds where it has one
 pub record Entry : Type 0 where
