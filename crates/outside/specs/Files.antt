@@ -3,6 +3,7 @@ use Rattle.std.specs.Prelude.{◌≡◌, ℕ, ◌++◌, Bool, true, false, List,
 use Rattle.std.specs.List.{zip, slice_get}
 use Rattle.std.specs.Map.{lookup}
 use Rattle.std.specs.Global.{Vec}
+use Rattle.std.specs.Io.KnownBytes.{WriteAppends}
 use Rattle.outside.specs.Counts.{Tallies}
 use Rattle.outside.specs.Streams.{SourceSeen, Takes, Fits, without}
 
@@ -10,10 +11,11 @@ use Rattle.outside.specs.Streams.{SourceSeen, Takes, Fits, without}
 abbrev pub Files : Type 0
 Files = Option (List ℕ → Option (List ℕ))
 
--- a host: the files, and the one that is begun as a source, of which nothing is left where none is begun; its faults
+-- a host: the files, whether one is begun, and that one as a source, of which nothing is left where none is; its faults
 -- are those of calls of both kinds, and none follows that is sure but by a name that has no file
 pub record HostSeen : Type 0 where
   pub files : Files
+  pub begun : Bool
   pub reading : SourceSeen
 
 -- the bytes of the file of a name, where the k-th file is that of the k-th name:
@@ -31,10 +33,11 @@ abbrev pub IsListed : Files → List ℕ → Type 0
 IsListed None name = ⊥
 IsListed (Some files) name = IsSome (files name)
 
--- the file of a name is begun at its first byte
+-- the file of a name is begun at its first byte, or none is
 pub record Begins {E : Type 0} (old new : HostSeen) (name : List ℕ) (result : Result (Unit {0}) E) : Type 0 where
   pub same : new.files ≡ old.files
-  pub begun : OnOk result (HasLeft new.files name new.reading.told)
+  pub begun : new.begun ≡ is_ok result
+  pub left : OnOk result (HasLeft new.files name new.reading.told)
   pub none : OnErr result (new.reading.told ≡ Some [])
   pub tally : Tallies old.reading.faults new.reading.faults ((old.reading.sure ≡ true) × IsListed old.files name) result
   pub sure : old.reading.sure ≡ true → new.reading.sure ≡ true
@@ -42,6 +45,7 @@ pub record Begins {E : Type 0} (old new : HostSeen) (name : List ℕ) (result : 
 -- the next bytes of the file that is begun are taken
 pub record TakesOf {E : Type 0} (old new : HostSeen) (result : Result ℕ E) (into : List ℕ) : Type 0 where
   pub same : new.files ≡ old.files
+  pub begun : new.begun ≡ old.begun
   pub takes : Takes old.reading new.reading result into
 
 -- the bytes of the file that is begun: none, where none is
@@ -49,18 +53,19 @@ abbrev pub begun_bytes : List (Vec ℕ) → Option ℕ → List ℕ
 begun_bytes files None = []
 begun_bytes files (Some k) = elim (slice_get files k) [ None ↦ [] | Some file ↦ file.items ]
 
--- where no file is begun, it is told that nothing is left; of an open file what its reader tells
-abbrev pub left_by : {F : Type 0} → (F → Option (List ℕ)) → Option F → Option (List ℕ)
-left_by remaining None = Some []
-left_by remaining (Some file) = remaining file
+-- where no file is open, it is told that there are no bytes; of an open file what its reader or its writer tells
+abbrev pub told_by : {F : Type 0} → (F → Option (List ℕ)) → Option F → Option (List ℕ)
+told_by bytes None = Some []
+told_by bytes (Some file) = bytes file
 
--- a shelf: the files, and the name whose bytes are made, where they are told; whether a name is made; how many faults
--- there were in calls of both kinds, up to the greatest u64; and how many bytes more a put takes without one, where it
--- surely does
+-- a shelf: the files, and the name whose bytes are made, where they are told; whether a name is made; the bytes that
+-- were put behind those that it began with, where they are told; how many faults there were in calls of both kinds, up
+-- to the greatest u64; and how many bytes more a put takes without one, where it surely does
 pub record ShelfSeen : Type 0 where
   pub files : Files
   pub made : Option (List ℕ)
   pub begun : Bool
+  pub written : Option (List ℕ)
   pub faults : ℕ
   pub room : Option ℕ
 
@@ -91,6 +96,7 @@ pub record Makes {E : Type 0} (old new : ShelfSeen) (name : List ℕ) (result : 
 pub record PutsOn {E : Type 0} (old new : ShelfSeen) (result : Result ℕ E) (piece : List ℕ) : Type 0 where
   pub begun : OnOk result (old.begun ≡ true)
   pub same : new.begun ≡ old.begun
+  pub bytes : WriteAppends old.written new.written result piece
   pub made : new.made ≡ old.made
   pub grown : (name bytes : List ℕ) → old.made ≡ Some name → Has old.files name bytes
       → IfOk result (λ n. Has new.files name (bytes ++ take n piece))
@@ -106,3 +112,7 @@ one_file name bytes = Some (λ n. if bytes_eq n name then Some bytes else None)
 -- the name that is made, where it is the one of a shelf that has no other
 abbrev pub made_of : List ℕ → Bool → Option (List ℕ)
 made_of name begun = if begun then Some name else None
+
+-- the bytes that were put into a name: none, where none is made
+abbrev pub put_bytes : Bool → List ℕ → List ℕ
+put_bytes begun bytes = if begun then bytes else []

@@ -1,6 +1,9 @@
 -- What is told of pacers and of a conductor over them.
-use Rattle.std.specs.Prelude.{◌≡◌, ℕ, Bool, true, false, List, [], ◌∷◌, Option, Some, None, ⊤, min, not}
+use Rattle.std.specs.Prelude.{◌≡◌, ℕ, Bool, true, false, List, [], ◌∷◌, Option, Some, None, ⊤, min, not, map, drop}
+use Rattle.std.specs.Global.{Global}
+use Rattle.std.specs.declared.dyn_box.DynBox.{DynBox}
 use Rattle.outside.specs.declared.pacing.Plan.{Plan}
+use Rattle.outside.specs.declared.pacing.Conductor.{Conductor}
 
 -- the plans that are left, and whether plans by the effort alone follow them
 pub record Plans : Type 0 where
@@ -68,3 +71,7 @@ pub data Conducts : List PacerSeen → Plan → List PacerSeen → Type 0 where
   Asks : (front front' : PacerSeen) (pacers : List PacerSeen) (plan : Plan) → SaysSpent front.plans false
       → Paces front plan front' → Conducts (front ∷ pacers) (cut plan) (front' ∷ pacers)
   HasNone : Conducts [] no_plan []
+
+-- the pacers of a conductor that follow
+abbrev pub following : {X : Type 0} {F : X → Type 0} → (DynBox X Global F → PacerSeen) → Conductor X F → List PacerSeen
+following pacing conductor = map pacing (drop conductor.front conductor.pacers.items)

@@ -1,7 +1,7 @@
 //! How much background work is done between commands.
 
 ghost use Rattle.std.specs.Prelude.{◌≡◌, Some, None, map, drop, List, [], ℕ, false, true};
-ghost use Rattle.outside.specs.Pacing.{PacerSeen, tuned, cut, Paces, SaysSpent, Conducts};
+ghost use Rattle.outside.specs.Pacing.{PacerSeen, tuned, cut, Paces, SaysSpent, Conducts, following};
 
 /// How many steps of each kind of background work are to be done.
 #[derive(Clone, Copy, Debug, PartialEq, Eq)]
@@ -34,19 +34,19 @@ impl Plan {
 /// What plans background work.
 pub trait Pacer: Drop {
     // What is told of it.
-    ghost seen: { Self → PacerSeen };
+    ghost pacing: { Self → PacerSeen };
 
     /// Sets the effort that its plans may follow.
     fn tune(&mut self, effort: u32)
-        ensures { seen self.new ≡ tuned (seen self.old) effort };
+        ensures { pacing self.new ≡ tuned (pacing self.old) effort };
 
     /// The next plan: three zeros where it is spent.
     fn plan(&mut self) -> Plan
-        ensures { Paces (seen self.old) result (seen self.new) };
+        ensures { Paces (pacing self.old) result (pacing self.new) };
 
     /// Whether no plan follows.
     fn spent(&self) -> bool
-        ensures { SaysSpent (seen self.now).plans result };
+        ensures { SaysSpent (pacing self.now).plans result };
 }
 
 /// A pacer of a list of plans.
@@ -60,7 +60,7 @@ pub struct ListPacer {
 impl ListPacer {
     /// A pacer of these plans, with an effort of 0.
     pub fn new(plans: Vec<Plan>) -> ListPacer
-        ensures { ⟦<ListPacer as Pacer>⟧.seen result ≡ record { effort = 0; plans = Some (record { left = plans.items; goes_on = false }) } }
+        ensures { ⟦<ListPacer as Pacer>⟧.pacing result ≡ record { effort = 0; plans = Some (record { left = plans.items; goes_on = false }) } }
     {
         ListPacer {
             plans,
@@ -71,7 +71,7 @@ impl ListPacer {
 }
 
 impl Pacer for ListPacer {
-    ghost seen = { λ p. record { effort = p.effort; plans = Some (record { left = drop p.at p.plans.items; goes_on = false }) } };
+    ghost pacing = { λ p. record { effort = p.effort; plans = Some (record { left = drop p.at p.plans.items; goes_on = false }) } };
 
     fn tune(&mut self, effort: u32) {
         self.effort = effort;
@@ -101,14 +101,14 @@ pub struct SteadyPacer {
 impl SteadyPacer {
     /// A pacer with an effort of 0.
     pub fn new() -> SteadyPacer
-        ensures { ⟦<SteadyPacer as Pacer>⟧.seen result ≡ record { effort = 0; plans = Some (record { left = []; goes_on = true }) } }
+        ensures { ⟦<SteadyPacer as Pacer>⟧.pacing result ≡ record { effort = 0; plans = Some (record { left = []; goes_on = true }) } }
     {
         SteadyPacer { effort: 0 }
     }
 }
 
 impl Pacer for SteadyPacer {
-    ghost seen = { λ p. record { effort = p.effort; plans = Some (record { left = []; goes_on = true }) } };
+    ghost pacing = { λ p. record { effort = p.effort; plans = Some (record { left = []; goes_on = true }) } };
 
     fn tune(&mut self, effort: u32) {
         self.effort = effort;
@@ -129,21 +129,21 @@ impl Pacer for SteadyPacer {
 
 // Sets a pacer's effort.
 fn tune_one(pacer: &mut Box<dyn Pacer>, effort: u32)
-    ensures { seen pacer.new ≡ tuned (seen pacer.old) effort }
+    ensures { pacing pacer.new ≡ tuned (pacing pacer.old) effort }
 {
     pacer.tune(effort);
 }
 
 // Whether no plan of a pacer follows.
 fn is_spent(pacer: &Box<dyn Pacer>) -> bool
-    ensures { SaysSpent (seen pacer.now).plans result }
+    ensures { SaysSpent (pacing pacer.now).plans result }
 {
     pacer.spent()
 }
 
 // The next plan of a pacer.
 fn plan_of(pacer: &mut Box<dyn Pacer>) -> Plan
-    ensures { Paces (seen pacer.old) result (seen pacer.new) }
+    ensures { Paces (pacing pacer.old) result (pacing pacer.new) }
 {
     pacer.plan()
 }
@@ -158,8 +158,7 @@ pub struct Conductor {
 impl Conductor {
     /// A conductor over these pacers, each of which is tuned to this effort.
     pub fn new(pacers: Vec<Box<dyn Pacer>>, effort: u32) -> Conductor
-        ensures tuned { map (λ p. seen p) result.pacers.items ≡ map (λ p. tuned (seen p) effort) pacers.items }
-        ensures front { result.front ≡ 0 }
+        ensures { following (λ p. pacing p) result ≡ map (λ p. tuned (pacing p) effort) pacers.items }
     {
         let mut pacers = pacers;
         for at in 0..pacers.len() {
@@ -170,7 +169,7 @@ impl Conductor {
 
     /// The next plan: that of the first pacer which isn't spent, each number cut at 1,000. Three zeros where there is none.
     pub fn next(&mut self) -> Plan
-        ensures { Conducts (map (λ p. seen p) (drop self.old.front self.old.pacers.items)) result (map (λ p. seen p) (drop self.new.front self.new.pacers.items)) }
+        ensures { Conducts (following (λ p. pacing p) self.old) result (following (λ p. pacing p) self.new) }
     {
         'pacers: while self.front < self.pacers.len() {
             if !is_spent(&self.pacers[self.front]) {

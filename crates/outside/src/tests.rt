@@ -5,9 +5,11 @@ use crate::{
     MemShelf, MemSink, MemSource, Pacer, Plan, ReadFault, Shelf, Sink, Source, StdSink, StdSource,
     SteadyPacer, SystemClock, WriteFault,
 };
+use std::cell::Cell;
 use std::io::{ErrorKind, Read, Write};
 use std::test::Fail;
-use std::{fs, io};
+use std::time::Duration;
+use std::{fs, io, time};
 
 // A reader and writer whose first call is interrupted, and whose third fails.
 #[derive(Drop)]
@@ -172,6 +174,7 @@ fn shelves(rt: HostRuntime) -> Result<(), Fail> {
     assert_eq!(rt; shelf.put(b"de"), Ok(1));
     assert_eq!(rt; shelf.put(b"e"), Err(HostFault));
     assert_eq!(rt; shelf.written(), b"abcd".as_slice());
+    // a name may be made again
     assert_eq!(rt; shelf.make("a"), Ok(()));
     assert_eq!(rt; shelf.written(), b"".as_slice());
     let name = "shelves.bytes";
@@ -185,6 +188,28 @@ fn shelves(rt: HostRuntime) -> Result<(), Fail> {
     Ok(())
 }
 
+// A clock that can be read each second time, and tells its count of readings in seconds.
+#[derive(Drop)]
+struct Stopped {
+    readings: Cell<u64>,
+}
+
+impl time::Clock for Stopped {
+    fn monotonic(&self) -> io::Result<Duration> {
+        Ok(Duration::ZERO)
+    }
+
+    fn since_1970(&self) -> io::Result<Duration> {
+        let reading = self.readings.get().saturating_add(1);
+        self.readings.set(reading);
+        if reading % 2 == 0 {
+            Ok(Duration::from_secs(reading))
+        } else {
+            Err(io::Error::from(ErrorKind::Unsupported))
+        }
+    }
+}
+
 #[test]
 fn clocks(rt: HostRuntime) -> Result<(), Fail> {
     let mut clock = ListClock::new(Vec::from_slice(rt.alloc(), &[7u64, 5])?);
@@ -192,6 +217,13 @@ fn clocks(rt: HostRuntime) -> Result<(), Fail> {
     assert_eq!(rt; clock.now(), 5);
     assert_eq!(rt; clock.now(), 5);
     assert_eq!(rt; ListClock::new(Vec::new(rt.alloc())).now(), 0);
+    // where it can't be read the last answer comes again, at first 0
+    let mut stopped = SystemClock::new(Stopped {
+        readings: Cell::new(0),
+    });
+    for moment in [0, 2_000, 2_000, 4_000] {
+        assert_eq!(rt; stopped.now(), moment);
+    }
     // past the first day of 2020
     assert!(rt; SystemClock::new(rt).now() > 1_577_836_800_000);
     Ok(())

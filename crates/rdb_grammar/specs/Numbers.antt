@@ -3,7 +3,7 @@ use Rattle.std.specs.Prelude.{ℕ}
 use Rattle.rdb_grammar.specs.declared.fault.LoadKind.{LoadKind}
 use Rattle.rdb_grammar.specs.declared.fault.LoadKind.TheVariants as kinds
 
--- L1 to L23
+-- L1 to L24, of which L20 is not used
 abbrev pub number_of : LoadKind → ℕ
 number_of kinds.NotRdb = 1
 number_of kinds.Version = 2
@@ -24,7 +24,7 @@ number_of kinds.ListNode = 16
 number_of kinds.ScoreForm = 17
 number_of kinds.ScoreRange = 18
 number_of kinds.StreamShape = 19
-number_of kinds.Groups = 20
 number_of kinds.Deadline = 21
 number_of kinds.Checksum = 22
 number_of kinds.TooLong = 23
+number_of kinds.Group = 24

@@ -5,7 +5,7 @@ ghost use Rattle.rdb_grammar.specs.Numbers.{number_of};
 
 use thiserror::Error;
 
-/// Why a file is refused, numbered from L1 on.
+/// Why a file is refused, numbered from L1 on. L20 is not used.
 #[derive(Clone, Copy, Debug, PartialEq, Eq, Error)]
 pub enum LoadKind {
     /// The first bytes, up to five, do not begin `REDIS`.
@@ -65,9 +65,6 @@ pub enum LoadKind {
     /// A stream breaks its shape.
     #[error("a stream that breaks its shape")]
     StreamShape = 19,
-    /// A stream has groups.
-    #[error("groups of a stream")]
-    Groups = 20,
     /// A deadline lies below 0.
     #[error("a deadline below 0")]
     Deadline = 21,
@@ -77,10 +74,13 @@ pub enum LoadKind {
     /// A string is longer than 512 MB.
     #[error("a string that is too long")]
     TooLong = 23,
+    /// A name or a pending id stands twice in the groups of a stream, or its consumers do not own each pending id once.
+    #[error("a group that breaks its shape")]
+    Group = 24,
 }
 
 impl LoadKind {
-    /// The number of the kind, 1 to 23.
+    /// The number of the kind, 1 to 24 but 20.
     pub fn number(self) -> u8
         ensures { result ≡ number_of self }
     {

@@ -1,8 +1,9 @@
 //! A host and a shelf over memory, which tell their files.
 
-ghost use Rattle.std.specs.Prelude.{◌≡◌, ◌≤◌, ◌-◌, Option, Some, None, IfSome, IfNone, [], length, take, drop, vec_len, false, map, bytes_eq, string_bytes};
+ghost use Rattle.std.specs.Prelude.{◌≡◌, ◌≤◌, ◌<◌, ◌-◌, ◌&&◌, min, Option, Some, None, IfSome, IfNone, IfOk, [], length, take, drop, vec_len, true, false, is_some, if◌then◌else◌, map, bytes_eq, string_bytes};
 ghost use Rattle.std.specs.List.{position};
-ghost use Rattle.outside.specs.Files.{file_of, begun_bytes, one_file, made_of};
+ghost use Rattle.outside.specs.Calls.{IsCall, has_place};
+ghost use Rattle.outside.specs.Files.{Begins, TakesOf, Makes, PutsOn, file_of, begun_bytes, one_file, made_of, put_bytes};
 ghost use Rattle.outside.specs.Streams.{is_empty, sure_room};
 
 use crate::memory::streams::{copy_front, write_over};
@@ -27,7 +28,9 @@ impl MemHost {
     /// The first of equal names counts, and a name without a file is as if it weren't there.
     /// The calls of both kinds whose numbers, from 0, stand in `failing` fail and take nothing.
     pub fn new(names: Vec<String>, files: Vec<Vec<u8>>, failing: Vec<u64>) -> MemHost
-        ensures { ⟦<MemHost as Host>⟧.seen result ≡ record { files = Some (file_of (map string_bytes names.items) (map (λ f. f.items) files.items)); reading = record { told = Some []; faults = 0; sure = is_empty failing.items } } }
+        ensures seen { ⟦<MemHost as Host>⟧.seen result ≡ record { files = Some (file_of (map string_bytes names.items) (map (λ f. f.items) files.items)); begun = false; reading = record { told = Some []; faults = 0; sure = is_empty failing.items } } }
+        ensures failing { result.failing ≡ failing }
+        ensures calls { result.calls ≡ 0 }
     {
         MemHost {
             names,
@@ -42,9 +45,12 @@ impl MemHost {
 }
 
 impl Host for MemHost {
-    ghost seen = { λ s. record { files = Some (file_of (map string_bytes s.names.items) (map (λ f. f.items) s.files.items)); reading = record { told = Some (drop s.at (begun_bytes s.files.items s.begun)); faults = s.faults; sure = is_empty s.failing.items } } };
+    ghost seen = { λ s. record { files = Some (file_of (map string_bytes s.names.items) (map (λ f. f.items) s.files.items)); begun = is_some s.begun; reading = record { told = Some (drop s.at (begun_bytes s.files.items s.begun)); faults = s.faults; sure = is_empty s.failing.items } } };
 
-    fn begin(&mut self, name: &str) -> Result<(), HostFault> {
+    fn begin(&mut self, name: &str) -> Result<(), HostFault>
+        ensures begins { Begins (⟦<MemHost as Host>⟧.seen self.old) (⟦<MemHost as Host>⟧.seen self.new) name.now result }
+        ensures called { IsCall (record { failing = self.old.failing.items; calls = self.old.calls }) (record { failing = self.new.failing.items; calls = self.new.calls }) (is_some (file_of (map string_bytes self.old.names.items) (map (λ f. f.items) self.old.files.items) name.now)) result }
+    {
         let call = self.calls;
         self.calls = self.calls.saturating_add(1);
         self.at = 0;
@@ -61,7 +67,12 @@ impl Host for MemHost {
         Ok(())
     }
 
-    fn take(&mut self, into: &mut [u8]) -> Result<usize, HostFault> {
+    fn take(&mut self, into: &mut [u8]) -> Result<usize, HostFault>
+        ensures bound { IfOk result (λ n. n ≤ length into.new) }
+        ensures takes { TakesOf (⟦<MemHost as Host>⟧.seen self.old) (⟦<MemHost as Host>⟧.seen self.new) result into.new }
+        ensures called { IsCall (record { failing = self.old.failing.items; calls = self.old.calls }) (record { failing = self.new.failing.items; calls = self.new.calls }) true result }
+        ensures long { IfOk result (λ n. n ≡ min (length into.new) (length (begun_bytes self.old.files.items self.old.begun) - self.old.at)) }
+    {
         let call = self.calls;
         self.calls = self.calls.saturating_add(1);
         if self.failing.contains(&call) {
@@ -69,7 +80,8 @@ impl Host for MemHost {
             return Err(HostFault);
         }
         let bytes = bytes_begun(&self.files, self.begun);
-        let count = copy_front(&bytes[self.at..], into, usize::MAX);
+        let count = into.len().min(bytes.len() - self.at);
+        copy_front(&bytes[self.at..], into, count);
         self.at += count;
         Ok(count)
     }
@@ -94,7 +106,9 @@ impl MemShelf {
     /// `make` of another name fails, and so does a put with no room left. The calls of both kinds whose numbers, from 0,
     /// stand in `failing` fail and put nothing.
     pub fn new(name: String, room: Vec<u8>, failing: Vec<u64>) -> MemShelf
-        ensures { ⟦<MemShelf as Shelf>⟧.seen result ≡ record { files = one_file (string_bytes name) []; made = None; begun = false; faults = 0; room = sure_room failing.items (vec_len room) } }
+        ensures seen { ⟦<MemShelf as Shelf>⟧.seen result ≡ record { files = one_file (string_bytes name) []; made = None; begun = false; written = Some []; faults = 0; room = sure_room failing.items (vec_len room) } }
+        ensures failing { result.failing ≡ failing }
+        ensures calls { result.calls ≡ 0 }
     {
         MemShelf {
             name,
@@ -116,9 +130,12 @@ impl MemShelf {
 }
 
 impl Shelf for MemShelf {
-    ghost seen = { λ s. record { files = one_file (string_bytes s.name) (take s.at s.room.items); made = made_of (string_bytes s.name) s.begun; begun = s.begun; faults = s.faults; room = sure_room s.failing.items (vec_len s.room - s.at) } };
+    ghost seen = { λ s. record { files = one_file (string_bytes s.name) (take s.at s.room.items); made = made_of (string_bytes s.name) s.begun; begun = s.begun; written = Some (put_bytes s.begun (take s.at s.room.items)); faults = s.faults; room = sure_room s.failing.items (vec_len s.room - s.at) } };
 
-    fn make(&mut self, name: &str) -> Result<(), HostFault> {
+    fn make(&mut self, name: &str) -> Result<(), HostFault>
+        ensures makes { Makes (⟦<MemShelf as Shelf>⟧.seen self.old) (⟦<MemShelf as Shelf>⟧.seen self.new) name.now result }
+        ensures called { IsCall (record { failing = self.old.failing.items; calls = self.old.calls }) (record { failing = self.new.failing.items; calls = self.new.calls }) (bytes_eq (string_bytes self.old.name) name.now) result }
+    {
         let call = self.calls;
         self.calls = self.calls.saturating_add(1);
         self.begun = false;
@@ -135,7 +152,13 @@ impl Shelf for MemShelf {
         Ok(())
     }
 
-    fn put(&mut self, piece: &[u8]) -> Result<usize, HostFault> {
+    fn put(&mut self, piece: &[u8]) -> Result<usize, HostFault>
+        ensures bound { IfOk result (λ n. n ≤ length piece.now) }
+        ensures some { IfOk result (λ n. 0 < length piece.now → 0 < n) }
+        ensures puts { PutsOn (⟦<MemShelf as Shelf>⟧.seen self.old) (⟦<MemShelf as Shelf>⟧.seen self.new) result piece.now }
+        ensures called { IsCall (record { failing = self.old.failing.items; calls = self.old.calls }) (record { failing = self.new.failing.items; calls = self.new.calls }) (self.old.begun && has_place (vec_len self.old.room - self.old.at) (length piece.now)) result }
+        ensures long { IfOk result (λ n. n ≡ min (length piece.now) (vec_len self.old.room - self.old.at)) }
+    {
         let call = self.calls;
         self.calls = self.calls.saturating_add(1);
         let full = self.at == self.room.len() && !piece.is_empty();

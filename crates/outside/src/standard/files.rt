@@ -1,7 +1,7 @@
 //! The real host and shelf.
 
 ghost use Rattle.std.specs.Prelude.{◌≡◌, None, Some, [], false, is_some};
-ghost use Rattle.outside.specs.Files.{left_by};
+ghost use Rattle.outside.specs.Files.{told_by};
 
 use crate::standard::streams::{read_uninterrupted, write_uninterrupted};
 use crate::{Host, HostFault, Shelf};
@@ -31,7 +31,7 @@ impl<R: Files> FileHost<R> {
 }
 
 impl<R: Files> Host for FileHost<R> {
-    ghost seen = { λ s. record { files = None; reading = record { told = left_by (λ f. R.File.remaining f) s.file; faults = s.faults; sure = false } } };
+    ghost seen = { λ s. record { files = None; begun = is_some s.file; reading = record { told = told_by (λ f. R.File.remaining f) s.file; faults = s.faults; sure = false } } };
 
     fn begin(&mut self, name: &str) -> Result<(), HostFault> {
         match fs::open(&self.runtime, name) {
@@ -84,7 +84,7 @@ impl<R: Files> FileShelf<R> {
 }
 
 impl<R: Files> Shelf for FileShelf<R> {
-    ghost seen = { λ s. record { files = None; made = None; begun = is_some s.file; faults = s.faults; room = None } };
+    ghost seen = { λ s. record { files = None; made = None; begun = is_some s.file; written = told_by (λ f. R.File.contents f) s.file; faults = s.faults; room = None } };
 
     fn make(&mut self, name: &str) -> Result<(), HostFault> {
         match fs::create(&self.runtime, name) {

@@ -1,16 +1,18 @@
 //! The real source and sink.
 
-ghost use Rattle.std.specs.Prelude.{◌≡◌, ◌≤◌, ◌<◌, false, None, IfOk, length};
+ghost use Rattle.std.specs.Prelude.{◌≡◌, ◌≢◌, ◌≤◌, ◌<◌, false, None, IfOk, IfErr, length};
+ghost use Rattle.std.specs.IoError.{error_kind};
 ghost use Rattle.std.specs.Io.KnownBytes.{ReadConsumes, WriteAppends};
 
 use crate::{ReadFault, Sink, Source, WriteFault};
 use std::io;
 use std::io::{ErrorKind, Read, Write};
 
-// Reads, and reads again where that is interrupted.
+// Reads, and reads again where that is interrupted: no error says so.
 pub(crate) fn read_uninterrupted<R: Read>(reader: &mut R, into: &mut [u8]) -> io::Result<usize>
     ensures bound { IfOk result (λ n. n ≤ length into.new) }
     ensures bytes { ReadConsumes (R.remaining reader.old) (R.remaining reader.new) result into.new }
+    ensures lasting { IfErr result (λ e. error_kind e ≢ ErrorKind.Interrupted) }
 {
     'tries: for _ in 0..u64::MAX {
         match reader.read(into) {
@@ -22,15 +24,16 @@ pub(crate) fn read_uninterrupted<R: Read>(reader: &mut R, into: &mut [u8]) -> io
             }
         }
     }
-    Err(io::Error::from(ErrorKind::Interrupted))
+    Err(io::Error::from(ErrorKind::TimedOut))
 }
 
 // Writes a front of the piece, and writes again where that is interrupted. Writing nothing of a piece that isn't empty is an
-// error.
+// error, and no error says that it was interrupted.
 pub(crate) fn write_uninterrupted<W: Write>(writer: &mut W, piece: &[u8]) -> io::Result<usize>
     ensures bound { IfOk result (λ n. n ≤ length piece.now) }
     ensures some { IfOk result (λ n. 0 < length piece.now → 0 < n) }
     ensures bytes { WriteAppends (W.contents writer.old) (W.contents writer.new) result piece.now }
+    ensures lasting { IfErr result (λ e. error_kind e ≢ ErrorKind.Interrupted) }
 {
     if piece.is_empty() {
         return Ok(0);
@@ -46,7 +49,7 @@ pub(crate) fn write_uninterrupted<W: Write>(writer: &mut W, piece: &[u8]) -> io:
             }
         }
     }
-    Err(io::Error::from(ErrorKind::Interrupted))
+    Err(io::Error::from(ErrorKind::TimedOut))
 }
 
 /// A source over a reader, which tells the bytes that the reader tells.
