@@ -1,11 +1,11 @@
 -- What is written and what is pending, step by step.
 use Rattle.std.proofs.Common.{◌≡◌, ℕ, ◌+◌, ◌<◌, List, [], ◌++◌, length, take, get_or, Result, Ok, Err, refl, sym, ap, subst, ◌∙◌}
-use Rattle.std.specs.Prelude.{flat_map}
+use Rattle.std.specs.Prelude.{flat_map, OnOk}
 use Rattle.std.proofs.lemmas.List.{append_assoc, append-nil}
 use Rattle.outside.specs.Streams.{SinkSeen}
 use Rattle.resp_frames.specs.Puts.{Puts, PutsAll, PutsFront}
 use Rattle.resp_frames.proofs.Putting.{all_nothing, all_then, fault_then, fault_stops, parts_next, parts_around}
-use Rattle.serving.specs.Output.{Onward, Writes}
+use Rattle.serving.specs.Output.{Onward, Writes, WritesWhole, AllPending, OnePending, NonePending, WritesReply}
 
 pub onward_nothing : (o : SinkSeen) (p : List ℕ) → Onward o o p p []
 onward_nothing o p = record { written = []; put = all_nothing o; rest = sym (append-nil p) }
@@ -54,3 +54,58 @@ module _ {X : Type 0} (f : X → List ℕ) (xs : List X) (i : ℕ) (x : X) (here
   breaks_part g =
       let P : List ℕ → Type 0 = λ l. PutsFront o o2 (p ++ l) in
       subst P (parts_around f xs i x here is) (onward_breaks o o1 o2 p p1 _ _ so_far (breaks_before o1 o2 p1 (f x) _ g))
+
+-- ---- whole replies
+
+-- bytes are pending behind the others
+pub onward_pending : (o : SinkSeen) (p p1 a : List ℕ) → p1 ≡ p ++ a → Onward o o p p1 a
+onward_pending o p p1 a is = record { written = []; put = all_nothing o; rest = is }
+
+-- all is written
+pub onward_through : (o o1 : SinkSeen) (p a : List ℕ) → PutsAll o o1 (p ++ a) → Onward o o1 p [] a
+onward_through o o1 p a put = record { written = p ++ a; put = put; rest = append-nil (p ++ a) }
+
+-- a whole reply comes behind what was pending
+pub onward_whole : (o o1 : SinkSeen) (p p1 a : List ℕ) → WritesWhole o o1 p p1 a → Onward o o1 p p1 a
+onward_whole o o1 p p1 a (AllPending same is) = let P : SinkSeen → Type 0 = λ s. Onward o s p p1 a in subst P (sym same) (onward_pending o p p1 a is)
+onward_whole o o1 p p1 a (OnePending put is) = record { written = p; put = put; rest = ap (λ l. p ++ l) is }
+onward_whole o o1 p p1 a (NonePending put is) = let P : List ℕ → Type 0 = λ q. Onward o o1 p q a in subst P (sym is) (onward_through o o1 p a put)
+
+-- what is pending, where it has no length
+pub none_pending : {T E : Type 0} (r : Result T E) (n : ℕ) (xs : List ℕ) → OnOk r (n ≡ 0) → OnOk r (take n xs ≡ [])
+none_pending (Ok x) n xs none = ap (λ k. take k xs) none
+none_pending (Err e) n xs none = tt
+
+-- what was pending fails to be put
+pub fails_before : (o o1 : SinkSeen) (p p1 a : List ℕ) → p1 ≡ p → PutsFront o o1 p1 → PutsFront o o1 (p ++ a)
+fails_before o o1 p p1 a same f = let P : List ℕ → Type 0 = λ l. PutsFront o o1 (l ++ a) in subst P same (fault_stops o o1 p1 a f)
+
+-- what was pending is put, and a reply is pending alone
+pub one_pending : (o o1 : SinkSeen) (p p1 p2 p3 a : List ℕ) → p1 ≡ p → PutsAll o o1 p1 → p2 ≡ [] → p3 ≡ p2 ++ a → WritesWhole o o1 p p3 a
+one_pending o o1 p p1 p2 p3 a same put none is =
+    let P : List ℕ → Type 0 = λ l. PutsAll o o1 l in
+    OnePending (subst P same put) (is ∙ ap (λ l. l ++ a) none)
+
+-- what was pending is put, and then a reply, part by part and what is left of it
+module _ (o o1 o2 o3 : SinkSeen) (p p1 p2 p3 p4 a : List ℕ) (same : p1 ≡ p) (put : PutsAll o o1 p1) (none : p2 ≡ []) where
+  before : PutsAll o o1 p
+  before = let P : List ℕ → Type 0 = λ l. PutsAll o o1 l in subst P same put
+
+  none_before : (q : List ℕ) → p2 ++ q ≡ q
+  none_before q = ap (λ l. l ++ q) none
+
+  pub parts_fail : PutsFront o1 o2 (p2 ++ a) → PutsFront o o2 (p ++ a)
+  parts_fail f = let P : List ℕ → Type 0 = λ l. PutsFront o1 o2 l in fault_then o o1 o2 p a before (subst P (none_before a) f)
+
+  module _ (so_far : Onward o1 o2 p2 p3 a) where
+    -- what is written of the reply and what is pending of it are the reply
+    whole : so_far.written ++ p3 ≡ a
+    whole = so_far.rest ∙ none_before a
+
+    pub rest_put : {T E : Type 0} (r : Result T E) → OnOk r (p4 ≡ []) → Puts o2 o3 p3 r → WritesReply o o3 p p4 a r
+    rest_put (Ok x) empty q =
+        let P : List ℕ → Type 0 = λ l. PutsAll o o3 (p ++ l) in
+        NonePending (subst P whole (all_then o o1 o3 p (so_far.written ++ p3) before (all_then o1 o2 o3 so_far.written p3 so_far.put q))) empty
+    rest_put (Err e) empty q =
+        let P : List ℕ → Type 0 = λ l. PutsFront o o3 (p ++ l) in
+        subst P whole (fault_then o o1 o3 p (so_far.written ++ p3) before (fault_then o1 o2 o3 so_far.written p3 so_far.put q))

@@ -21,22 +21,28 @@ use Rattle.serving.specs.Exactly.{ServesExactly, NoReadFault, EndsWell}
 
 -- ---- from the states of an engine to what is seen of them
 
-module _ {E F : Type 0} (P PC : List Words → List (List Part) → E → Type 0) (Q QC : List Words → List (List Part) → F → Type 0) (quits : Words → Bool) (spent : E → Bool) (known : F → Bool)
+module _ {E F : Type 0} (P PC : List Words → List (List Part) → E → Type 0) (Q QC : List Words → List (List Part) → F → Type 0) (quits : Words → Bool)
     (see : E → F) (turn : (asked : List Words) (replies : List (List Part)) (last : E) → P asked replies last → Q asked replies (see last)) (turn_cut : (asked : List Words) (replies : List (List Part)) (last : E) → PC asked replies last → QC asked replies (see last)) where
-  -- a serving of an engine is one of what is seen of it, up to the last state that is known: that of the engine where all is answered
-  pub served_as : (limit : ℕ) (i i1 : SourceSeen) (o o1 : SinkSeen) (last : E) (ended : Ended) → Served P PC quits spent limit i i1 o o1 last ended → (last' : F) × Served Q QC quits known limit i i1 o o1 last' ended × ((ended ≡ endings.WriteFault) ⊎ ((ended ≡ endings.Memory) ⊎ (last' ≡ see last)))
-  served_as limit i i1 o o1 last ended s =
-      let with_end : (last' : F) → Ends Q QC quits known limit s.taken s.asked s.end i1.told o o1 last' ended → Served Q QC quits known limit i i1 o o1 last' ended =
-      λ last' e. record { taken = s.taken; took = s.took; few = s.few; asked = s.asked; end = s.end; frames = s.frames; ends = e; reads = s.reads; writes = s.writes } in
-      elim s.ends [
-        | answered a by ↦ (see last, with_end (see last) (answered (record { replies = a.replies; may = turn s.asked a.replies last a.may; go_on = a.go_on; wrote = a.wrote }) by), inr (inr refl))
-        | quit a is ↦
-            (see last, with_end (see last) (quit (record { front = a.front; quit = a.quit; others = a.others; split = a.split; go_on = a.go_on; ends_run = a.ends_run; replies = a.replies; may = turn (a.front ++ a.quit ∷ []) a.replies last a.may; wrote = a.wrote }) is), inr (inr refl))
-        | write_fault a is ↦
-            (see a.then_is, with_end (see a.then_is) (write_fault (record { some = a.some; others = a.others; split = a.split; replies = a.replies; then_is = see a.then_is; may = turn_cut a.some a.replies a.then_is a.may; known = inl refl; tail = a.tail; behind = a.behind; wrote = a.wrote }) is), inl is)
-        | no_memory a is ↦
-            (see a.last, with_end (see a.last) (no_memory (record { some = a.some; others = a.others; split = a.split; replies = a.replies; last = see a.last; may = turn a.some a.replies a.last a.may; wrote = a.wrote }) is), inr (inl is))
-      ]
+  -- a serving of an engine is one of what is seen of it
+  pub served_as : (limit : ℕ) (i i1 : SourceSeen) (o o1 : SinkSeen) (last : E) (ended : Ended) → Served P PC quits limit i i1 o o1 last ended → Served Q QC quits limit i i1 o o1 (see last) ended
+  served_as limit i i1 o o1 last ended s = record {
+    taken = s.taken;
+    took = s.took;
+    few = s.few;
+    asked = s.asked;
+    end = s.end;
+    frames = s.frames;
+    ends = elim s.ends [
+      | answered a by ↦ answered (record { replies = a.replies; may = turn s.asked a.replies last a.may; go_on = a.go_on; wrote = a.wrote }) by
+      | quit a is ↦
+          quit (record { front = a.front; quit = a.quit; others = a.others; split = a.split; go_on = a.go_on; ends_run = a.ends_run; replies = a.replies; may = turn (a.front ++ a.quit ∷ []) a.replies last a.may; wrote = a.wrote }) is
+      | write_fault a is ↦
+          write_fault (record { some = a.some; others = a.others; split = a.split; replies = a.replies; may = turn_cut a.some a.replies last a.may; go_on = a.go_on; tail = a.tail; behind = a.behind; wrote = a.wrote }) is
+      | no_memory a is ↦ no_memory (record { some = a.some; others = a.others; split = a.split; replies = a.replies; last = see a.last; may = turn a.some a.replies a.last a.may; wrote = a.wrote }) is
+    ];
+    reads = s.reads;
+    writes = s.writes;
+  }
 
 -- ---- the bytes taken and left
 
@@ -74,8 +80,8 @@ ends_whole quits bytes asked asked' end end' a well b go_on =
       | inr has ↦ let G : List Words → Type 0 = GoOn quits in absurd (not_among quits has.front has.others has.quit (subst G has.split (subst G (sym one.0) go_on)) has.ends_run)
     ]
 
-module _ {E : Type 0} (P PC : List Words → List (List Part) → E → Type 0) (quits : Words → Bool) (spent : E → Bool) (limit : ℕ) (i i1 : SourceSeen) (o o1 : SinkSeen) (last : E) (ended : Ended)
-    (s : Served P PC quits spent limit i i1 o o1 last ended) where
+module _ {E : Type 0} (P PC : List Words → List (List Part) → E → Type 0) (quits : Words → Bool) (limit : ℕ) (i i1 : SourceSeen) (o o1 : SinkSeen) (last : E) (ended : Ended)
+    (s : Served P PC quits limit i i1 o o1 last ended) where
   -- ---- when it ends in which way
 
   pub ends_exactly : ServesExactly quits limit i i1 ended
@@ -136,7 +142,7 @@ module _ {E : Type 0} (P PC : List Words → List (List Part) → E → Type 0) 
         (r.0, r.1 ∙ ap (λ l. l ++ r.0) s.frames.are)
 
     -- the line of a broken rule stands behind no reply
-    no_tail : (a : AnswersPart P PC quits spent s.asked s.end o o1 last) → a.tail ≡ []
+    no_tail : (a : AnswersPart P PC quits s.asked s.end o o1 last) → a.tail ≡ []
     no_tail a = elim a.behind [
       | inl none ↦ none
       | inr some ↦
@@ -146,13 +152,13 @@ module _ {E : Type 0} (P PC : List Words → List (List Part) → E → Type 0) 
           absurd (no_fault some.0 some.1 (subst F some.2 s.frames) (subst G all some.4))
     ]
 
-    put_completes : NoWriteFault PC asked o o1 → AnswersPart P PC quits spent s.asked s.end o o1 last → ⊥
+    put_completes : NoWriteFault PC quits asked o o1 → AnswersPart P PC quits s.asked s.end o o1 last → ⊥
     put_completes no_write a = elim no_write [
       | inl fit ↦
           let r = first_asked in
           let split : asked ≡ a.some ++ (a.others ++ r.0) = r.1 ∙ ap (λ l. l ++ r.0) a.split ∙ append_assoc a.some a.others r.0 in
           let F : List ℕ → Type 0 = λ l. Fits o.room (length l) in
-          a.wrote.unsure (subst F (sym (ap (λ l. spelled a.replies ++ l) (no_tail a) ∙ append-nil (spelled a.replies))) (fit a.some (a.others ++ r.0) a.replies a.then_is split a.may))
+          a.wrote.unsure (subst F (sym (ap (λ l. spelled a.replies ++ l) (no_tail a) ∙ append-nil (spelled a.replies))) (fit a.some (a.others ++ r.0) a.replies last split a.go_on a.may))
       | inr none ↦ none a.wrote.rose
     ]
 

@@ -10,9 +10,9 @@ use Rattle.serving.specs.declared.ending.Ended.TheVariants as endings
 use Rattle.serving.specs.Exactly.{NoReadFault, AllFit, EndsWell}
 
 -- no put fails: whatever is answered fits, or no fault was counted
-abbrev pub NoWriteFault : {E : Type 0} → (List Words → List (List Part) → E → Type 0) → List Words → SinkSeen
-    → SinkSeen → Type 0
-NoWriteFault Allowed asked old new = AllFit Allowed asked old.room ⊎ (Rose old.faults new.faults → ⊥)
+abbrev pub NoWriteFault : {E : Type 0} → (List Words → List (List Part) → E → Type 0) → (Words → Bool) → List Words
+    → SinkSeen → SinkSeen → Type 0
+NoWriteFault Allowed quits asked old new = AllFit Allowed quits asked old.room ⊎ (Rose old.faults new.faults → ⊥)
 
 -- the end after whole requests, or by one that ends the run, unless memory wanted
 pub data EndsWhole (ended : Ended) : Type 0 where
@@ -27,4 +27,4 @@ abbrev pub ServesWhole : {E : Type 0} → (List Words → List (List Part) → E
 ServesWhole Allowed quits limit input input' old new ended =
     (bytes : List ℕ) (asked : List Words) (end : End) → input.told ≡ Some bytes → Frames bytes asked end
     → EndsWell quits asked end → length bytes < limit → NoReadFault input input'
-    → NoWriteFault Allowed asked old new → EndsWhole ended
+    → NoWriteFault Allowed quits asked old new → EndsWhole ended

@@ -10,8 +10,8 @@ use Rattle.resp_frames.specs.Ends.{IsCut}
 use Rattle.resp_frames.specs.Feeding.{Feeding, SameFed}
 use Rattle.resp_frames.specs.Puts.{PutsAll, PutsFront}
 use Rattle.resp_frames.specs.declared.rule.Rule.{Rule}
-use Rattle.serving.specs.Path.{path, CutPath, GoOn}
-use Rattle.serving.specs.Output.{Onward}
+use Rattle.serving.specs.Path.{path, CutPath, GoOn, GoOnToLast}
+use Rattle.serving.specs.Output.{Onward, WritesWhole}
 use Rattle.serving.specs.declared.answering.Answer.{Answer}
 use Rattle.serving.specs.declared.answering.Answer.TheVariants as one
 use Rattle.serving.specs.declared.answering.Answered.{Answered}
@@ -23,15 +23,14 @@ pub record IsBroken (feeder : Feeding) (rule : Rule) (at : ℕ) : Type 0 where
   pub fault : RequestFault feeder.kept rule from
   pub place : at + length from ≡ feeder.gone + length feeder.kept
 
-module _ {E : Type 0} (executes cut_off : E → Words → List Part → E → Type 0) (quits : Words → Bool)
-    (spent : E → Bool) where
+module _ {E : Type 0} (executes cut_off : E → Words → List Part → E → Type 0) (quits : Words → Bool) where
   -- a request is answered, and ends the run or doesn't
   pub record Replied (before after : E) (words : Words) (old new : SinkSeen) (pending pending' : List ℕ) (ends : Bool)
       : Type 0 where
     pub reply : List Part
     pub may : executes before words reply after
     pub ends_run : quits words ≡ ends
-    pub wrote : Onward old new pending pending' (spelling reply)
+    pub wrote : WritesWhole old new pending pending' (spelling reply)
 
   -- a request is answered, and of its reply a front is written behind what was pending
   pub record RepliedPart (before after : E) (words : Words) (old new : SinkSeen) (pending : List ℕ) : Type 0 where
@@ -46,8 +45,7 @@ module _ {E : Type 0} (executes cut_off : E → Words → List Part → E → Ty
   AnswersOne before after words old new pending pending' one.Quit =
       Replied before after words old new pending pending' true
   AnswersOne before after words old new pending pending' one.Fault = RepliedPart before after words old new pending
-  AnswersOne before after words old new pending pending' one.Memory =
-      (spent after ≡ true) × (new ≡ old) × (pending' ≡ pending)
+  AnswersOne before after words old new pending pending' one.Memory = new ≡ old
 
   -- The requests that stand before the rest of the bytes are answered by the engine on its way from one state to
   -- another, and none of them ends the run.
@@ -67,6 +65,7 @@ module _ {E : Type 0} (executes cut_off : E → Words → List Part → E → Ty
     pub rest : List ℕ
     pub framed : Framed bytes items rest
     pub went : CutPath executes cut_off before (requests items) replies after
+    pub go_on : GoOnToLast quits (requests items)
     pub wrote : PutsFront old new (pending ++ spelled replies)
 
   -- the requests are answered up to one that ends the run
@@ -90,8 +89,7 @@ module _ {E : Type 0} (executes cut_off : E → Words → List Part → E → Ty
   AnswersAll fed fed' before after old new (all.Protocol rule at) =
       Serves fed.kept fed'.kept before after old new [] [] × IsBroken fed' rule at × SameFed fed fed'
   AnswersAll fed fed' before after old new all.Quit = Quits fed.kept before after old new [] []
-  AnswersAll fed fed' before after old new all.Fault =
-      (last : E) × Breaks fed.kept before last old new [] × ((last ≡ after) ⊎ (spent after ≡ true))
+  AnswersAll fed fed' before after old new all.Fault = Breaks fed.kept before after old new []
   AnswersAll fed fed' before after old new all.Memory =
       (rest : List ℕ) × (after' : E) × Serves fed.kept rest before after' old new [] []
 

@@ -6,7 +6,7 @@ use Rattle.plain_world.specs.Words.{Words}
 use Rattle.plain_world.specs.Spelling.{spelled}
 use Rattle.plain_world.specs.declared.reply.Part.{Part}
 use Rattle.resp_frames.specs.Ends.{End, Whole, Frames}
-use Rattle.serving.specs.Path.{GoOn}
+use Rattle.serving.specs.Path.{GoOn, GoOnToLast}
 use Rattle.serving.specs.Served.{EndsBy}
 use Rattle.serving.specs.declared.ending.Ended.{Ended}
 use Rattle.serving.specs.declared.ending.Ended.TheVariants as endings
@@ -39,10 +39,11 @@ ServesExactly quits limit input input' ended =
 abbrev pub NoReadFault : SourceSeen → SourceSeen → Type 0
 NoReadFault old new = (old.sure ≡ true) ⊎ (Rose old.faults new.faults → ⊥)
 
--- the replies to the first of the requests, whichever are allowed, surely fit
-abbrev pub AllFit : {E : Type 0} → (List Words → List (List Part) → E → Type 0) → List Words → Option ℕ → Type 0
-AllFit Allowed asked room =
-    (some others : List Words) (replies : List (List Part)) (last : _) → asked ≡ some ++ others
+-- the replies to the first of the requests, of which only the last may end the run, surely fit, whichever are allowed
+abbrev pub AllFit : {E : Type 0} → (List Words → List (List Part) → E → Type 0) → (Words → Bool) → List Words → Option ℕ
+    → Type 0
+AllFit Allowed quits asked room =
+    (some others : List Words) (replies : List (List Part)) (last : _) → asked ≡ some ++ others → GoOnToLast quits some
     → Allowed some replies last → Fits room (length (spelled replies))
 
 -- the bytes end after a whole request, or one of the requests in them ends the run

@@ -1,5 +1,5 @@
 -- What is written, and what is pending behind it.
-use Rattle.std.specs.Prelude.{◌≡◌, ℕ, List, ◌++◌, take, Result, Ok, Err, Bool, true, false}
+use Rattle.std.specs.Prelude.{◌≡◌, ℕ, List, [], ◌++◌, take, Result, Ok, Err, Bool, true, false}
 use Rattle.outside.specs.Streams.{SinkSeen}
 use Rattle.resp_frames.specs.Puts.{PutsAll, PutsFront}
 use Rattle.serving.specs.declared.pending.Pending.{Pending}
@@ -18,6 +18,18 @@ pub record Onward (old new : SinkSeen) (pending pending' bytes : List ℕ) : Typ
 abbrev pub Writes : {T E : Type 0} → SinkSeen → SinkSeen → List ℕ → List ℕ → List ℕ → Result T E → Type 0
 Writes old new pending pending' bytes (Ok x) = Onward old new pending pending' bytes
 Writes old new pending pending' bytes (Err e) = PutsFront old new (pending ++ bytes)
+
+-- A reply's bytes come behind those that are pending: they are pending too; or those before are written, and they are
+-- pending or written themselves. So what is written ends with a whole reply where it did before.
+pub data WritesWhole (old new : SinkSeen) (pending pending' bytes : List ℕ) : Type 0 where
+  AllPending : new ≡ old → pending' ≡ pending ++ bytes → WritesWhole old new pending pending' bytes
+  OnePending : PutsAll old new pending → pending' ≡ bytes → WritesWhole old new pending pending' bytes
+  NonePending : PutsAll old new (pending ++ bytes) → pending' ≡ [] → WritesWhole old new pending pending' bytes
+
+-- the same, or a front of both is written where that failed
+abbrev pub WritesReply : {T E : Type 0} → SinkSeen → SinkSeen → List ℕ → List ℕ → List ℕ → Result T E → Type 0
+WritesReply old new pending pending' bytes (Ok x) = WritesWhole old new pending pending' bytes
+WritesReply old new pending pending' bytes (Err e) = PutsFront old new (pending ++ bytes)
 
 -- bytes are pending behind the others, or nothing changes
 abbrev pub Gathers : List ℕ → List ℕ → List ℕ → Bool → Type 0

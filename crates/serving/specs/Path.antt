@@ -23,3 +23,9 @@ module _ {E : Type 0} (executes cut_off : E → Words → List Part → E → Ty
 -- none of the requests ends the run
 abbrev pub GoOn : (Words → Bool) → List Words → Type 0
 GoOn quits asked = AllByRecursion (λ words. quits words ≡ false) asked
+
+-- none of the requests but the last one ends the run
+abbrev pub GoOnToLast : (Words → Bool) → List Words → Type 0
+GoOnToLast quits [] = Unit {0}
+GoOnToLast quits (words ∷ []) = Unit {0}
+GoOnToLast quits (words ∷ next ∷ asked) = (quits words ≡ false) × GoOnToLast quits (next ∷ asked)

@@ -10,7 +10,7 @@ use Rattle.resp_frames.specs.Ends.{End, Whole, Cut, Fault, Frames}
 use Rattle.resp_frames.specs.FaultLines.{fault_line}
 use Rattle.resp_frames.specs.Puts.{PutsAll, PutsFront}
 use Rattle.resp_frames.specs.declared.rule.Rule.{Rule}
-use Rattle.serving.specs.Path.{GoOn}
+use Rattle.serving.specs.Path.{GoOn, GoOnToLast}
 use Rattle.serving.specs.declared.ending.Ended.{Ended}
 use Rattle.serving.specs.declared.ending.Ended.TheVariants as endings
 
@@ -49,9 +49,8 @@ CountsWrites old new endings.WriteFault = Rose old.faults new.faults
 CountsWrites old new ended = new.faults ≡ old.faults
 
 -- Replies to some requests are allowed on the way from here to what is left, also where the last of them met a fault,
--- and end the run or don't.
-module _ {E : Type 0} (Allowed AllowedCut : List Words → List (List Part) → E → Type 0) (quits : Words → Bool)
-    (spent : E → Bool) where
+-- and end the run or don't. Unless memory was refused, what is left is where they lead.
+module _ {E : Type 0} (Allowed AllowedCut : List Words → List (List Part) → E → Type 0) (quits : Words → Bool) where
   -- all of the requests are answered, none of which ends the run, and then the tail follows
   pub record AnswersAllOf (asked : List Words) (tail : List ℕ) (old new : SinkSeen) (last : E) : Type 0 where
     pub replies : List (List Part)
@@ -71,7 +70,7 @@ module _ {E : Type 0} (Allowed AllowedCut : List Words → List (List Part) → 
     pub may : Allowed (front ++ quit ∷ []) replies last
     pub wrote : PutsAll old new (spelled replies)
 
-  -- the first of the requests are answered
+  -- the first of the requests are answered, each whole
   pub record AnswersFirst (asked : List Words) (old new : SinkSeen) : Type 0 where
     pub some : List Words
     pub others : List Words
@@ -88,10 +87,8 @@ module _ {E : Type 0} (Allowed AllowedCut : List Words → List (List Part) → 
     pub others : List Words
     pub split : asked ≡ some ++ others
     pub replies : List (List Part)
-    pub then_is : E
-    pub may : AllowedCut some replies then_is
-    -- it is what is left, unless memory was refused too
-    pub known : (then_is ≡ last) ⊎ (spent last ≡ true)
+    pub may : AllowedCut some replies last
+    pub go_on : GoOnToLast quits some
     pub tail : List ℕ
     pub behind : (tail ≡ [])
         ⊎ ((rule : Rule) × (at : ℕ) × (end ≡ Fault rule at) × (others ≡ []) × GoOn quits some

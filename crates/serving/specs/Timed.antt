@@ -50,7 +50,3 @@ module _ {E : Type 0} (executes : ℕ → E → Words → List Part → E → Ty
   pub record TimedCut (old : Timed E) (words : Words) (reply : List Part) (new : Timed E) : Type 0 where
     pub moment : ℕ
     pub answered : TimedReply moment old words reply new
-
--- whether memory was refused to the engine
-abbrev pub timed_spent : {E : Type 0} → (E → Bool) → Timed E → Bool
-timed_spent spent timed = spent timed.engine

@@ -1,7 +1,8 @@
 //! Requests are answered.
 
-ghost use Rattle.std.specs.Prelude.{◌≡◌, false, [], OnErr, map, drop};
-ghost use Rattle.serving.specs.Timed.{Timed, ReadsMoment, TimedStep, TimedCut, Works, timed_spent};
+ghost use Rattle.std.specs.Prelude.{◌≡◌, false, []};
+ghost use Rattle.outside.specs.Pacing.{following};
+ghost use Rattle.serving.specs.Timed.{Timed, ReadsMoment, TimedStep, TimedCut, Works};
 ghost use Rattle.serving.specs.Output.{pending_bytes};
 ghost use Rattle.serving.specs.Answering.{AnswersOne, Finishes, AnswersAll, AllPut};
 
@@ -23,7 +24,7 @@ pub enum Answer {
     Quit,
     /// Its reply could not be written whole.
     Fault,
-    /// Want of memory; its reply is neither written nor pending.
+    /// Want of memory; nothing more is written.
     Memory,
 }
 
@@ -52,7 +53,7 @@ pub fn moment_of(clock: &mut Box<dyn Clock>) -> u64
 // Does the work that is planned next, at this moment.
 fn rest<E: Server>(engine: &mut E, conductor: &mut Conductor, moment: u64)
     requires alive { E.spent engine.old ≡ false }
-    ensures { Works E.works moment engine.old engine.new (map (λ b. (⟦<dyn Pacer as Pacer>⟧ b.vtable).seen b.value) (drop conductor.old.front conductor.old.pacers.items)) (map (λ b. (⟦<dyn Pacer as Pacer>⟧ b.vtable).seen b.value) (drop conductor.new.front conductor.new.pacers.items)) }
+    ensures { Works E.works moment engine.old engine.new (following (λ b. (⟦<dyn Pacer as Pacer>⟧ b.vtable).pacing b.value) conductor.old) (following (λ b. (⟦<dyn Pacer as Pacer>⟧ b.vtable).pacing b.value) conductor.new) }
 {
     engine.background(conductor.next(), moment);
 }
@@ -66,7 +67,7 @@ fn answer_one<E: Server, O: Sink>(
     pending: &mut Pending,
     output: &mut O,
 ) -> Answer
-    ensures { AnswersOne (TimedStep E.executes E.works E.quits) (TimedCut E.executes E.works E.quits) E.quits (timed_spent E.spent) (record { engine = engine.old; clock = answers clock.old; pacers = map (λ b. (⟦<dyn Pacer as Pacer>⟧ b.vtable).seen b.value) (drop conductor.old.front conductor.old.pacers.items) }) (record { engine = engine.new; clock = answers clock.new; pacers = map (λ b. (⟦<dyn Pacer as Pacer>⟧ b.vtable).seen b.value) (drop conductor.new.front conductor.new.pacers.items) }) request.now
+    ensures { AnswersOne (TimedStep E.executes E.works E.quits) (TimedCut E.executes E.works E.quits) E.quits (record { engine = engine.old; clock = answers clock.old; pacers = following (λ b. (⟦<dyn Pacer as Pacer>⟧ b.vtable).pacing b.value) conductor.old }) (record { engine = engine.new; clock = answers clock.new; pacers = following (λ b. (⟦<dyn Pacer as Pacer>⟧ b.vtable).pacing b.value) conductor.new }) request.now
         (O.seen output.old) (O.seen output.new) (pending_bytes pending.old) (pending_bytes pending.new) result }
 {
     let moment = moment_of(clock);
@@ -97,7 +98,8 @@ fn finish<O: Sink>(pending: &mut Pending, output: &mut O, answered: Answered) ->
     }
 }
 
-/// Answers each request that is whole, up to one that ends the run, and puts the replies.
+/// Answers each request that is whole, up to one that ends the run, and puts the replies. Where memory is wanted the replies
+/// that are pending are not put, so that no put fails then.
 pub fn answer_all<E: Server, O: Sink>(
     engine: &mut E,
     clock: &mut Box<dyn Clock>,
@@ -107,7 +109,7 @@ pub fn answer_all<E: Server, O: Sink>(
     output: &mut O,
 ) -> Answered
     requires { pending_bytes pending.old ≡ [] }
-    ensures answers { AnswersAll (TimedStep E.executes E.works E.quits) (TimedCut E.executes E.works E.quits) E.quits (timed_spent E.spent) feeder.old feeder.new (record { engine = engine.old; clock = answers clock.old; pacers = map (λ b. (⟦<dyn Pacer as Pacer>⟧ b.vtable).seen b.value) (drop conductor.old.front conductor.old.pacers.items) }) (record { engine = engine.new; clock = answers clock.new; pacers = map (λ b. (⟦<dyn Pacer as Pacer>⟧ b.vtable).seen b.value) (drop conductor.new.front conductor.new.pacers.items) })
+    ensures answers { AnswersAll (TimedStep E.executes E.works E.quits) (TimedCut E.executes E.works E.quits) E.quits feeder.old feeder.new (record { engine = engine.old; clock = answers clock.old; pacers = following (λ b. (⟦<dyn Pacer as Pacer>⟧ b.vtable).pacing b.value) conductor.old }) (record { engine = engine.new; clock = answers clock.new; pacers = following (λ b. (⟦<dyn Pacer as Pacer>⟧ b.vtable).pacing b.value) conductor.new })
         (O.seen output.old) (O.seen output.new) result }
     ensures none { AllPut (pending_bytes pending.new) result }
 {
@@ -118,7 +120,7 @@ pub fn answer_all<E: Server, O: Sink>(
                 output,
                 Answered::Protocol(rule, at),
             ),
-            Err(FrameFault::Memory) => return finish(pending, output, Answered::Memory),
+            Err(FrameFault::Memory) => return Answered::Memory,
             Ok(false) => return finish(pending, output, Answered::All),
             Ok(true) => {}
         }
@@ -126,7 +128,7 @@ pub fn answer_all<E: Server, O: Sink>(
             Answer::Written => {}
             Answer::Quit => return finish(pending, output, Answered::Quit),
             Answer::Fault => return Answered::Fault,
-            Answer::Memory => return finish(pending, output, Answered::Memory),
+            Answer::Memory => return Answered::Memory,
         }
     }
 }

@@ -1,7 +1,8 @@
 //! Requests of an input are served, piece by piece.
 
-ghost use Rattle.std.specs.Prelude.{◌≡◌, ◌^◌, ◌≤◌, ◌<◌, ◌+◌, [], length, map, drop};
-ghost use Rattle.serving.specs.Timed.{Timed, TimedStep, TimedCut, timed_spent};
+ghost use Rattle.std.specs.Prelude.{◌≡◌, ◌^◌, ◌≤◌, ◌<◌, ◌+◌, [], length};
+ghost use Rattle.outside.specs.Pacing.{following};
+ghost use Rattle.serving.specs.Timed.{Timed, TimedStep, TimedCut};
 ghost use Rattle.serving.specs.Path.{path, CutPath};
 ghost use Rattle.serving.specs.Output.{pending_bytes};
 ghost use Rattle.serving.specs.Served.{Served};
@@ -63,8 +64,8 @@ fn serve<E: Server, I: Source, O: Sink>(
     requires pending { pending_bytes pending.old ≡ [] }
     requires room { length room.old ≡ 65536 }
     requires limit { limit ≤ 2 ^ 62 }
-    ensures { Served (path (TimedStep E.executes E.works E.quits) (record { engine = engine.old; clock = answers clock.old; pacers = map (λ b. (⟦<dyn Pacer as Pacer>⟧ b.vtable).seen b.value) (drop conductor.old.front conductor.old.pacers.items) })) (CutPath (TimedStep E.executes E.works E.quits) (TimedCut E.executes E.works E.quits) (record { engine = engine.old; clock = answers clock.old; pacers = map (λ b. (⟦<dyn Pacer as Pacer>⟧ b.vtable).seen b.value) (drop conductor.old.front conductor.old.pacers.items) })) E.quits (timed_spent E.spent) limit (I.seen input.old) (I.seen input.new) (O.seen output.old) (O.seen output.new)
-        (record { engine = engine.new; clock = answers clock.new; pacers = map (λ b. (⟦<dyn Pacer as Pacer>⟧ b.vtable).seen b.value) (drop conductor.new.front conductor.new.pacers.items) }) result }
+    ensures { Served (path (TimedStep E.executes E.works E.quits) (record { engine = engine.old; clock = answers clock.old; pacers = following (λ b. (⟦<dyn Pacer as Pacer>⟧ b.vtable).pacing b.value) conductor.old })) (CutPath (TimedStep E.executes E.works E.quits) (TimedCut E.executes E.works E.quits) (record { engine = engine.old; clock = answers clock.old; pacers = following (λ b. (⟦<dyn Pacer as Pacer>⟧ b.vtable).pacing b.value) conductor.old })) E.quits limit (I.seen input.old) (I.seen input.new) (O.seen output.old) (O.seen output.new)
+        (record { engine = engine.new; clock = answers clock.new; pacers = following (λ b. (⟦<dyn Pacer as Pacer>⟧ b.vtable).pacing b.value) conductor.new }) result }
 {
     let mut taken: u64 = 0;
     'pieces: loop {
@@ -97,6 +98,7 @@ fn serve<E: Server, I: Source, O: Sink>(
 
 /// Serves the requests of the input with this engine, each at the moment that the clock tells. After each but the last one,
 /// where that ends the run, the engine does what the conductor plans, at the same moment. At most so many bytes are taken.
+/// Where memory is wanted, what is written are whole replies to the first of the requests.
 pub fn serve_input<E: Server, I: Source, O: Sink>(
     alloc: Global,
     engine: &mut E,
@@ -107,8 +109,8 @@ pub fn serve_input<E: Server, I: Source, O: Sink>(
     limit: u64,
 ) -> Ended
     requires { limit ≤ 2 ^ 62 }
-    ensures { Served (path (TimedStep E.executes E.works E.quits) (record { engine = engine.old; clock = answers clock.old; pacers = map (λ b. (⟦<dyn Pacer as Pacer>⟧ b.vtable).seen b.value) (drop conductor.old.front conductor.old.pacers.items) })) (CutPath (TimedStep E.executes E.works E.quits) (TimedCut E.executes E.works E.quits) (record { engine = engine.old; clock = answers clock.old; pacers = map (λ b. (⟦<dyn Pacer as Pacer>⟧ b.vtable).seen b.value) (drop conductor.old.front conductor.old.pacers.items) })) E.quits (timed_spent E.spent) limit (I.seen input.old) (I.seen input.new) (O.seen output.old) (O.seen output.new)
-        (record { engine = engine.new; clock = answers clock.new; pacers = map (λ b. (⟦<dyn Pacer as Pacer>⟧ b.vtable).seen b.value) (drop conductor.new.front conductor.new.pacers.items) }) result }
+    ensures { Served (path (TimedStep E.executes E.works E.quits) (record { engine = engine.old; clock = answers clock.old; pacers = following (λ b. (⟦<dyn Pacer as Pacer>⟧ b.vtable).pacing b.value) conductor.old })) (CutPath (TimedStep E.executes E.works E.quits) (TimedCut E.executes E.works E.quits) (record { engine = engine.old; clock = answers clock.old; pacers = following (λ b. (⟦<dyn Pacer as Pacer>⟧ b.vtable).pacing b.value) conductor.old })) E.quits limit (I.seen input.old) (I.seen input.new) (O.seen output.old) (O.seen output.new)
+        (record { engine = engine.new; clock = answers clock.new; pacers = following (λ b. (⟦<dyn Pacer as Pacer>⟧ b.vtable).pacing b.value) conductor.new }) result }
 {
     let mut feeder = Feeder::new(alloc);
     let Ok(mut pending) = Pending::new(alloc) else {

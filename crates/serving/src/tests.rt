@@ -75,7 +75,7 @@ impl Counting {
 /// An input, what is answered, how the serving ends, and how many requests are executed.
 struct Row(&'static [u8], &'static [u8], Ended, u64);
 
-const ROWS: [Row; 14] = [
+const ROWS: [Row; 13] = [
     Row(b"", b"", Ended::Whole, 0),
     Row(
         b"*1\r\n$1\r\na\r\n*2\r\n$1\r\na\r\n$0\r\n\r\n",
@@ -140,13 +140,6 @@ const ROWS: [Row; 14] = [
         b":1\r\n",
         Ended::Cut,
         1,
-    ),
-    // what was answered before want of memory is put
-    Row(
-        b"*1\r\n$1\r\na\r\n*1\r\n$4\r\nFULL\r\n*1\r\n$1\r\na\r\n",
-        b":1\r\n",
-        Ended::Memory,
-        2,
     ),
     Row(b"*1\r\n$4\r\nFULL\r\n*x\r\n", b"", Ended::Memory, 1),
 ];
@@ -260,6 +253,14 @@ fn faults_and_limits(rt: HostRuntime) -> Result<(), Fail> {
     ] {
         let run = served(alloc, THREE, &[], (&[], &[]), 100, limit)?;
         assert_eq!(rt; run.ended, ended);
+        assert_eq!(rt; Some(run.written.as_slice()), replies.get(..count));
+    }
+    // where memory wants, the replies to earlier takes are written, and those that are pending are not
+    let full = b"*1\r\n$1\r\na\r\n*1\r\n$4\r\nFULL\r\n*1\r\n$1\r\na\r\n".as_slice();
+    for (pieces, count) in [(&[11usize] as &[usize], 4usize), (&[], 0)] {
+        let run = served(alloc, full, pieces, (&[], &[]), 100, MANY_BYTES)?;
+        assert_eq!(rt; run.ended, Ended::Memory);
+        assert_eq!(rt; run.executed, 2);
         assert_eq!(rt; Some(run.written.as_slice()), replies.get(..count));
     }
     // nothing is taken behind the request that ends the run

@@ -2,7 +2,7 @@
 
 ghost use Rattle.std.specs.Prelude.{◌≡◌};
 ghost use Rattle.plain_world.specs.Spelling.{part_bytes, spelling};
-ghost use Rattle.serving.specs.Output.{pending_bytes, Gathers, Writes};
+ghost use Rattle.serving.specs.Output.{pending_bytes, Gathers, Writes, WritesReply};
 
 use crate::pending::{CAPACITY, Pending, flush};
 use crate::short::gather_short;
@@ -18,8 +18,9 @@ fn is_large(part: &Part) -> bool {
     }
 }
 
-// Lets a part be pending behind the others, and says whether it fitted; where it didn't, nothing changes.
-fn gather(part: &Part, pending: &mut Pending) -> bool
+// Lets a part that is no short string be pending behind the others, and says whether it fitted; where it didn't, nothing
+// changes.
+fn gather_long(part: &Part, pending: &mut Pending) -> bool
     ensures { Gathers (pending_bytes pending.old) (pending_bytes pending.new) (part_bytes part.now) result }
 {
     if is_large(part) {
@@ -35,9 +36,32 @@ fn gather(part: &Part, pending: &mut Pending) -> bool
     }
 }
 
+// The same of any part, at once where it is a short string that fits.
+fn gather(part: &Part, pending: &mut Pending) -> bool
+    ensures { Gathers (pending_bytes pending.old) (pending_bytes pending.new) (part_bytes part.now) result }
+{
+    if gather_short(part, pending) {
+        return true;
+    }
+    gather_long(part, pending)
+}
+
+// Lets a reply be pending behind the others, and says whether it fitted; where it didn't, nothing changes.
+fn gather_reply(reply: &Reply, pending: &mut Pending) -> bool
+    ensures { Gathers (pending_bytes pending.old) (pending_bytes pending.new) (spelling reply.now) result }
+{
+    let whole = pending.len;
+    for part in reply.parts() {
+        if !gather(part, pending) {
+            pending.keep(whole);
+            return false;
+        }
+    }
+    true
+}
+
 // Writes a part of a reply behind what is pending, or lets it be pending too.
-#[inline(never)]
-fn write_any<O: Sink>(part: &Part, pending: &mut Pending, output: &mut O) -> Result<(), WriteFault>
+fn write_part<O: Sink>(part: &Part, pending: &mut Pending, output: &mut O) -> Result<(), WriteFault>
     ensures { Writes (O.seen output.old) (O.seen output.new) (pending_bytes pending.old) (pending_bytes pending.new) (part_bytes part.now) result }
 {
     if gather(part, pending) {
@@ -53,18 +77,8 @@ fn write_any<O: Sink>(part: &Part, pending: &mut Pending, output: &mut O) -> Res
     put_part(output, part)
 }
 
-// The same, at once where the part is a short string that fits.
-fn write_part<O: Sink>(part: &Part, pending: &mut Pending, output: &mut O) -> Result<(), WriteFault>
-    ensures { Writes (O.seen output.old) (O.seen output.new) (pending_bytes pending.old) (pending_bytes pending.new) (part_bytes part.now) result }
-{
-    if gather_short(part, pending) {
-        return Ok(());
-    }
-    write_any(part, pending, output)
-}
-
-/// Writes a reply behind what is pending, or lets its end be pending too. It takes no memory.
-pub fn write_reply<O: Sink>(
+// Writes the parts of a reply one by one. The end of the reply may be pending.
+fn write_parts<O: Sink>(
     reply: &Reply,
     pending: &mut Pending,
     output: &mut O,
@@ -78,4 +92,32 @@ pub fn write_reply<O: Sink>(
         }
     }
     Ok(())
+}
+
+/// Writes a reply behind what is pending, or lets it be pending too, or alone. It takes no memory.
+///
+/// A reply is pending as a whole or written as a whole, so that what is written ends with one even where what is pending is
+/// never put.
+#[inline(never)]
+pub fn write_reply<O: Sink>(
+    reply: &Reply,
+    pending: &mut Pending,
+    output: &mut O,
+) -> Result<(), WriteFault>
+    ensures { WritesReply (O.seen output.old) (O.seen output.new) (pending_bytes pending.old) (pending_bytes pending.new) (spelling reply.now) result }
+{
+    if gather_reply(reply, pending) {
+        return Ok(());
+    }
+    match flush(pending, output) {
+        Ok(()) => {}
+        Err(fault) => return Err(fault),
+    }
+    if gather_reply(reply, pending) {
+        return Ok(());
+    }
+    match write_parts(reply, pending, output) {
+        Ok(()) => flush(pending, output),
+        Err(fault) => Err(fault),
+    }
 }

@@ -1,7 +1,7 @@
 use Rattle.std.proofs.Common.{◌≡◌, [], take, ◌∙◌, ap}
 use Rattle.serving.specs.Output.{pending_bytes}
 use Rattle.serving.proofs.Onward.{puts_straight}
-use Rattle.serving.proofs.writing.write_any.Goals as goal
+use Rattle.serving.proofs.writing.write_part.Goals as goal
 
 pub returns : goal.returns
 returns g c =
