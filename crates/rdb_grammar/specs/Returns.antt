@@ -26,7 +26,7 @@ pub data IsItemFault (bytes : List ℕ) (at : ℕ) (kind : LoadKind) (place : �
   OfSum : (ended : ℕ) → Stands item End bytes at ended → Fails (sum_field (take ended bytes)) bytes ended kind place
       → IsItemFault bytes at kind place
 
--- what a fault that is answered says of the item at a place
+-- what a fault that is answered says of the item at a place: reading wants no memory
 abbrev pub SaysFault : List ℕ → ℕ → ItemFault → Type 0
-SaysFault bytes at faults.Memory = Unit {0}
+SaysFault bytes at faults.Memory = ⊥
 SaysFault bytes at (faults.Refused kind place) = IsItemFault bytes at kind place

@@ -49,7 +49,8 @@ fn refused(fault: FileFault) -> ItemFault
 }
 
 /// The item that begins at the offset `at` of a file's bytes; behind the end of the items its checksum field stands, and
-/// the offset behind that is the next. Refused exactly by the item's first fault, or that field's.
+/// the offset behind that is the next. Refused exactly by the item's first fault, or that field's; it wants no memory, since
+/// the strings of an item lie in the file's bytes.
 pub fn next_item<'a>(_alloc: Global, bytes: &'a [u8], at: usize) -> Result<Item<'a>, ItemFault>
     requires { at ≤ length bytes.now }
     ensures item { IfOk result (λ x. IsItemAt bytes.now at x.next (item_seen x.meaning)) }

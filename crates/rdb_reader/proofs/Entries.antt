@@ -9,12 +9,14 @@ use Rattle.plain_world.specs.Worlds.{World, Value, Entry, look, put, live, in_ti
 use Rattle.keyspace.specs.declared.value.Value as code
 use Rattle.keyspace.specs.Values as values
 use Rattle.keyspace.specs.Databases.{Bases, means}
+use Rattle.held.proofs.Within.{within_wider}
 use Rattle.keyspace.specs.Sound.{Sound}
+use Rattle.keyspace.specs.Scopes.{one_key, Within}
 use Rattle.keyspace.specs.Calls.{Found}
 use Rattle.plain_world.proofs.Lives.{shown, look_live}
 use Rattle.keyspace.proofs.Uses.{Made-means}
 use Rattle.rdb_reader.specs.declared.keys.Put.TheVariants as puts
-use Rattle.rdb_reader.specs.Loads.{Puts}
+use Rattle.rdb_reader.specs.Loads.{Puts, any_key}
 
 -- whether something stands there, by what was found
 module _ (db : ℕ) (bases : Bases) (m : Blocks) (key : List ℕ) where
@@ -33,6 +35,10 @@ module _ (db : ℕ) (bases : Bases) (m : Blocks) (key : List ℕ) where
   pub is_found : {A : Type 0} (view : A → code.Value) (o : Option A) → IfSome o (λ a. Found bases m db key 0 (view a)) → IfNone o (look (live (means db bases m) 0) key ≡ None) → is_some o ≡ is_some (look (means db bases m) key)
   is_found view (Some a) found none = sym (ap is_some found.stands) ∙ ap is_some at_zero
   is_found view None found none = sym (ap is_some none) ∙ ap is_some at_zero
+
+-- one key is any
+pub one_of_any : (db : ℕ) (key : List ℕ) (old new : Bases) (m after : Blocks) → Within (one_key db key) old new m after → Within any_key old new m after
+one_of_any db key old new m after p = within_wider values.value_refs (one_key db key) any_key (λ number touched. tt) (λ number other named. tt) (λ number no. no) old new m after p
 
 -- a value that was made is put
 pub value_put : {E : Type 0} (db : ℕ) (bases : Bases) (m after : Blocks) (made : code.Value) (sound : Sound bases m) (p : Changes m after [] (values.value_refs made)) (new : Bases) (later : Blocks) (key : List ℕ) (value : Value) (deadline : Option ℕ)

@@ -1,5 +1,6 @@
 -- The world of a file is live at the moment of loading: a key whose deadline is past is passed over.
 use Rattle.std.proofs.Common.{◌≡◌, ℕ, Bool, true, false, cond, List, [], ◌∷◌, Ok, Err, Result, refl, sym, ap, ◌∙◌, subst}
+use Rattle.std.specs.Prelude.{OnErr}
 use Rattle.plain_world.specs.Worlds.{World, Entry, new_world, in_time, live, put}
 use Rattle.plain_world.proofs.Lives.{live_none, live_put_in_time}
 use Rattle.rdb_grammar.specs.Items.{Item, Passed, Deadline, Database, End, Key}
@@ -7,8 +8,16 @@ use Rattle.rdb_grammar.specs.Files.{State, new_state, after, Items, IsFile}
 use Rattle.rdb_reader.specs.declared.fault.LoadFault.{LoadFault}
 use Rattle.rdb_reader.specs.declared.fault.LoadFault.TheVariants as faults
 use Rattle.rdb_reader.specs.declared.loading.Loaded.{Loaded}
-use Rattle.rdb_reader.specs.Loads.{Loads, LoadsFile}
+use Rattle.rdb_reader.specs.Loads.{Loads, LoadsFile, ReadsAll}
+use Rattle.rdb_reader.specs.Fetching.{has_failed}
 use Rattle.outside.specs.Files.{Files}
+
+-- a fault of the reading isn't one of the host
+pub read_failed : (bytes : List ℕ) (moment : ℕ) (world : World) (fault : LoadFault) → ReadsAll bytes moment world (Err fault) → has_failed {A = Loaded} (Err fault) ≡ false
+read_failed bytes moment world (faults.Refused what at) r = refl
+read_failed bytes moment world faults.Host r = absurd r
+read_failed bytes moment world faults.Limit r = refl
+read_failed bytes moment world faults.Memory r = refl
 
 pub new_live : (moment : ℕ) → live new_world moment ≡ new_world
 new_live moment = λ i. record { bases = λ number. live_none moment i; selected = 0 }
@@ -44,3 +53,11 @@ module _ (moment : ℕ) where
   loads_live files name limit world (Err faults.Host) l = ap (λ w. live w moment) l ∙ new_live moment
   loads_live files name limit world (Err faults.Limit) l = (l.0, ap (λ w. live w moment) l.1 ∙ new_live moment)
   loads_live files name limit world (Err faults.Memory) l = ap (λ w. live w moment) l ∙ new_live moment
+
+-- what isn't loaded leaves no key
+pub loads_none : (files : Files) (name : List ℕ) (limit moment : ℕ) (world : World) (result : Result Loaded LoadFault) → Loads files name limit moment world result → OnErr result (world ≡ new_world)
+loads_none files name limit moment world (Ok loaded) l = tt
+loads_none files name limit moment world (Err (faults.Refused what at)) l = l.1
+loads_none files name limit moment world (Err faults.Host) l = l
+loads_none files name limit moment world (Err faults.Limit) l = l.1
+loads_none files name limit moment world (Err faults.Memory) l = l

@@ -5,7 +5,7 @@ use Rattle.std.specs.FinMap.{len, len-insert, len-empty}
 use Rattle.std.specs.Cmp.Lexicographic.{slice_cmp, nat_list_cmp_total}
 use Rattle.std.specs.Ordering.{nat_cmp}
 use Rattle.std.proofs.lemmas.Bool.{cases_lt, eq-eqb, ne_eqb, cond-true, cond-false}
-use Rattle.plain_world.specs.Worlds.{World, Database as Keys, Entry, Value, new_world, look, put, selecting}
+use Rattle.plain_world.specs.Worlds.{World, Database as Keys, Entry, Value, new_world, look, put, selecting, in_time}
 use Rattle.rdb_grammar.specs.Items.{Item, Passed, Deadline, Database, End, Key, item}
 use Rattle.rdb_grammar.specs.declared.fault.LoadKind.TheVariants as kinds
 use Rattle.rdb_grammar.specs.Places.{Stands}
@@ -18,7 +18,7 @@ use Rattle.rdb_grammar.specs.Returns.{SaysFault}
 use Rattle.rdb_grammar.specs.Returns.IsItemFault.{OfItem, OfSum}
 use Rattle.rdb_reader.specs.declared.items.Progress.{Progress}
 use Rattle.rdb_reader.specs.declared.keys.Put.TheVariants as puts
-use Rattle.rdb_reader.specs.Loads.{keys_below, keys_of, keys_among, Puts, state_at, Holds, IsRead, ReadsItem, load_fault}
+use Rattle.rdb_reader.specs.Loads.{keys_below, keys_of, keys_among, Puts, state_at, Holds, IsKept, IsRead, ReadsItem, load_fault}
 
 -- ---- the counts
 
@@ -110,6 +110,10 @@ module _ (bytes : List ℕ) (moment : ℕ) (world : World) (p : Progress) (h : H
           let same : keys_below 16 new.bases ≡ keys_below 16 world.bases = ap (λ (w : World). keys_below 16 w.bases) k.2 in
           (record { reached = f.0; items = omega (arith, f.1); keys = h.keys ∙ sym same; few = omega (arith, h.few, lt); within = s.inside; selected = h.selected; latest = tt }, lt)
 
+      -- memory is wanted for a key that is in time
+      pub key_wanted : in_time moment p.deadline ≡ true → IsKept bytes moment p
+      key_wanted in_time = record { name = name; value = value; next = next; stands = s; in_time = in_time }
+
       pub key_again : ((look (selecting world p.db) name ≡ None) → ⊥) → IsFault bytes moment kinds.DuplicateKey (p.at + 1)
       key_again some = twice bytes moment p.at state (Key name value) next h.reached s (there (look (selecting world p.db) name) some)
         where
@@ -127,7 +131,7 @@ module _ (bytes : List ℕ) (moment : ℕ) (world : World) (p : Progress) (h : H
 
   -- what a fault of an item makes of loading
   pub fault_read : (later : World) (f : ItemFault) → SaysFault bytes p.at f → ReadsItem bytes moment p world later (Err (load_fault f))
-  fault_read later faults.Memory i = tt
+  fault_read later faults.Memory i = absurd i
   fault_read later (faults.Refused what place) (OfItem f) = item_fault bytes moment p.at state what place h.reached f
   fault_read later (faults.Refused what place) (OfSum ended s f) = sum_fault bytes moment p.at state ended what place h.reached s f
 

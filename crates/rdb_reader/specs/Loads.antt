@@ -1,12 +1,14 @@
 -- What loading does: the file's world or its first fault.
 use Rattle.std.specs.Prelude.{◌≡◌, ℕ, zero, suc, ◌+◌, ◌<◌, ◌≤◌, List, [], ◌∷◌, length, None, Result, Ok, Err, true, false}
 use Rattle.std.specs.FinMap.{len}
-use Rattle.plain_world.specs.Worlds.{World, Database as Keys, Entry, new_world, in_time, look, put, selecting}
+use Rattle.plain_world.specs.Worlds.{World, Database as Keys, Entry, Value, new_world, in_time, look, put, selecting}
 use Rattle.rdb_grammar.specs.declared.fault.ItemFault.{ItemFault}
 use Rattle.rdb_grammar.specs.declared.fault.ItemFault.TheVariants as items
-use Rattle.rdb_grammar.specs.Items.{Item, Passed, Deadline, Database, End, Key}
+use Rattle.rdb_grammar.specs.Items.{Item, Passed, Deadline, Database, End, Key, item}
+use Rattle.rdb_grammar.specs.Places.{Stands}
 use Rattle.rdb_grammar.specs.Files.{State, Reached, IsFile, IsFault}
 use Rattle.held.specs.Calls.{IsDeadline}
+use Rattle.keyspace.specs.Scopes.{Scope, anything}
 use Rattle.outside.specs.Files.{Files}
 use Rattle.rdb_reader.specs.Named.{IsFileOf, IsLongFile, RefusesFile}
 use Rattle.rdb_reader.specs.declared.fault.LoadFault.{LoadFault}
@@ -69,7 +71,15 @@ pub record IsRead (bytes : List ℕ) (moment : ℕ) (world : World) (loaded : Lo
   pub keys : loaded.keys ≡ keys_below 16 world.bases
   pub passed : loaded.keys + loaded.passed ≡ keys_among file.reached.items
 
--- the next item is read
+-- the next item is a key that is in time
+pub record IsKept (bytes : List ℕ) (moment : ℕ) (so_far : Progress) : Type 0 where
+  pub name : List ℕ
+  pub value : Value
+  pub next : ℕ
+  pub stands : Stands item (Key name value) bytes so_far.at next
+  pub in_time : in_time moment so_far.deadline ≡ true
+
+-- the next item is read: memory is wanted for a key that is kept alone
 abbrev pub ReadsItem : List ℕ → ℕ → Progress → World → World → Result Read LoadFault → Type 0
 ReadsItem bytes moment old before after (Ok (read.More new)) = Holds bytes moment after new × (old.at < new.at)
 ReadsItem bytes moment old before after (Ok read.End) =
@@ -77,7 +87,7 @@ ReadsItem bytes moment old before after (Ok read.End) =
 ReadsItem bytes moment old before after (Err (faults.Refused what place)) = IsFault bytes moment what place
 ReadsItem bytes moment old before after (Err faults.Host) = ⊥
 ReadsItem bytes moment old before after (Err faults.Limit) = ⊥
-ReadsItem bytes moment old before after (Err faults.Memory) = Unit {0}
+ReadsItem bytes moment old before after (Err faults.Memory) = IsKept bytes moment old
 
 -- all items are read
 abbrev pub ReadsAll : List ℕ → ℕ → World → Result Loaded LoadFault → Type 0
@@ -93,6 +103,15 @@ pub record LoadsFile (files : Files) (name : List ℕ) (limit moment : ℕ) (wor
   pub is : IsFileOf files name bytes
   pub few : length bytes ≤ limit
   pub read : IsRead bytes moment world loaded
+
+-- any key may be written, and no database loses all its keys at once
+abbrev pub any_key : Scope
+any_key = record { touches = λ number. Unit {0}; writes = λ number key. Unit {0}; empties = λ number. ⊥ }
+
+-- what a load may change: after a fault whatever there is
+abbrev pub load_scope : {A : Type 0} → Result A LoadFault → Scope
+load_scope (Ok loaded) = any_key
+load_scope (Err fault) = anything
 
 -- what `load` answers, and the world that it leaves: after a fault the new one
 abbrev pub Loads : Files → List ℕ → ℕ → ℕ → World → Result Loaded LoadFault → Type 0

@@ -2,7 +2,7 @@
 
 ghost use Rattle.std.specs.Prelude.{◌≡◌, ◌≤◌, ◌<◌, ◌+◌, ℕ, List, length, vec_len, true};
 ghost use Rattle.outside.specs.Files.{IsListed};
-ghost use Rattle.rdb_reader.specs.Fetching.{Takes, Counts, Fetches, FetchesFile};
+ghost use Rattle.rdb_reader.specs.Fetching.{Takes, TakesUpTo, TakesFile, Counts, Fetches, FetchesFile, has_failed, most_of};
 
 use crate::fault::LoadFault;
 use outside::Host;
@@ -28,6 +28,7 @@ fn take_piece<H: Host>(host: &mut H, room: &mut [u8], bytes: &mut Vec<u8>) -> Ta
     requires { 0 < length room.old }
     ensures takes { Takes (H.seen host.old).reading (H.seen host.new).reading (length room.old) bytes.old.items bytes.new.items result }
     ensures same { (H.seen host.new).files ≡ (H.seen host.old).files }
+    ensures begun { (H.seen host.new).begun ≡ (H.seen host.old).begun }
 {
     match host.take(room) {
         Err(_) => Taken::Fault,
@@ -49,7 +50,9 @@ fn take_all<H: Host>(
     requires room { length room.old ≡ 65536 }
     requires none { vec_len bytes.old ≡ 0 }
     ensures fetches { Fetches (H.seen host.old).reading.told limit bytes.new.items result }
+    ensures few { TakesUpTo (H.seen host.old).reading.told (H.seen host.new).reading.told (most_of limit (has_failed result)) }
     ensures same { (H.seen host.new).files ≡ (H.seen host.old).files }
+    ensures begun { (H.seen host.new).begun ≡ (H.seen host.old).begun }
     ensures counts { Counts (H.seen host.old).reading.faults (H.seen host.new).reading.faults ((H.seen host.old).reading.sure ≡ true) result }
 {
     'pieces: loop {
@@ -67,7 +70,8 @@ fn take_all<H: Host>(
     }
 }
 
-/// The bytes of the host's file of this name, at most as many as the limit.
+/// The bytes of the host's file of this name, at most as many as the limit. One byte more is taken at most, and a fault of
+/// the host comes before that one.
 #[tactic(none)]
 pub fn fetch<H: Host>(
     alloc: Global,
@@ -76,6 +80,7 @@ pub fn fetch<H: Host>(
     limit: u64,
 ) -> Result<Vec<u8>, LoadFault>
     ensures fetches { FetchesFile (H.seen host.old).files name.now limit result }
+    ensures few { TakesFile (H.seen host.old).files name.now limit (H.seen host.new) (has_failed result) }
     ensures counts { Counts (H.seen host.old).reading.faults (H.seen host.new).reading.faults (((H.seen host.old).reading.sure ≡ true) × IsListed (H.seen host.old).files name.now) result }
 {
     match host.begin(name) {

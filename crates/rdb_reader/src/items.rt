@@ -5,9 +5,9 @@ ghost use Rattle.blocks.specs.Blocks.{Served};
 ghost use Rattle.plain_world.specs.Worlds.{new_world};
 ghost use Rattle.keyspace.specs.Databases.{means, SameSettings};
 ghost use Rattle.keyspace.specs.Sound.{Sound};
-ghost use Rattle.keyspace.specs.Scopes.{anything, Within};
+ghost use Rattle.keyspace.specs.Scopes.{Within};
 ghost use Rattle.keyspace.specs.Forms.{AreWhole};
-ghost use Rattle.rdb_reader.specs.Loads.{Holds, ReadsItem, ReadsAll, load_fault};
+ghost use Rattle.rdb_reader.specs.Loads.{Holds, ReadsItem, ReadsAll, any_key, load_fault};
 
 use crate::fault::LoadFault;
 use crate::keys::{Put, put_key};
@@ -76,7 +76,7 @@ fn read_item<B: BlockStore>(
     ensures sound { Sound keyspace.new.bases (B.blocks keyspace.new.store) }
     ensures served { Served B.step keyspace.old.store keyspace.new.store }
     ensures settings { SameSettings keyspace.old.bases keyspace.new.bases }
-    ensures within { Within anything keyspace.old.bases keyspace.new.bases (B.blocks keyspace.old.store) (B.blocks keyspace.new.store) }
+    ensures within { Within any_key keyspace.old.bases keyspace.new.bases (B.blocks keyspace.old.store) (B.blocks keyspace.new.store) }
     ensures whole { IfOk result (λ read. AreWhole keyspace.old.bases → AreWhole keyspace.new.bases) }
 {
     let item = match next_item(alloc, bytes, so_far.at) {
@@ -136,7 +136,7 @@ pub fn read_items<B: BlockStore>(
     ensures sound { Sound keyspace.new.bases (B.blocks keyspace.new.store) }
     ensures served { Served B.step keyspace.old.store keyspace.new.store }
     ensures settings { SameSettings keyspace.old.bases keyspace.new.bases }
-    ensures within { Within anything keyspace.old.bases keyspace.new.bases (B.blocks keyspace.old.store) (B.blocks keyspace.new.store) }
+    ensures within { Within any_key keyspace.old.bases keyspace.new.bases (B.blocks keyspace.old.store) (B.blocks keyspace.new.store) }
     ensures whole { IfOk result (λ loaded. AreWhole keyspace.new.bases) }
 {
     let at = match check_header(bytes) {

@@ -1,16 +1,16 @@
 //! Keys of a file, put into a keyspace.
 
-ghost use Rattle.std.specs.Prelude.{◌≡◌, ◌<◌, [], OnOk, OnErr, IfOk, is_some};
+ghost use Rattle.std.specs.Prelude.{◌≡◌, ◌<◌, [], OnOk, OnErr, IfOk, is_some, true};
 ghost use Rattle.blocks.specs.Blocks.{Changes, Served};
 ghost use Rattle.plain_world.specs.Worlds.{in_time, look, put};
 ghost use Rattle.keyspace.specs.Databases.{means, SameSettings};
 ghost use Rattle.keyspace.specs.Sound.{Sound};
-ghost use Rattle.keyspace.specs.Scopes.{anything, Within};
+ghost use Rattle.keyspace.specs.Scopes.{Within};
 ghost use Rattle.keyspace.specs.Forms.{AreWhole};
 ghost use Rattle.keyspace.specs.Values as values;
 ghost use Rattle.held.specs.Calls.{IsDeadline};
 ghost use Rattle.rdb_grammar.specs.Views.{text_of, value_of};
-ghost use Rattle.rdb_reader.specs.Loads.{Puts};
+ghost use Rattle.rdb_reader.specs.Loads.{Puts, any_key};
 
 use blocks::{BlockStore, Memory};
 use itoa::Buffer;
@@ -61,7 +61,7 @@ fn put_value<B: BlockStore>(
     ensures sound { Sound keyspace.new.bases (B.blocks keyspace.new.store) }
     ensures served { Served B.step keyspace.old.store keyspace.new.store }
     ensures settings { SameSettings keyspace.old.bases keyspace.new.bases }
-    ensures within { Within anything keyspace.old.bases keyspace.new.bases (B.blocks keyspace.old.store) (B.blocks keyspace.new.store) }
+    ensures within { Within any_key keyspace.old.bases keyspace.new.bases (B.blocks keyspace.old.store) (B.blocks keyspace.new.store) }
     ensures whole { OnOk result (AreWhole keyspace.old.bases → AreWhole keyspace.new.bases) }
 {
     let made = make_value(&mut keyspace.store, value)?;
@@ -99,7 +99,7 @@ pub enum Put {
 }
 
 /// Puts a key of the file with its value into a database, unless the moment is past its deadline. After `Twice`, and for want
-/// of memory, the key may have the later value.
+/// of memory, the key may have the later value. No memory is wanted where it is passed over.
 //
 // A key that is kept is searched only once, when it is put: where it was there, the count of keys stays.
 #[tactic(auto, using(keyspace::proofs::Serving::nothing, keyspace::proofs::Serving::both, keyspace::proofs::Serving::unmoved, keyspace::proofs::Serving::further))]
@@ -114,11 +114,12 @@ pub fn put_key<B: BlockStore>(
     requires db { db < 16 }
     requires latest { IsDeadline deadline }
     requires sound { Sound keyspace.old.bases (B.blocks keyspace.old.store) }
+    ensures memory { OnErr result (in_time moment deadline ≡ true) }
     ensures puts { IfOk result (Puts moment (means db keyspace.old.bases (B.blocks keyspace.old.store)) (means db keyspace.new.bases (B.blocks keyspace.new.store)) (text_of name.now) (record { value = value_of value.now; deadline = deadline })) }
     ensures sound { Sound keyspace.new.bases (B.blocks keyspace.new.store) }
     ensures served { Served B.step keyspace.old.store keyspace.new.store }
     ensures settings { SameSettings keyspace.old.bases keyspace.new.bases }
-    ensures within { Within anything keyspace.old.bases keyspace.new.bases (B.blocks keyspace.old.store) (B.blocks keyspace.new.store) }
+    ensures within { Within any_key keyspace.old.bases keyspace.new.bases (B.blocks keyspace.old.store) (B.blocks keyspace.new.store) }
     ensures whole { IfOk result (λ put. AreWhole keyspace.old.bases → AreWhole keyspace.new.bases) }
 {
     let mut buffer = Buffer::new();

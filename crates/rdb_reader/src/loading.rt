@@ -8,8 +8,8 @@ ghost use Rattle.keyspace.specs.Databases.{means, SameSettings};
 ghost use Rattle.keyspace.specs.Sound.{Sound};
 ghost use Rattle.keyspace.specs.Scopes.{anything, Within};
 ghost use Rattle.keyspace.specs.Forms.{AreWhole};
-ghost use Rattle.rdb_reader.specs.Fetching.{Counts};
-ghost use Rattle.rdb_reader.specs.Loads.{Loads};
+ghost use Rattle.rdb_reader.specs.Fetching.{Counts, TakesFile, has_failed};
+ghost use Rattle.rdb_reader.specs.Loads.{Loads, load_scope};
 
 use crate::fault::LoadFault;
 use crate::fetch::fetch;
@@ -46,9 +46,10 @@ fn clear_all<B: BlockStore>(keyspace: &mut Keyspace<B>)
 /// moment is past is passed over; the moment is in milliseconds.
 ///
 /// `Refused` comes exactly where the format excludes the file, with its first fault; `Host` exactly where the host's
-/// count of faults rose; `Limit` exactly where the file has more bytes than the limit. After each fault the keyspace has no key.
+/// count of faults rose, before one byte more than the limit was taken; `Limit` exactly where the file has more bytes than the
+/// limit. After each fault the keyspace has no key.
 ///
-/// The tables come from those before, or from none, by inserts and removals, and each value is encoded as one that is written
+/// The tables come from those before, after a fault also from none, by inserts and removals, and each value is encoded as one that is written
 /// whole (Redis command reference, "OBJECT ENCODING").
 #[tactic(auto, using(keyspace::proofs::Serving::nothing, keyspace::proofs::Serving::both, keyspace::proofs::Serving::unmoved, keyspace::proofs::Serving::further))]
 pub fn load<H: Host, B: BlockStore>(
@@ -61,12 +62,13 @@ pub fn load<H: Host, B: BlockStore>(
 ) -> Result<Loaded, LoadFault>
     requires empty { means 0 keyspace.old.bases (B.blocks keyspace.old.store) ≡ new_world }
     requires sound { Sound keyspace.old.bases (B.blocks keyspace.old.store) }
+    ensures few { TakesFile (H.seen host.old).files name.now limit (H.seen host.new) (has_failed result) }
     ensures loads { Loads (H.seen host.old).files name.now limit moment (means 0 keyspace.new.bases (B.blocks keyspace.new.store)) result }
     ensures counts { Counts (H.seen host.old).reading.faults (H.seen host.new).reading.faults (((H.seen host.old).reading.sure ≡ true) × IsListed (H.seen host.old).files name.now) result }
     ensures sound { Sound keyspace.new.bases (B.blocks keyspace.new.store) }
     ensures served { Served B.step keyspace.old.store keyspace.new.store }
     ensures settings { SameSettings keyspace.old.bases keyspace.new.bases }
-    ensures within { Within anything keyspace.old.bases keyspace.new.bases (B.blocks keyspace.old.store) (B.blocks keyspace.new.store) }
+    ensures within { Within (load_scope result) keyspace.old.bases keyspace.new.bases (B.blocks keyspace.old.store) (B.blocks keyspace.new.store) }
     ensures whole { AreWhole keyspace.new.bases }
 {
     let bytes = match fetch(alloc, host, name, limit) {

@@ -1,5 +1,5 @@
 -- What is said of a serving, for those who call it.
-use Rattle.std.proofs.Common.{◌≡◌, ◌⊎◌, ◌<◌, ℕ, List, [], ◌∷◌, ◌++◌, length, Option, Some, None, Bool, true, false, refl, sym, ap, subst, ◌∙◌, inl, inr, arith, length-append}
+use Rattle.std.proofs.Common.{◌≡◌, ◌<◌, ℕ, List, [], ◌∷◌, ◌++◌, length, Option, Some, None, Bool, true, false, refl, sym, ap, subst, ◌∙◌, inl, inr, arith, length-append}
 use Rattle.std.specs.Io.KnownBytes.{Consumes, IsAtEnd}
 use Rattle.std.proofs.lemmas.List.{append_assoc, append-nil, append_cancel_right}
 use Rattle.outside.specs.Streams.{SourceSeen, SinkSeen, Fits}
@@ -12,7 +12,7 @@ use Rattle.resp_frames.proofs.Streams.{requests_first, framed_more, one_frames, 
 use Rattle.resp_frames.specs.declared.rule.Rule.{Rule}
 use Rattle.serving.specs.declared.ending.Ended.{Ended}
 use Rattle.serving.specs.declared.ending.Ended.TheVariants as endings
-use Rattle.serving.specs.Served.{at_limit, take_fails, finds_end, EndsBy, CountsReads, AnswersPart, Ends, answered, quit, write_fault, no_memory, Served}
+use Rattle.serving.specs.Served.{at_limit, take_fails, finds_end, EndsBy, CountsReads, AnswersPart, answered, quit, write_fault, no_memory, Served}
 use Rattle.serving.specs.Path.{GoOn}
 use Rattle.serving.specs.Exactly as exactly
 use Rattle.serving.proofs.Wholes as wholes

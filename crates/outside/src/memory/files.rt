@@ -1,6 +1,6 @@
 //! A host and a shelf over memory, which tell their files.
 
-ghost use Rattle.std.specs.Prelude.{◌≡◌, ◌≤◌, ◌<◌, ◌-◌, ◌&&◌, min, Option, Some, None, IfSome, IfNone, IfOk, [], length, take, drop, vec_len, true, false, is_some, if◌then◌else◌, map, bytes_eq, string_bytes};
+ghost use Rattle.std.specs.Prelude.{◌≡◌, ◌≤◌, ◌<◌, ◌-◌, ◌&&◌, min, Option, Some, None, IfSome, IfNone, IfOk, [], length, take, drop, vec_len, true, false, is_some, map, bytes_eq, string_bytes};
 ghost use Rattle.std.specs.List.{position};
 ghost use Rattle.outside.specs.Calls.{IsCall, has_place};
 ghost use Rattle.outside.specs.Files.{Begins, TakesOf, Makes, PutsOn, file_of, begun_bytes, one_file, made_of, put_bytes};

@@ -1,6 +1,6 @@
 //! A source and a sink over memory, which tell their bytes.
 
-ghost use Rattle.std.specs.Prelude.{◌≡◌, ◌≤◌, ◌<◌, ◌-◌, ◌+◌, ◌++◌, ◌||◌, min, max, true, not, ℕ, List, Option, Some, [], IfOk, length, take, drop, vec_len, nat_lt};
+ghost use Rattle.std.specs.Prelude.{◌≡◌, ◌≤◌, ◌<◌, ◌-◌, ◌+◌, ◌++◌, min, true, ℕ, List, Option, Some, [], IfOk, length, take, drop, vec_len};
 ghost use Rattle.outside.specs.Calls.{IsCall, has_place, bounded};
 ghost use Rattle.outside.specs.Streams.{Takes, PutsSome, is_empty, sure_room};
 

@@ -1,5 +1,5 @@
 use Rattle.keyspace.specs.Databases.{means}
-use Rattle.rdb_reader.proofs.Read.{fault_read, passed_read, deadline_read, database_read, key_kept, key_passed, key_again, file_ends}
+use Rattle.rdb_reader.proofs.Read.{fault_read, passed_read, deadline_read, database_read, key_kept, key_passed, key_again, key_wanted, file_ends}
 use Rattle.rdb_reader.proofs.items.read_item.Goals as goal
 
 pub returns-in-Err-clause-reads : goal.returns-in-Err-clause-reads
@@ -49,3 +49,8 @@ returns-in-Ok-Twice-clause-reads g c =
     let world = means 0 c.args.keyspace.now.bases (g.B.BlockStore.blocks c.args.keyspace.now.store) in
     key_again c.args.bytes.now c.args.moment world c.args.so_far c.requires.held c.in-Ok.item.next _ _ (rw c.in-Key.is at c.in-Ok.ensures.item)
     (rw c.in-Ok-Twice.field-0-is at c.in-Ok-Twice.ensures.puts)
+
+pub returns-in-Err-put_key-clause-reads : goal.returns-in-Err-put_key-clause-reads
+returns-in-Err-put_key-clause-reads g c =
+    let world = means 0 c.args.keyspace.now.bases (g.B.BlockStore.blocks c.args.keyspace.now.store) in
+    key_wanted c.args.bytes.now c.args.moment world c.args.so_far c.requires.held c.in-Ok.item.next _ _ (rw c.in-Key.is at c.in-Ok.ensures.item) c.in-Err-put_key.ensures.memory

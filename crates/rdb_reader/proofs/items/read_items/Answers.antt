@@ -1,9 +1,9 @@
 use Rattle.std.proofs.Common.{refl}
 use Rattle.blocks.specs.Blocks.{no_step}
 use Rattle.keyspace.specs.Databases.{means}
-use Rattle.keyspace.specs.Scopes.{anything}
 use Rattle.keyspace.proofs.Serving.{unmoved}
 use Rattle.keyspace.proofs.Forming.{none_whole}
+use Rattle.rdb_reader.specs.Loads.{any_key}
 use Rattle.rdb_reader.proofs.Read.{holds_nothing}
 use Rattle.rdb_reader.proofs.items.read_items.Goals as goal
 
@@ -16,7 +16,7 @@ items-init g c =
       sound = c.requires.sound;
       served = no_step;
       settings = record { limits = refl; seed = refl; turn = refl };
-      within = unmoved anything c.args.keyspace.now.bases (g.B.BlockStore.blocks c.args.keyspace.now.store);
+      within = unmoved any_key c.args.keyspace.now.bases (g.B.BlockStore.blocks c.args.keyspace.now.store);
       whole = none_whole c.args.keyspace.now.bases (g.B.BlockStore.blocks c.args.keyspace.now.store) c.requires.sound.arranged c.requires.empty;
     }
 

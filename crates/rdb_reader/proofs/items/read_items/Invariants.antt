@@ -2,9 +2,9 @@ use Rattle.std.proofs.Common.{◌-◌, length}
 use Rattle.blocks.specs.Blocks.{Served}
 use Rattle.keyspace.specs.Databases.{means, SameSettings}
 use Rattle.keyspace.specs.Sound.{Sound}
-use Rattle.keyspace.specs.Scopes.{anything, Within}
+use Rattle.keyspace.specs.Scopes.{Within}
 use Rattle.keyspace.specs.Forms.{AreWhole}
-use Rattle.rdb_reader.specs.Loads.{Holds}
+use Rattle.rdb_reader.specs.Loads.{Holds, any_key}
 use Rattle.rdb_reader.proofs.items.read_items.Given as goal
 
 abbrev pub invariant-items : goal.invariant-items
@@ -15,7 +15,7 @@ invariant-items g l =
       sound : Sound l.keyspace.bases (blocks l.keyspace.store);
       served : Served g.B.BlockStore.step l.fn.keyspace.store l.keyspace.store;
       settings : SameSettings l.fn.keyspace.bases l.keyspace.bases;
-      within : Within anything l.fn.keyspace.bases l.keyspace.bases (blocks l.fn.keyspace.store) (blocks l.keyspace.store);
+      within : Within any_key l.fn.keyspace.bases l.keyspace.bases (blocks l.fn.keyspace.store) (blocks l.keyspace.store);
       whole : AreWhole l.keyspace.bases;
     }
 

@@ -1,9 +1,10 @@
 use Rattle.std.proofs.Common.{sym, subst}
-use Rattle.keyspace.specs.Scopes.{anything, one_key, Within}
-use Rattle.keyspace.proofs.Serving.{unmoved, unbound}
+use Rattle.keyspace.specs.Scopes.{one_key, Within}
+use Rattle.keyspace.proofs.Serving.{unmoved}
 use Rattle.keyspace.proofs.Forming.{put_whole}
 use Rattle.keyspace.proofs.Uses.{Made-intact, Put-sound, Put-within}
-use Rattle.rdb_reader.proofs.Entries.{value_put}
+use Rattle.rdb_reader.specs.Loads.{any_key}
+use Rattle.rdb_reader.proofs.Entries.{value_put, one_of_any}
 use Rattle.rdb_reader.proofs.keys.put_value.Goals as goal
 
 pub put-requires-clause-intact : goal.put-requires-clause-intact
@@ -18,7 +19,7 @@ returns-clause-world g c =
 
 pub returns-clause-within : goal.returns-clause-within
 returns-clause-within g c =
-    unbound (one_key c.args.db c.args.name.now) c.args.keyspace.now.bases c.put.new.self.bases _ _
+    one_of_any c.args.db c.args.name.now c.args.keyspace.now.bases c.put.new.self.bases _ _
     (Put-within _ _ _ c.in_ok-made.made c.requires.sound c.in_ok-made.ensures.changes c.put.new.self.bases _ (one_key c.args.db c.args.name.now) c.put.ensures.within)
 
 pub returns-clause-whole : goal.returns-clause-whole
@@ -29,4 +30,4 @@ returns-clause-whole g c =
 pub returns-in_err-made-clause-within : goal.returns-in_err-made-clause-within
 returns-in_err-made-clause-within g c =
     let m = g.B.BlockStore.blocks c.args.keyspace.now.store in
-    subst (Within anything c.args.keyspace.now.bases c.args.keyspace.now.bases m) (sym c.in_err-made.ensures.err) (unmoved anything c.args.keyspace.now.bases m)
+    subst (Within any_key c.args.keyspace.now.bases c.args.keyspace.now.bases m) (sym c.in_err-made.ensures.err) (unmoved any_key c.args.keyspace.now.bases m)

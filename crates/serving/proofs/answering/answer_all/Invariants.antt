@@ -1,4 +1,4 @@
-use Rattle.std.proofs.Common.{length, []}
+use Rattle.std.proofs.Common.{length}
 use Rattle.resp_frames.specs.Feeding.{SameFed}
 use Rattle.outside.specs.Pacing.{following}
 use Rattle.serving.specs.Output.{pending_bytes}
