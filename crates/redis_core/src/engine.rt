@@ -1,15 +1,15 @@
 //! The engine, and what a request led to.
 
-ghost use Rattle.std.specs.Prelude.{◌≡◌, ◌<◌, ◌⊎◌, None, false, true, max, IfOk, is_err};
+ghost use Rattle.std.specs.Prelude.{◌≡◌, ◌<◌, ◌⊎◌, None, false, true, max, IfOk, OnErr, is_err};
 ghost use Rattle.outside.specs.Files.{IsListed};
 ghost use Rattle.blocks.specs.Blocks.{no_blocks, Served};
 ghost use Rattle.plain_model.specs.Meant.{meant, asks_to_quit};
 ghost use Rattle.object_codec.specs.Limits.{AreInRange};
 ghost use Rattle.keyspace.specs.Sound.{Sound};
-ghost use Rattle.keyspace.specs.Scopes.{anything, Within};
+ghost use Rattle.keyspace.specs.Scopes.{Within};
 ghost use Rattle.keyspace.specs.Forms.{AreWhole};
-ghost use Rattle.rdb_reader.specs.Fetching.{Counts};
-ghost use Rattle.rdb_reader.specs.Loads.{Loads};
+ghost use Rattle.rdb_reader.specs.Fetching.{Counts, TakesFile, has_failed};
+ghost use Rattle.rdb_reader.specs.Loads.{Loads, load_scope};
 ghost use Rattle.redis_core.specs.Engines.{world_of, keyspace_of, HasNoKey, IsNew, Stays, Keeps, Executes, is_memory};
 ghost use Rattle.redis_core.specs.Background.{EngineRests, no_steps};
 ghost use Rattle.redis_core.specs.Touched.{AsksNoMoves};
@@ -116,9 +116,11 @@ impl<B: BlockStore> Engine<B> {
     /// is selected afterwards. The moment, in milliseconds, counts as the last one that was used where that is later.
     ///
     /// `Refused` comes exactly where the format excludes the file, with its first fault; `Host` exactly where the host's
-    /// count of faults rose; `Limit` exactly where the file has more bytes than the limit. After each of them the engine has no key.
+    /// count of faults rose, before one byte more than the limit was taken; `Limit` exactly where the file has more bytes than
+    /// the limit. After each fault, and want of memory, the engine has no key, so that another file may be loaded unless it is
+    /// spent.
     ///
-    /// The tables come from those before, or from none, by inserts and removals, and each value is encoded as one that is
+    /// The tables come from those before, after a fault also from none, by inserts and removals, and each value is encoded as one that is
     /// written whole.
     pub fn load<H: Host>(
         &mut self,
@@ -129,6 +131,8 @@ impl<B: BlockStore> Engine<B> {
     ) -> Result<Loaded, LoadFault>
         requires empty { HasNoKey B.blocks self.old ⊎ (self.old.is_spent ≡ true) }
         ensures loads { self.old.is_spent ≡ false → Loads (H.seen host.old).files name.now limit self.new.last (world_of B.blocks self.new) result }
+        ensures none { self.old.is_spent ≡ false → OnErr result (HasNoKey B.blocks self.new) }
+        ensures few { self.old.is_spent ≡ false → TakesFile (H.seen host.old).files name.now limit (H.seen host.new) (has_failed result) }
         ensures counts { Counts (H.seen host.old).reading.faults (H.seen host.new).reading.faults (((H.seen host.old).reading.sure ≡ true) × IsListed (H.seen host.old).files name.now) result }
         ensures moment { self.new.last ≡ max self.old.last moment }
         ensures spent { self.new.is_spent ≡ is_memory result }
@@ -136,7 +140,7 @@ impl<B: BlockStore> Engine<B> {
         ensures keeps { Keeps B.blocks self.old self.new }
         ensures served { Served B.step self.old.store self.new.store }
         ensures walk { self.new.walk ≡ self.old.walk }
-        ensures within { Within anything self.old.bases self.new.bases (B.blocks self.old.store) (B.blocks self.new.store) }
+        ensures within { Within (load_scope result) self.old.bases self.new.bases (B.blocks self.old.store) (B.blocks self.new.store) }
         ensures whole { self.old.is_spent ≡ false → AreWhole self.new.bases }
     {
         self.observe(moment);

@@ -1,6 +1,6 @@
 use Rattle.std.proofs.Common.{sym, subst, ◌∙◌}
 use Rattle.keyspace.specs.Databases.{means}
-use Rattle.rdb_reader.proofs.Living.{loads_live}
+use Rattle.rdb_reader.proofs.Living.{loads_live, loads_none}
 use Rattle.keyspace.specs.Scopes.{anything, Within}
 use Rattle.keyspace.proofs.Serving.{unmoved}
 use Rattle.redis_core.specs.Engines.{State, Keeps}
@@ -25,3 +25,9 @@ returns-then-self-clause-within g c =
     let blocks = g.B.BlockStore.blocks in
     let old = c.args.self.now in
     subst (λ (x : State g.row.B.Denot). Within anything old.bases x.bases (blocks old.store) (blocks x.store)) (sym c.observe.ensures) (unmoved anything old.bases (blocks old.store))
+
+-- after a fault nothing is left
+pub returns-clause-none : goal.returns-clause-none
+returns-clause-none g c alive =
+    let new = c.load-loaded.new.keyspace in
+    loads_none (g.H.Host.seen c.args.host.now).files c.args.name.now c.args.limit c.self.inside.last (means 0 new.bases (g.B.BlockStore.blocks new.store)) c.load-loaded.result c.load-loaded.ensures.loads
