@@ -2,34 +2,11 @@
 //! replies to standard output and what ended the run to standard error.
 #![tactic(auto)]
 
-mod ending;
-#[cfg(test)]
-mod file_tests;
-mod lent;
-#[cfg(test)]
-mod loading_tests;
-mod notes;
-#[cfg(test)]
-mod plan_tests;
-#[cfg(test)]
-mod slab_tests;
-mod starting;
-#[cfg(test)]
-mod string_tests;
-#[cfg(test)]
-mod test_runs;
-#[cfg(test)]
-mod tests;
-mod top_call;
-#[cfg(test)]
-mod word_tests;
-mod words;
-
-use crate::ending::Ending;
-use crate::notes::note;
-use crate::top_call::redis_core;
-use crate::words::behind;
 use outside::{Clock, FileHost, Pacer, Sink, StdSink, StdSource, SteadyPacer, SystemClock};
+use program_top::ending::Ending;
+use program_top::notes::note;
+use program_top::top_call::redis_core;
+use program_top::words::behind;
 use std::alloc::AllocError;
 use std::env;
 use std::io::ErrorKind;

@@ -1,0 +1,32 @@
+-- What the code reads of the words, as what is given.
+use Rattle.std.specs.Prelude.{◌^◌, ◌≤◌, Some, None}
+use Rattle.object_codec.specs.Limits.{AreInRange}
+use Rattle.program_top.specs.Given.{Number, numbered, Options, Given, Wrong, Run}
+use Rattle.program_top.specs.declared.words as words
+use Rattle.program_top.specs.declared.words.Given.TheVariants as read
+
+-- an option of the code's table
+abbrev pub number_read : words.Number.Number → Number
+number_read number = numbered number.name.now number.least number.most number.usual
+
+-- what was read of the words
+abbrev pub options_read : words.Options.Options → Options
+options_read options = record {
+  file = elim options.file [ None ↦ None | Some name ↦ Some name.now ];
+  seed = options.seed;
+  effort = options.effort;
+  limits = options.limits;
+  max_input = options.max_input;
+}
+
+abbrev pub given_read : words.Given.Given → Given
+given_read read.Wrong = Wrong
+given_read (read.Run options) = Run (options_read options)
+
+-- what is read of words is in range
+abbrev pub AreUsable : words.Options.Options → Type 0
+AreUsable options = AreInRange options.limits × (options.max_input ≤ 2 ^ 62)
+
+abbrev pub AreTaken : words.Given.Given → Type 0
+AreTaken read.Wrong = Unit {0}
+AreTaken (read.Run options) = AreUsable options

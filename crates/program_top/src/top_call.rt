@@ -1,0 +1,125 @@
+//! The top call.
+
+ghost use Rattle.std.specs.Prelude.{◌≡◌, ◌^◌, ◌≤◌, [], map, string_bytes};
+ghost use Rattle.object_codec.specs.Limits.{AreInRange};
+ghost use Rattle.program_top.specs.Given.{given_by};
+ghost use Rattle.program_top.specs.WordsRead.{AreTaken, given_read, options_read};
+ghost use Rattle.program_top.specs.Given.{Run};
+ghost use Rattle.program_top.specs.Stepped.{RunsNoted, StepsStatus};
+ghost use Rattle.program_top.specs.Headline.{Concludes, CountsFaults, Exactly, Completes, NotesStatus};
+
+use crate::ending::{Ending, served_to};
+use crate::lent::serve_noted;
+use crate::notes::note;
+use crate::starting::start;
+use crate::words::{Given, Options, read_words};
+use outside::{Clock, Conductor, Host, Pacer, Sink, Source};
+use serving::moment_of;
+use std::alloc::Global;
+
+// Starts, and serves where the run begins.
+fn run<H: Host, I: Source, O: Sink, N: Sink>(
+    alloc: Global,
+    options: Options<'_>,
+    host: &mut H,
+    input: &mut I,
+    output: &mut O,
+    notes: &mut N,
+    clock: &mut Box<dyn Clock>,
+    pacers: Vec<Box<dyn Pacer>>,
+) -> Ending
+    requires limits { AreInRange options.limits }
+    requires limit { options.max_input ≤ 2 ^ 62 }
+    ensures { RunsNoted (Run (options_read options.entry)) (record { host = H.seen host.old; input = I.seen input.old; output = O.seen output.old; notes = N.seen notes.old; clock = answers clock.old; pacers = map (λ b. (⟦<dyn Pacer as Pacer>⟧ b.vtable).seen b.value) pacers.items })
+        (record { host = H.seen host.new; input = I.seen input.new; output = O.seen output.new; notes = N.seen notes.new; clock = answers clock.new; pacers = [] }) result }
+{
+    let moment = moment_of(clock);
+    match start(alloc, options, host, moment) {
+        Ok(mut engine) => {
+            let mut conductor = Conductor::new(pacers, options.effort);
+            served_to(serve_noted(
+                alloc,
+                &mut engine,
+                input,
+                output,
+                notes,
+                clock,
+                &mut conductor,
+                options.max_input,
+            ))
+        }
+        Err(ending) => {
+            note(notes, ending);
+            ending
+        }
+    }
+}
+
+/// A run with what the words are read as, and its line in the notes.
+pub fn run_given<H: Host, I: Source, O: Sink, N: Sink>(
+    alloc: Global,
+    given: Given<'_>,
+    host: &mut H,
+    input: &mut I,
+    output: &mut O,
+    notes: &mut N,
+    clock: &mut Box<dyn Clock>,
+    pacers: Vec<Box<dyn Pacer>>,
+) -> Ending
+    requires { AreTaken given }
+    ensures { RunsNoted (given_read given.entry) (record { host = H.seen host.old; input = I.seen input.old; output = O.seen output.old; notes = N.seen notes.old; clock = answers clock.old; pacers = map (λ b. (⟦<dyn Pacer as Pacer>⟧ b.vtable).seen b.value) pacers.items })
+        (record { host = H.seen host.new; input = I.seen input.new; output = O.seen output.new; notes = N.seen notes.new; clock = answers clock.new; pacers = [] }) result }
+{
+    match given {
+        Given::Wrong => {
+            note(notes, Ending::Usage);
+            Ending::Usage
+        }
+        Given::Run(options) => run(alloc, options, host, input, output, notes, clock, pacers),
+    }
+}
+
+/// Loads the file that the words name, serves the requests of the input, and says with which status the run ends.
+///
+/// The words are those behind the program's name: `--load FILE`, and the options whose values are numbers, each once at most
+/// and each as `--name VALUE` or `--name=VALUE`. Anything else is status 1. The clock, in milliseconds, is read once before
+/// all else, and once for each request. After each request but QUIT a plan is asked of the first pacer that isn't spent, and
+/// done; each pacer is tuned to `--effort` before. The file is of the RDB format, version 9 to 11, and has at most as many bytes as
+/// `--max-input` says, 2^40 where it doesn't: 6 where the host failed or has no file of the name, 7 where the format excludes
+/// the file, 9 where it has more bytes. Then nothing is served.
+/// Serving ends with 0 where the input ended after a whole request or a request ended the run, 2 where it breaks a rule of
+/// RESP2, whose line stands behind the replies, 3 where it ended inside a request, 4 where the input failed, 5 where the
+/// output failed, 9 where so many bytes were taken.
+/// 8 is want of memory. Each status but 0 has its line in the notes.
+#[tactic(none)]
+pub fn redis_core<H: Host, I: Source, O: Sink, N: Sink>(
+    alloc: Global,
+    words: &[String],
+    host: &mut H,
+    input: &mut I,
+    output: &mut O,
+    notes: &mut N,
+    clock: &mut Box<dyn Clock>,
+    pacers: Vec<Box<dyn Pacer>>,
+) -> u8
+    ensures headline { Concludes (given_by (map string_bytes words.now)) (record { host = H.seen host.old; input = I.seen input.old; output = O.seen output.old; notes = N.seen notes.old; clock = answers clock.old; pacers = map (λ b. (⟦<dyn Pacer as Pacer>⟧ b.vtable).seen b.value) pacers.items })
+        (record { host = H.seen host.new; input = I.seen input.new; output = O.seen output.new; notes = N.seen notes.new; clock = answers clock.new; pacers = [] }) result }
+    ensures stepped { StepsStatus (given_by (map string_bytes words.now)) (record { host = H.seen host.old; input = I.seen input.old; output = O.seen output.old; notes = N.seen notes.old; clock = answers clock.old; pacers = map (λ b. (⟦<dyn Pacer as Pacer>⟧ b.vtable).seen b.value) pacers.items })
+        (record { host = H.seen host.new; input = I.seen input.new; output = O.seen output.new; notes = N.seen notes.new; clock = answers clock.new; pacers = [] }) result }
+    ensures counts { CountsFaults (given_by (map string_bytes words.now)) (record { host = H.seen host.old; input = I.seen input.old; output = O.seen output.old; notes = N.seen notes.old; clock = answers clock.old; pacers = map (λ b. (⟦<dyn Pacer as Pacer>⟧ b.vtable).seen b.value) pacers.items })
+        (record { host = H.seen host.new; input = I.seen input.new; output = O.seen output.new; notes = N.seen notes.new; clock = answers clock.new; pacers = [] }) result }
+    ensures exact { Exactly (given_by (map string_bytes words.now)) (record { host = H.seen host.old; input = I.seen input.old; output = O.seen output.old; notes = N.seen notes.old; clock = answers clock.old; pacers = map (λ b. (⟦<dyn Pacer as Pacer>⟧ b.vtable).seen b.value) pacers.items })
+        (record { host = H.seen host.new; input = I.seen input.new; output = O.seen output.new; notes = N.seen notes.new; clock = answers clock.new; pacers = [] }) result }
+    ensures complete { Completes (given_by (map string_bytes words.now)) (record { host = H.seen host.old; input = I.seen input.old; output = O.seen output.old; notes = N.seen notes.old; clock = answers clock.old; pacers = map (λ b. (⟦<dyn Pacer as Pacer>⟧ b.vtable).seen b.value) pacers.items })
+        (record { host = H.seen host.new; input = I.seen input.new; output = O.seen output.new; notes = N.seen notes.new; clock = answers clock.new; pacers = [] }) result }
+    ensures notes { NotesStatus (record { host = H.seen host.old; input = I.seen input.old; output = O.seen output.old; notes = N.seen notes.old; clock = answers clock.old; pacers = map (λ b. (⟦<dyn Pacer as Pacer>⟧ b.vtable).seen b.value) pacers.items })
+        (record { host = H.seen host.new; input = I.seen input.new; output = O.seen output.new; notes = N.seen notes.new; clock = answers clock.new; pacers = [] }) result }
+{
+    match read_words(alloc, words) {
+        Ok(given) => run_given(alloc, given, host, input, output, notes, clock, pacers).status(),
+        Err(_) => {
+            note(notes, Ending::Memory);
+            Ending::Memory.status()
+        }
+    }
+}

@@ -1,7 +1,0 @@
-use Rattle.redis_core_cli.proofs.Worlds.{lent}
-use Rattle.redis_core_cli.proofs.lent.serve.Goals as goal
-
-pub returns : goal.returns
-returns g c =
-    let n = c.serve_noted.ensures in
-    lent c.args.limit _ _ _ _ c.serve_noted.result n.goes c.served_to.result _ n.line c.requires.alive c.served_to.ensures c.status.ensures
