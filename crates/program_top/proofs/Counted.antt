@@ -113,27 +113,27 @@ other_is_not endings.Cut n = refl
 other_is_not endings.ReadFault n = refl
 other_is_not endings.WriteFault n = refl
 
-module _ (h h1 : HostSeen) where
-  host_rose : (file : Option (List ℕ)) (fails : Bool) → UsesHost file h h1 fails → fails ≡ true → Rose h.reading.faults h1.reading.faults
+module _ (limit : ℕ) (h h1 : HostSeen) where
+  host_rose : (file : Option (List ℕ)) (fails : Bool) → UsesHost limit file h h1 fails → fails ≡ true → Rose h.reading.faults h1.reading.faults
   host_rose None fails u e = let a : false ≡ true = sym u.1 ∙ e in cc
-  host_rose (Some name) true u e = u.0
+  host_rose (Some name) true u e = u.0.0
   host_rose (Some name) false u e = cc
 
-  pub host_same : (file : Option (List ℕ)) (fails : Bool) → UsesHost file h h1 fails → fails ≡ false → h1.reading.faults ≡ h.reading.faults
+  pub host_same : (file : Option (List ℕ)) (fails : Bool) → UsesHost limit file h h1 fails → fails ≡ false → h1.reading.faults ≡ h.reading.faults
   host_same None fails u e = ap (λ s. s.reading.faults) u.0
   host_same (Some name) true u e = cc
-  host_same (Some name) false u e = u
+  host_same (Some name) false u e = u.0
 
-  pub host_at : (file : Option (List ℕ)) (ending : Ending) → UsesHost file h h1 (is_host ending) → RoseAt 6 (status_of ending) h.reading.faults h1.reading.faults
+  pub host_at : (file : Option (List ℕ)) (ending : Ending) → UsesHost limit file h h1 (is_host ending) → RoseAt 6 (status_of ending) h.reading.faults h1.reading.faults
   host_at file ending u = record {
     came = λ e. host_rose file (is_host ending) u (six_is_host ending e);
     other = λ n. host_same file (is_host ending) u (other_is_not ending n);
   }
 
   -- a host that surely doesn't fail
-  pub host_surely : (name : List ℕ) (fails : Bool) → UsesHost (Some name) h h1 fails → h.reading.sure ≡ true → IsListed h.files name → fails ≡ true → ⊥
-  host_surely name true u sure listed e = u.1 (sure, listed)
+  pub host_surely : (name : List ℕ) (fails : Bool) → UsesHost limit (Some name) h h1 fails → h.reading.sure ≡ true → IsListed h.files name → fails ≡ true → ⊥
+  host_surely name true u sure listed e = u.0.1 (sure, listed)
   host_surely name false u sure listed e = cc
 
-  pub host_alone : (fails : Bool) → UsesHost None h h1 fails → h1 ≡ h
+  pub host_alone : (fails : Bool) → UsesHost limit None h h1 fails → h1 ≡ h
   host_alone fails u = u.0

@@ -1,6 +1,6 @@
 -- A run begins, or does not.
-use Rattle.std.proofs.Common.{◌≡◌, ℕ, List, ap, ◌∙◌, subst, sym, max, arith}
-use Rattle.std.specs.Prelude.{Option, None, Ok, Err, true}
+use Rattle.std.proofs.Common.{◌≡◌, ℕ, List, ap, ◌∙◌, subst, sym, refl, inl, inr, max, arith}
+use Rattle.std.specs.Prelude.{Option, Some, None, Ok, Err, Bool, true, false}
 use Rattle.class_heap.specs.declared.heap.ClassHeap.{ClassHeap}
 use Rattle.class_heap.specs.Heap.{heap_blocks, heap_slabs, IsClassHeapStep}
 use Rattle.blocks.specs.Slabs.{no_slabs}
@@ -10,12 +10,13 @@ use Rattle.object_codec.specs.declared.limits.Limits.{Limits}
 use Rattle.keyspace.specs.Sound.{Sound}
 use Rattle.keyspace.proofs.Serving.{both}
 use Rattle.keyspace.specs.Databases.{Bases, means}
-use Rattle.keyspace.specs.Scopes.{anything, AreGrown, Within}
+use Rattle.keyspace.specs.Scopes.{Scope, AreGrown, Within}
 use Rattle.keyspace.specs.Forms.{AreWhole}
 use Rattle.keyspace.proofs.Forming.{none_whole}
 use Rattle.rdb_reader.proofs.Living.{new_live}
 use Rattle.outside.specs.Files.{Files, HostSeen, IsListed}
-use Rattle.rdb_reader.specs.Fetching.{Counts}
+use Rattle.rdb_reader.specs.Fetching.{Counts, has_failed}
+use Rattle.rdb_reader.specs.Taken.{TakesFile}
 use Rattle.rdb_reader.specs.Loads.{Loads}
 use Rattle.rdb_reader.specs.declared.fault.LoadFault.{LoadFault}
 use Rattle.rdb_reader.specs.declared.fault.LoadFault.TheVariants as faults
@@ -30,8 +31,9 @@ use Rattle.program_top.specs.Engines.{Engine, world_of, IsFirst, Begun}
 use Rattle.program_top.specs.WordsRead.{options_read}
 use Rattle.program_top.specs.declared.words.Options as words
 use Rattle.program_top.specs.Started.{Starts, ending_by}
-use Rattle.program_top.specs.Starting.{IsLoaded, NotLoaded, BeginsWith, CountsHost, is_host}
+use Rattle.program_top.specs.Starting.{IsLoaded, NotLoaded, BeginsWith, CountsHost, UsesHost, is_host}
 use Rattle.program_top.specs.declared.ending.Ending.{Ending}
+use Rattle.program_top.specs.declared.ending.Ending.TheVariants as endings
 
 -- an engine without a key that did the work of a plan holds the world of a server that was just begun
 begun_world : (moment : ℕ) (plan : Plan) (old new : Engine) (done : StepsDone) (seed : ℕ) (limits : Limits) → Begun seed limits old → EngineRests heap_blocks heap_slabs IsClassHeapStep moment plan old new done → world_of new ≡ new_world
@@ -45,13 +47,13 @@ begun_world moment plan old new done seed limits b r =
 pub first_new : (engine : Engine) (store : ClassHeap) (seed : ℕ) (limits : Limits) → heap_blocks store ≡ no_blocks → heap_slabs store ≡ no_slabs → engine.store ≡ store → engine.bases.seed ≡ seed → engine.bases.limits ≡ limits → engine.bases.turn ≡ 0 → engine.walk ≡ None → AreGrown engine.bases (heap_blocks engine.store) → HasNoKey heap_blocks engine → Sound engine.bases (heap_blocks engine.store) → IsFirst seed limits engine
 first_new engine store seed limits empty bare same is are turn walk grown none sound = record { seed_is = is; limits_are = are; turn_is = turn; walk_is = walk; grown = grown; whole = none_whole engine.bases (heap_blocks engine.store) sound.arranged none; sound = sound; store = store; empty = empty; bare = bare; served = subst (Served IsClassHeapStep store) (sym same) no_step }
 
-pub first_then : (old new : Engine) (seed : ℕ) (limits : Limits) → IsFirst seed limits old → Keeps heap_blocks old new → Served IsClassHeapStep old.store new.store → new.walk ≡ old.walk → Within anything old.bases new.bases (heap_blocks old.store) (heap_blocks new.store) → AreWhole new.bases → IsFirst seed limits new
-first_then old new seed limits f keeps served walk within whole = record {
+pub first_then : (old new : Engine) (seed : ℕ) (limits : Limits) → IsFirst seed limits old → Keeps heap_blocks old new → Served IsClassHeapStep old.store new.store → new.walk ≡ old.walk → (scope : Scope) → Within scope old.bases new.bases (heap_blocks old.store) (heap_blocks new.store) → AreWhole new.bases → IsFirst seed limits new
+first_then old new seed limits f keeps served walk scope within whole = record {
   seed_is = keeps.settings.seed ∙ f.seed_is;
   limits_are = keeps.settings.limits ∙ f.limits_are;
   turn_is = keeps.settings.turn ∙ f.turn_is;
   walk_is = walk ∙ f.walk_is;
-  grown = still_grown anything old.bases new.bases (heap_blocks old.store) (heap_blocks new.store) within f.grown;
+  grown = still_grown scope old.bases new.bases (heap_blocks old.store) (heap_blocks new.store) within f.grown;
   whole = whole;
   sound = keeps.sound;
   store = f.store;
@@ -108,6 +110,29 @@ module _ (before after : HostSeen) (name : List ℕ) where
 
   pub host_counts : (fault : LoadFault) (ending : Ending) → ending ≡ ending_by fault → Counts {A = Loaded} before.reading.faults after.reading.faults Sure (Err fault) → CountsHost before after name (is_host ending)
   host_counts fault ending e c = subst (λ x. CountsHost before after name (is_host x)) (sym e) (host_by fault c)
+
+-- how far the file was taken
+failed_by : (fault : LoadFault) → has_failed {A = Loaded} (Err fault) ≡ is_host (ending_by fault)
+failed_by (faults.Refused what at) = refl
+failed_by faults.Host = refl
+failed_by faults.Limit = refl
+failed_by faults.Memory = refl
+
+pub file_taken : (files : Files) (name : List ℕ) (limit : ℕ) (after : HostSeen) (fault : LoadFault) (ending : Ending) → ending ≡ ending_by fault → TakesFile files name limit after (has_failed {A = Loaded} (Err fault)) → TakesFile files name limit after (is_host ending)
+file_taken files name limit after fault ending e t = subst (TakesFile files name limit after) (failed_by fault ∙ sym (ap is_host e)) t
+
+-- a host that isn't used
+pub unused : (limit : ℕ) (file : Option (List ℕ)) (host : HostSeen) → UsesHost limit file host host false
+unused limit None host = (refl, refl)
+unused limit (Some name) host = (refl, inr (refl, refl))
+
+-- a host whose file is named, and taken
+pub uses_named : (limit : ℕ) (file : Option (List ℕ)) (name : List ℕ) (before after : HostSeen) (fails : Bool) → file ≡ Some name → CountsHost before after name fails → TakesFile before.files name limit after fails → UsesHost limit file before after fails
+uses_named limit file name before after fails is counts t = let P : Option (List ℕ) → Type 0 = λ o. UsesHost limit o before after fails in subst P (sym is) (counts, inl t)
+
+-- memory wanted before the host was used
+pub unused_memory : (limit : ℕ) (file : Option (List ℕ)) (host : HostSeen) (ending : Ending) → ending ≡ endings.Memory → UsesHost limit file host host (is_host ending)
+unused_memory limit file host ending is = subst (λ e. UsesHost limit file host host (is_host e)) (sym is) (unused limit file host)
 
 -- what begins without a file
 pub fresh_starts : (files : Files) (options : words.Options) (moment : ℕ) (plan : Plan) (old new : Engine) (done : StepsDone) → plan.expire ≡ 0 → plan.rehash ≡ 0 → plan.defrag ≡ 0 → options.file ≡ None → Begun options.seed options.limits old → EngineRests heap_blocks heap_slabs IsClassHeapStep moment plan old new done → Starts files (options_read options) moment (Ok new)

@@ -22,7 +22,9 @@ use Rattle.program_top.specs.Notes.{Notes, refused_line, line_of}
 use Rattle.program_top.specs.Running.{Fails, RunsOptions, begun, not_begun, RunsOf, RunsWords, read, unread}
 use Rattle.program_top.specs.Starting.{Standing, IsLoaded, BeginsWith, Begins, NotLoaded, NotBegun, UsesHost, is_host}
 use Rattle.program_top.specs.Statuses.{status_of, ending_of}
-use Rattle.program_top.specs.Headline.{may_answer, never, standing_clock, Concludes, NoHostFault, NoOutputFault, CountsFaults, NotesStatus, IsTold, IsAbsent, AtFirst, CanBegin, Excused, IsRefused, Exactly, Completes}
+use Rattle.program_top.specs.Headline.{may_answer, standing_clock, Concludes, NoHostFault, NoOutputFault, CountsFaults, NotesStatus, IsTold, IsAbsent, AtFirst, CanBegin, Excused, IsRefused, Exactly, Completes}
+use Rattle.program_top.specs.Stepped.{StepsStatus}
+use Rattle.program_top.specs.TopAnswers.{TopAnswers}
 use Rattle.program_top.specs.declared.ending.Ending.{Ending}
 use Rattle.program_top.specs.declared.ending.Ending.TheVariants as endings
 use Rattle.program_top.proofs.Counted.{stayed, reads_at, reads_surely, writes_at, not_served, not_begun_status, six_is_host, host_at, host_same, host_surely, host_alone}
@@ -123,15 +125,15 @@ module _ (files : Files) (limit : ℕ) (name : List ℕ) (moment : ℕ) where
 module _ (before after : Outside) (ending : Ending) (line : Notes before.notes after.notes (line_of ending)) where
   -- a run with these options ended so, from what stood outside before it to what stands after it
   abbrev Ran : Options → Type 0
-  Ran options = RunsOptions Begins may_answer may_answer never standing_clock options before after ending
+  Ran options = RunsOptions Begins may_answer may_answer standing_clock options before after ending
 
   -- a run with what was given ended so, which may be wrong words
   abbrev RanOf : Given → Type 0
-  RanOf given = RunsOf Begins may_answer may_answer never standing_clock given before after ending
+  RanOf given = RunsOf Begins may_answer may_answer standing_clock given before after ending
 
   -- a run with what was given ended so, where memory may have wanted before the words were read
   abbrev ReadOf : Given → Type 0
-  ReadOf given = RunsWords Begins may_answer may_answer never standing_clock given before after ending
+  ReadOf given = RunsWords Begins may_answer may_answer standing_clock given before after ending
 
   -- the options are these
   ran_as : (given : Given) (options : Options) → RanOf given → given ≡ Run options → Ran options
@@ -150,21 +152,21 @@ module _ (before after : Outside) (ending : Ending) (line : Notes before.notes a
       subst P (sym is) (record {
         read = reads_at before.input after.input ended s.reads;
         write = writes_at before.output after.output ended s.writes;
-        host = stayed 6 (status_of (ending_of ended)) before.host.reading.faults after.host.reading.faults (not_served ended 6 refl) (host_same before.host after.host options.file false host refl);
+        host = stayed 6 (status_of (ending_of ended)) before.host.reading.faults after.host.reading.faults (not_served ended 6 refl) (host_same options.max_input before.host after.host options.file false host refl);
         sure_read = reads_surely before.input after.input ended s.reads;
         sure_host = λ other name e f sure listed six. not_served ended 6 refl six;
-        no_file = λ none. let H : Option (List ℕ) → Type 0 = λ o. UsesHost o before.host after.host false in host_alone before.host after.host false (subst H none host);
+        no_file = λ none. let H : Option (List ℕ) → Type 0 = λ o. UsesHost options.max_input o before.host after.host false in host_alone options.max_input before.host after.host false (subst H none host);
       })
   run_counts options (not_begun f) = record {
     read = stayed 4 (status_of ending) before.input.faults after.input.faults (fails_read options f 4 (omega arith)) (ap (λ i. i.faults) f.input);
     write = stayed 5 (status_of ending) before.output.faults after.output.faults (fails_read options f 5 (omega arith)) (ap (λ o. o.faults) f.output);
-    host = host_at before.host after.host options.file ending f.host;
+    host = host_at options.max_input before.host after.host options.file ending f.host;
     sure_read = λ sure e. fails_read options f 4 (omega arith) e;
     sure_host = λ other name e is sure listed six.
         let same : options ≡ other = cc in
-        let H : Option (List ℕ) → Type 0 = λ o. UsesHost o before.host after.host (is_host ending) in
-        host_surely before.host after.host name (is_host ending) (subst H (ap (λ o. o.file) same ∙ is) f.host) sure listed (six_is_host ending six);
-    no_file = λ none. let H : Option (List ℕ) → Type 0 = λ o. UsesHost o before.host after.host (is_host ending) in host_alone before.host after.host (is_host ending) (subst H none f.host);
+        let H : Option (List ℕ) → Type 0 = λ o. UsesHost options.max_input o before.host after.host (is_host ending) in
+        host_surely options.max_input before.host after.host name (is_host ending) (subst H (ap (λ o. o.file) same ∙ is) f.host) sure listed (six_is_host ending six);
+    no_file = λ none. let H : Option (List ℕ) → Type 0 = λ o. UsesHost options.max_input o before.host after.host (is_host ending) in host_alone options.max_input before.host after.host (is_host ending) (subst H none f.host);
   }
 
   -- nothing was touched, and the status is none that counts
@@ -264,7 +266,7 @@ module _ (before after : Outside) (ending : Ending) (line : Notes before.notes a
 
   -- a run that can begin ends as its input does, unless the host failed or memory wanted
   served : (options : Options) → Ran options → CanBegin before options options.file → Excused (status_of ending) ⊎ ((ended : Ended) × (status_of ending ≡ status_of (ending_of ended)) × exactly.ServesExactly asks_to_quit options.max_input before.input after.input ended)
-  served options (begun first last ended b host s reads is) can = inr (ended, ap status_of is, ends_exactly (may_answer options first) (may_answer options first) asks_to_quit never options.max_input before.input after.input before.output after.output last ended s)
+  served options (begun first last ended b host s reads is) can = inr (ended, ap status_of is, ends_exactly (may_answer options first) (may_answer options first) asks_to_quit options.max_input before.input after.input before.output after.output last ended s)
   served options (not_begun f) can = inl (could_begin options f options.file can f.why)
 
   -- each status of a run whose words were read comes exactly when it is due
@@ -303,7 +305,7 @@ module _ (before after : Outside) (ending : Ending) (line : Notes before.notes a
   whole_status ended (wholes.no_memory is) = inr (ap (λ e. status_of (ending_of e)) is)
 
   -- the host did not fail
-  no_host_fault : (options : Options) (f : Fails options before after ending) (file : Option (List ℕ)) → options.file ≡ file → CanBegin before options file → NotBegun before.host.files options.max_input file f.moment ending → NoHostFault before after → status_of ending ≡ 6 → ⊥
+  no_host_fault : (options : Options) (f : Fails options before after ending) (file : Option (List ℕ)) → options.file ≡ file → CanBegin before options file → NotBegun before.host.files options.max_input file f.moment ending → NoHostFault file before after → status_of ending ≡ 6 → ⊥
   no_host_fault options f None is can n none six = omega (arith, ap status_of n, six)
   no_host_fault options f (Some name) is can n none six =
       let counts = run_counts options (not_begun f) in
@@ -318,16 +320,16 @@ module _ (before after : Outside) (ending : Ending) (line : Notes before.notes a
   excused_whole (inr eight) not = inr eight
 
   -- where the output has no fault no put fails from the first state on
-  no_put_fault : (options : Options) (first : Standing) → Begins options before first → (asked : List Words) → NoOutputFault options before after asked → NoWriteFault (may_answer options first) asked before.output after.output
+  no_put_fault : (options : Options) (first : Standing) → Begins options before first → (asked : List Words) → NoOutputFault options before after asked → NoWriteFault (may_answer options first) asks_to_quit asked before.output after.output
   no_put_fault options first b asked (inl fit) = inl (fit first b)
   no_put_fault options first b asked (inr none) = inr none
 
   -- a run with options completes where nothing fails: its status is 0, or 8 where memory wanted
   run_completes : (options : Options) → Ran options → (bytes : List ℕ) (asked : List Words) (end : End) → CanBegin before options options.file → before.input.told ≡ Some bytes → Frames bytes asked end → EndsWell asks_to_quit asked end → length bytes < options.max_input
-      → NoHostFault before after → NoReadFault before.input after.input → NoOutputFault options before after asked → (status_of ending ≡ 0) ⊎ (status_of ending ≡ 8)
+      → NoHostFault options.file before after → NoReadFault before.input after.input → NoOutputFault options before after asked → (status_of ending ≡ 0) ⊎ (status_of ending ≡ 8)
   run_completes options (begun first last ended b host s reads is) bytes asked end can told frames well few no_host no_read no_write =
       let P : Ending → Type 0 = λ e. (status_of e ≡ 0) ⊎ (status_of e ≡ 8) in
-      let whole = completes (may_answer options first) (may_answer options first) asks_to_quit never options.max_input before.input after.input before.output after.output last ended s bytes asked end told frames well few no_read (no_put_fault options first b asked no_write) in
+      let whole = completes (may_answer options first) (may_answer options first) asks_to_quit options.max_input before.input after.input before.output after.output last ended s bytes asked end told frames well few no_read (no_put_fault options first b asked no_write) in
       subst P (sym is) (whole_status ended whole)
   run_completes options (not_begun f) bytes asked end can told frames well few no_host no_read no_write =
       excused_whole (could_begin options f options.file can f.why) (no_host_fault options f options.file refl can f.why no_host)
@@ -344,21 +346,25 @@ module _ (before after : Outside) (ending : Ending) (line : Notes before.notes a
   -- the same of the status that is answered
   module _ (given : Given) (r : ReadOf given) (status : ℕ) (is : status ≡ status_of ending) where
     -- the run and its line in the notes conclude with the status that is answered
-    pub concludes_as : Concludes given before after status
+    concludes_as : Concludes given before after status
     concludes_as = record { ending = ending; is = is; run = r; line = line }
 
     -- a fault is counted exactly where the status that is answered says that it ended the run
-    pub counts_as : CountsFaults given before after status
+    counts_as : CountsFaults given before after status
     counts_as = let P : ℕ → Type 0 = λ s. CountsFaults given before after s in subst P (sym is) (counts_read given r)
 
     -- the status that is answered comes exactly when it is due
-    pub exactly_as : Exactly given before after status
+    exactly_as : Exactly given before after status
     exactly_as = let P : ℕ → Type 0 = λ s. Exactly given before after s in subst P (sym is) (exactly_read given r)
 
     -- where nothing fails, the status that is answered is 0, or 8 where memory wanted
-    pub completes_as : Completes given before after status
+    completes_as : Completes given before after status
     completes_as = let P : ℕ → Type 0 = λ s. Completes given before after s in subst P (sym is) (completes_read given r)
 
     -- the line in the notes is that of an ending of the status that is answered
-    pub notes_as : NotesStatus before after status
+    notes_as : NotesStatus before after status
     notes_as = record { ending = ending; is = is; line = line }
+
+    -- all that the top call answers
+    pub answers_as : StepsStatus given before after status → TopAnswers given before after status
+    answers_as s = record { headline = concludes_as; stepped = s; counts = counts_as; exact = exactly_as; complete = completes_as; notes = notes_as }

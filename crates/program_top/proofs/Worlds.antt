@@ -1,5 +1,5 @@
 -- The worlds on an engine's way are those of a run.
-use Rattle.std.proofs.Common.{◌≡◌, ◌⊎◌, inl, inr, ℕ, List, [], ◌∷◌, ◌++◌, map, drop, max, Bool, true, false, Option, refl, sym, ap, ◌∙◌, subst, arith}
+use Rattle.std.proofs.Common.{◌≡◌, ℕ, List, [], ◌∷◌, ◌++◌, map, max, Bool, true, false, Option, refl, sym, ap, ◌∙◌, subst, arith}
 use Rattle.class_heap.specs.Heap.{heap_blocks, heap_slabs, IsClassHeapStep}
 use Rattle.outside.specs.Clocks.{Answers, Tells}
 use Rattle.outside.specs.Pacing.{PacerSeen, tuned}
@@ -26,14 +26,14 @@ use Rattle.serving.specs.declared.ending.Ended.TheVariants as served
 use Rattle.program_top.specs.Engines.{Engine, world_of, IsFirst}
 use Rattle.program_top.specs.Given.{Options, Given, Wrong, Run, Outside}
 use Rattle.program_top.specs.WordsRead.{options_read, given_read}
-use Rattle.program_top.specs.Headline.{Clocked, MayAnswer, may_answer, never, standing_clock}
+use Rattle.program_top.specs.Headline.{Clocked, MayAnswer, may_answer, standing_clock}
 use Rattle.program_top.specs.Lent.{Streams, Goes, AnswersLent, Lent}
 use Rattle.program_top.specs.Notes.{Notes, line_of}
 use Rattle.program_top.specs.Running as running
 use Rattle.program_top.specs.Running.{RunsOptions, begun, not_begun, RunsOf, RunsWords, unread, ReadsNoMore}
 use Rattle.program_top.specs.Starting.{Standing, BeginsWith, Begins}
 use Rattle.program_top.specs.Statuses.{status_of, ending_of}
-use Rattle.program_top.specs.Stepped.{standing_of, works, Steps, StepsLast, goes, goes_cut, is_spent, engine_clock, BeginsEngine, RunsEngine, RunsNoted}
+use Rattle.program_top.specs.Stepped.{standing_of, works, Steps, StepsLast, goes, goes_cut, engine_clock, BeginsEngine, RunsEngine, RunsNoted}
 use Rattle.program_top.specs.declared.words.Given as words
 use Rattle.program_top.specs.declared.words.Given.TheVariants as read
 use Rattle.program_top.specs.declared.words.Options as words_options
@@ -148,12 +148,6 @@ path_answers seed asked replies first last same p = turned_answers seed asked re
 pub cut_answers : (seed : ℕ) (asked : List Words) (replies : List (List Part)) (first last : Timed Engine) → first.engine.bases.seed ≡ seed → CutPath Steps StepsLast first asked replies last → MayAnswer seed (standing_of first) asked replies (standing_of last)
 cut_answers seed asked replies first last same p = turned_answers seed asked replies first last same (cut_turned asked replies first last p)
 
--- where all is answered, what is seen of the last state has its clock
-reads_seen : (last : Timed Engine) (seen : Standing) (ended : Ended) (clock : Option Answers) → (ended ≡ served.WriteFault) ⊎ ((ended ≡ served.Memory) ⊎ (seen ≡ standing_of last)) → ReadsNoMore ended last.clock clock → ReadsNoMore ended seen.clock clock
-reads_seen last seen ended clock (inl is) reads = subst (λ e. ReadsNoMore e seen.clock clock) (sym is) tt
-reads_seen last seen ended clock (inr (inl is)) reads = subst (λ e. ReadsNoMore e seen.clock clock) (sym is) tt
-reads_seen last seen ended clock (inr (inr is)) reads = subst (λ (s : Standing). ReadsNoMore ended s.clock clock) (sym is) reads
-
 -- a clock that was read no more
 pub reads_none : (ended : Ended) (clock : Option Answers) → ReadsNoMore ended clock clock
 reads_none served.Whole clock = refl
@@ -163,23 +157,23 @@ reads_none served.ReadFault clock = refl
 reads_none served.Limit clock = refl
 reads_none (served.Protocol rule at) clock = refl
 reads_none served.Memory clock = tt
-reads_none served.WriteFault clock = tt
+reads_none served.WriteFault clock = refl
 
 -- a run of the engine is one of its worlds
-pub run_seen : (options : Options) (before after : Outside) (ending : Ending) → RunsOptions BeginsEngine goes goes_cut is_spent engine_clock options before after ending → RunsOptions Begins may_answer may_answer never standing_clock options before after ending
+pub run_seen : (options : Options) (before after : Outside) (ending : Ending) → RunsOptions BeginsEngine goes goes_cut engine_clock options before after ending → RunsOptions Begins may_answer may_answer standing_clock options before after ending
 run_seen options before after ending (begun first last ended b host s reads is) =
-    let w = served_as (goes options first) (goes_cut options first) (may_answer options (standing_of first)) (may_answer options (standing_of first)) asks_to_quit is_spent never standing_of (λ asked replies last p. path_answers options.seed asked replies first last b.is.seed_is p)
+    let seen = served_as (goes options first) (goes_cut options first) (may_answer options (standing_of first)) (may_answer options (standing_of first)) asks_to_quit standing_of (λ asked replies last p. path_answers options.seed asked replies first last b.is.seed_is p)
     (λ asked replies last p. cut_answers options.seed asked replies first last b.is.seed_is p) options.max_input before.input after.input before.output after.output last ended s in
-    running.begun (standing_of first) w.0 ended b.begins host w.1 (reads_seen last w.0 ended after.clock w.2 reads) is
+    running.begun (standing_of first) (standing_of last) ended b.begins host seen reads is
 run_seen options before after ending (not_begun f) = running.not_begun f
 
 -- what is given runs on the engine's worlds as it runs on the engine, wrong words too
-pub run_of_seen : (given : Given) (before after : Outside) (ending : Ending) → RunsEngine given before after ending → RunsOf Begins may_answer may_answer never standing_clock given before after ending
+pub run_of_seen : (given : Given) (before after : Outside) (ending : Ending) → RunsEngine given before after ending → RunsOf Begins may_answer may_answer standing_clock given before after ending
 run_of_seen Wrong before after ending r = r
 run_of_seen (Run options) before after ending r = run_seen options before after ending r
 
 -- a run of the engine is one of its worlds, also where memory wanted before the words were read
-pub run_words_seen : (given : Given) (before after : Outside) (ending : Ending) → RunsWords BeginsEngine goes goes_cut is_spent engine_clock given before after ending → RunsWords Begins may_answer may_answer never standing_clock given before after ending
+pub run_words_seen : (given : Given) (before after : Outside) (ending : Ending) → RunsWords BeginsEngine goes goes_cut engine_clock given before after ending → RunsWords Begins may_answer may_answer standing_clock given before after ending
 run_words_seen given before after ending (running.read r) = running.read (run_of_seen given before after ending r)
 run_words_seen given before after ending (unread same is) = running.unread same is
 
@@ -191,12 +185,9 @@ begins_engine options before engine clock moment paced read world first last is 
     record { begins = record { moment = subst (ReadsMoment before.clock clock) (sym last) read; world = subst W (sym last) world }; is = first; paced = is }
 
 -- the pacers of a new conductor
-pub conducted : {P : Type 0} (seen : P → PacerSeen) (all given : List P) (front effort : ℕ) → map (λ p. seen p) all ≡ map (λ p. tuned (seen p) effort) given → front ≡ 0 → map (λ p. seen p) (drop front all) ≡ map (λ p. tuned p effort) (map (λ p. seen p) given)
-conducted {P = P} seen all given front effort are none = ap (λ n. map (λ p. seen p) (drop n all)) none ∙ are ∙ map_both given
-  where
-    map_both : (ps : List P) → map (λ p. tuned (seen p) effort) ps ≡ map (λ p. tuned p effort) (map (λ p. seen p) ps)
-    map_both [] = refl
-    map_both (p ∷ ps) = ap (λ l. tuned (seen p) effort ∷ l) (map_both ps)
+pub conducted : {P : Type 0} (seen : P → PacerSeen) (given : List P) (effort : ℕ) → map (λ p. tuned (seen p) effort) given ≡ map (λ p. tuned p effort) (map (λ p. seen p) given)
+conducted seen [] effort = refl
+conducted seen (p ∷ ps) effort = ap (λ l. tuned (seen p) effort ∷ l) (conducted seen ps effort)
 
 -- what finishes with the options that were read is what was given
 pub finishes_as : (given read : Given) (before after : Outside) (ending : Ending) → given ≡ read → RunsNoted read before after ending → RunsNoted given before after ending
@@ -220,18 +211,20 @@ module _ (limit : ℕ) (before after : Streams) (first last : Timed Engine) (end
   lent_answers : AnswersLent limit before after first last ended
   lent_answers =
       let seed = first.engine.bases.seed in
-      let w = served_as (path Steps first) (CutPath Steps StepsLast first) (MayAnswer seed (standing_of first)) (MayAnswer seed (standing_of first)) asks_to_quit is_spent never standing_of (λ asked replies last p. path_answers seed asked replies first last refl p)
-      (λ asked replies last p. cut_answers seed asked replies first last refl p) limit before.input after.input before.output after.output last ended goes in
-      record { seen = w.0; answers = w.1; left = w.2 }
+      served_as (path Steps first) (CutPath Steps StepsLast first) (MayAnswer seed (standing_of first)) (MayAnswer seed (standing_of first)) asks_to_quit standing_of (λ asked replies last p. path_answers seed asked replies first last refl p)
+      (λ asked replies last p. cut_answers seed asked replies first last refl p) limit before.input after.input before.output after.output last ended goes
 
-  -- it is spent only where memory wanted or the output failed
-  lent_spent : first.engine.is_spent ≡ false → is_spent last ≡ true → (status_of (ending_of ended) ≡ 8) ⊎ (status_of (ending_of ended) ≡ 5)
+  -- it is spent only where memory wanted
+  lent_spent : first.engine.is_spent ≡ false → last.engine.is_spent ≡ true → status_of (ending_of ended) ≡ 8
   lent_spent alive spent = elim goes.ends [
-    | answered a by ↦ (let no : true ≡ false = sym spent ∙ turned_alive goes.asked a.replies first last alive (path_turned goes.asked a.replies first last a.may) in cc)
-    | quit a is ↦ (let no : true ≡ false = sym spent ∙ turned_alive (a.front ++ a.quit ∷ []) a.replies first last alive (path_turned (a.front ++ a.quit ∷ []) a.replies first last a.may) in cc)
-    | write_fault a is ↦ inr (ap (λ e. status_of (ending_of e)) is)
-    | no_memory a is ↦ inl (ap (λ e. status_of (ending_of e)) is)
+    | answered a by ↦ still goes.asked a.replies (path_turned goes.asked a.replies first last a.may)
+    | quit a is ↦ still (a.front ++ a.quit ∷ []) a.replies (path_turned (a.front ++ a.quit ∷ []) a.replies first last a.may)
+    | write_fault a is ↦ still a.some a.replies (cut_turned a.some a.replies first last a.may)
+    | no_memory a is ↦ ap (λ e. status_of (ending_of e)) is
   ]
+    where
+      still : (asked : List Words) (replies : List (List Part)) → path Turned first asked replies last → status_of (ending_of ended) ≡ 8
+      still asked replies p = let no : true ≡ false = sym spent ∙ turned_alive asked replies first last alive p in cc
 
   -- what `serve` answers of an engine that wasn't spent, where the notes have the line of the end
   pub lent : (ending : Ending) (status : ℕ) → Notes before.notes after.notes (line_of (ending_of ended)) → first.engine.is_spent ≡ false → ending ≡ ending_of ended → status ≡ status_of ending → Lent limit before after first last status
@@ -240,5 +233,5 @@ module _ (limit : ℕ) (before after : Streams) (first last : Timed Engine) (end
     is = of ∙ ap status_of is;
     goes = record { goes = goes; line = line };
     answers = lent_answers;
-    spent = λ s. let S : ℕ → Type 0 = λ n. (n ≡ 8) ⊎ (n ≡ 5) in subst S (sym (of ∙ ap status_of is)) (lent_spent alive s);
+    spent = λ s. of ∙ ap status_of is ∙ lent_spent alive s;
   }

@@ -1,5 +1,5 @@
 -- What the top call answers: from words, a file, a clock and bytes in to bytes out, a status and a line.
-use Rattle.std.specs.Prelude.{◌≡◌, ℕ, ◌≤◌, ◌<◌, List, [], ◌∷◌, ◌⊎◌, length, Option, Some, None, ⊤, Bool, true, false}
+use Rattle.std.specs.Prelude.{◌≡◌, ℕ, ◌≤◌, ◌<◌, List, [], ◌∷◌, ◌⊎◌, length, Option, Some, None, ⊤, true}
 use Rattle.outside.specs.Clocks.{Answers, Tells}
 use Rattle.outside.specs.Counts.{Rose}
 use Rattle.outside.specs.Files.{Files, IsListed}
@@ -47,10 +47,6 @@ pub record MayAnswer (seed : ℕ) (first : Standing) (asked : List Words) (repli
 abbrev pub may_answer : Options → Standing → List Words → List (List Part) → Standing → Type 0
 may_answer options = MayAnswer options.seed
 
--- what is known of a world is known whether memory is refused or not
-abbrev pub never : Standing → Bool
-never standing = false
-
 -- the clock's answers that follow
 abbrev pub standing_clock : Standing → Option Answers
 standing_clock standing = standing.clock
@@ -59,7 +55,7 @@ standing_clock standing = standing.clock
 pub record Concludes (given : Given) (before after : Outside) (status : ℕ) : Type 0 where
   pub ending : Ending
   pub is : status ≡ status_of ending
-  pub run : RunsWords Begins may_answer may_answer never standing_clock given before after ending
+  pub run : RunsWords Begins may_answer may_answer standing_clock given before after ending
   pub line : Notes before.notes after.notes (line_of ending)
 
 -- a count rose where a status came, and stayed where another did
@@ -154,15 +150,18 @@ pub record Exactly (given : Given) (before after : Outside) (status : ℕ) : Typ
       → Excused status ⊎ ((ended : Ended) × (status ≡ status_of (ending_of ended))
       × ServesExactly asks_to_quit options.max_input before.input after.input ended)
 
--- no fault of the host: none comes that surely doesn't, or none was counted
-abbrev pub NoHostFault : Outside → Outside → Type 0
-NoHostFault before after =
+-- no fault of the host, where a file is named: none comes that surely doesn't, or none was counted
+abbrev pub NoHostFault : Option (List ℕ) → Outside → Outside → Type 0
+NoHostFault None before after = ⊤
+NoHostFault (Some name) before after =
     (before.host.reading.sure ≡ true) ⊎ (Rose before.host.reading.faults after.host.reading.faults → ⊥)
 
--- no fault of the output: whatever a plain map may answer fits, or none was counted
+-- no fault of the output: whatever a plain map may answer up to the first request that ends the run fits, or none was
+-- counted
 abbrev pub NoOutputFault : Options → Outside → Outside → List Words → Type 0
 NoOutputFault options before after asked =
-    ((first : Standing) → Begins options before first → AllFit (may_answer options first) asked before.output.room)
+    ((first : Standing) → Begins options before first
+    → AllFit (may_answer options first) asks_to_quit asked before.output.room)
     ⊎ (Rose before.output.faults after.output.faults → ⊥)
 
 -- with words that are taken, no file or one that can be loaded, an input of fewer bytes than the limit that ends after
@@ -173,5 +172,5 @@ Completes given before after status =
     (options : Options) (bytes : List ℕ) (asked : List Words) (end : End) → given ≡ Run options
     → CanBegin before options options.file → before.input.told ≡ Some bytes → Frames bytes asked end
     → EndsWell asks_to_quit asked end → length bytes < options.max_input
-    → NoHostFault before after → NoReadFault before.input after.input → NoOutputFault options before after asked
+    → NoHostFault options.file before after → NoReadFault before.input after.input → NoOutputFault options before after asked
     → (status ≡ 0) ⊎ (status ≡ 8)

@@ -9,3 +9,4 @@ pub mod Running
 pub mod Stepped
 pub mod Headline
 pub mod Lent
+pub mod TopAnswers

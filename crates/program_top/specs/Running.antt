@@ -1,5 +1,5 @@
 -- How a run goes, over any states of what serves.
-use Rattle.std.specs.Prelude.{◌≡◌, ℕ, List, Option, Bool, false}
+use Rattle.std.specs.Prelude.{◌≡◌, ℕ, List, Option, false}
 use Rattle.outside.specs.Clocks.{Answers}
 use Rattle.plain_world.specs.Words.{Words}
 use Rattle.plain_world.specs.declared.reply.Part.{Part}
@@ -19,26 +19,24 @@ pub record Fails (options : Options) (before after : Outside) (ending : Ending) 
   pub moment : ℕ
   pub read : ReadsMoment before.clock after.clock moment
   pub why : NotBegun before.host.files options.max_input options.file moment ending
-  pub host : UsesHost options.file before.host after.host (is_host ending)
+  pub host : UsesHost options.max_input options.file before.host after.host (is_host ending)
   pub input : after.input ≡ before.input
   pub output : after.output ≡ before.output
 
--- where all that was taken is answered, the clock is read for the requests alone
+-- unless memory wanted, the clock is read for the requests alone
 abbrev pub ReadsNoMore : Ended → Option Answers → Option Answers → Type 0
 ReadsNoMore served.Memory last after = Unit {0}
-ReadsNoMore served.WriteFault last after = Unit {0}
 ReadsNoMore ended last after = after ≡ last
 
 -- From a first state some replies are allowed to requests, on the way to a last one, also where the last of them met a
 -- fault.
 module _ {E : Type 0} (Begins : Options → Outside → E → Type 0)
-    (Allowed AllowedCut : Options → E → List Words → List (List Part) → E → Type 0) (spent : E → Bool)
-    (clock_of : E → Option Answers) where
+    (Allowed AllowedCut : Options → E → List Words → List (List Part) → E → Type 0) (clock_of : E → Option Answers) where
   -- it begins with a state, and replies that are allowed from there are written; or it doesn't begin
   pub data RunsOptions (options : Options) (before after : Outside) (ending : Ending) : Type 0 where
     begun : (first last : E) (ended : Ended) → Begins options before first
-        → UsesHost options.file before.host after.host false
-        → Served (Allowed options first) (AllowedCut options first) asks_to_quit spent options.max_input
+        → UsesHost options.max_input options.file before.host after.host false
+        → Served (Allowed options first) (AllowedCut options first) asks_to_quit options.max_input
         before.input after.input before.output after.output last ended
         → ReadsNoMore ended (clock_of last) after.clock → ending ≡ ending_of ended
         → RunsOptions options before after ending

@@ -1,10 +1,11 @@
 -- How a run begins.
-use Rattle.std.specs.Prelude.{◌≡◌, ℕ, ◌≤◌, List, length, Option, Some, None, Bool, true, false}
+use Rattle.std.specs.Prelude.{◌≡◌, ◌⊎◌, ℕ, ◌≤◌, List, length, Option, Some, None, Bool, true, false}
 use Rattle.outside.specs.Clocks.{Answers}
 use Rattle.outside.specs.Counts.{Rose}
 use Rattle.outside.specs.Files.{Files, HostSeen, IsListed}
 use Rattle.plain_world.specs.Worlds.{World, new_world}
 use Rattle.rdb_grammar.specs.Files.{IsFile}
+use Rattle.rdb_reader.specs.Taken.{TakesFile}
 use Rattle.rdb_reader.specs.Named.{IsFileOf, IsLongFile, RefusesFile}
 use Rattle.serving.specs.Timed.{ReadsMoment}
 use Rattle.program_top.specs.Given.{Options, Outside}
@@ -60,10 +61,12 @@ CountsHost before after name true =
     Rose before.reading.faults after.reading.faults × ((before.reading.sure ≡ true) × IsListed before.files name → ⊥)
 CountsHost before after name false = after.reading.faults ≡ before.reading.faults
 
--- a host is left alone where no file is named
-abbrev pub UsesHost : Option (List ℕ) → HostSeen → HostSeen → Bool → Type 0
-UsesHost None before after fails = (after ≡ before) × (fails ≡ false)
-UsesHost (Some name) before after fails = CountsHost before after name fails
+-- A host is left alone where no file is named. Of one that is, one byte more than the limit is taken at most, and a fault
+-- of the host comes before that one; or memory wanted before it was begun.
+abbrev pub UsesHost : ℕ → Option (List ℕ) → HostSeen → HostSeen → Bool → Type 0
+UsesHost limit None before after fails = (after ≡ before) × (fails ≡ false)
+UsesHost limit (Some name) before after fails = CountsHost before after name fails
+    × (TakesFile before.files name limit after fails ⊎ ((after ≡ before) × (fails ≡ false)))
 
 -- whether a run ends by a fault of the host
 abbrev pub is_host : Ending → Bool

@@ -1,5 +1,5 @@
 -- A run, as its engine takes it.
-use Rattle.std.specs.Prelude.{◌≡◌, ◌⊎◌, ℕ, List, map, Option, Bool, true, false}
+use Rattle.std.specs.Prelude.{◌≡◌, ℕ, List, map, Option}
 use Rattle.outside.specs.Clocks.{Answers}
 use Rattle.outside.specs.Pacing.{tuned}
 use Rattle.outside.specs.declared.pacing.Plan.{Plan}
@@ -11,15 +11,13 @@ use Rattle.plain_model.specs.Meant.{asks_to_quit}
 use Rattle.redis_core.specs.Engines.{Executes}
 use Rattle.redis_core.specs.declared.background.StepsDone.{StepsDone}
 use Rattle.serving.specs.Path.{path, CutPath}
-use Rattle.serving.specs.Served.{Served}
-use Rattle.serving.specs.Timed.{Timed, TimedStep, TimedCut, timed_spent}
-use Rattle.serving.specs.declared.ending.Ended.{Ended}
+use Rattle.serving.specs.Timed.{Timed, TimedStep, TimedCut}
 use Rattle.program_top.specs.Engines.{Engine, world_of, IsFirst}
 use Rattle.program_top.specs.Given.{Options, Given, Outside}
 use Rattle.program_top.specs.Notes.{Notes, line_of}
-use Rattle.program_top.specs.Running.{RunsOptions, RunsOf, RunsWords}
+use Rattle.program_top.specs.Running.{RunsOf, RunsWords}
 use Rattle.program_top.specs.Starting.{Standing, Begins}
-use Rattle.program_top.specs.Statuses.{status_of, ending_of}
+use Rattle.program_top.specs.Statuses.{status_of}
 use Rattle.program_top.specs.declared.ending.Ending.{Ending}
 
 -- where an engine and its clock stand
@@ -54,16 +52,13 @@ goes options first = path Steps first
 abbrev pub goes_cut : Options → Timed Engine → List Words → List (List Part) → Timed Engine → Type 0
 goes_cut options first = CutPath Steps StepsLast first
 
-abbrev pub is_spent : Timed Engine → Bool
-is_spent timed = timed_spent (λ engine. engine.is_spent) timed
-
 -- the clock's answers that follow
 abbrev pub engine_clock : Timed Engine → Option Answers
 engine_clock timed = timed.clock
 
 -- what is given runs on the engine
 abbrev pub RunsEngine : Given → Outside → Outside → Ending → Type 0
-RunsEngine = RunsOf BeginsEngine goes goes_cut is_spent engine_clock
+RunsEngine = RunsOf BeginsEngine goes goes_cut engine_clock
 
 -- the same, with its line in the notes
 pub record RunsNoted (given : Given) (before after : Outside) (ending : Ending) : Type 0 where
@@ -74,4 +69,4 @@ pub record RunsNoted (given : Given) (before after : Outside) (ending : Ending) 
 pub record StepsStatus (given : Given) (before after : Outside) (status : ℕ) : Type 0 where
   pub ending : Ending
   pub is : status ≡ status_of ending
-  pub run : RunsWords BeginsEngine goes goes_cut is_spent engine_clock given before after ending
+  pub run : RunsWords BeginsEngine goes goes_cut engine_clock given before after ending

@@ -1,7 +1,10 @@
 //! Serving with an engine that is lent.
 
-ghost use Rattle.std.specs.Prelude.{◌≡◌, ◌≤◌, ◌<◌, ◌^◌, false, map, drop};
-ghost use Rattle.program_top.specs.Lent.{GoesNoted, Lent};
+ghost use Rattle.std.specs.Prelude.{◌≡◌, ◌≤◌, ◌<◌, ◌^◌, false};
+ghost use Rattle.outside.specs.Pacing.{following};
+ghost use Rattle.serving.specs.Timed.{Timed};
+ghost use Rattle.program_top.specs.Lent.{Streams, GoesNoted, Lent};
+ghost use Rattle.program_top.specs.Engines.{Engine as EngineSeen};
 
 use crate::ending::served_to;
 use crate::notes::note;
@@ -23,9 +26,11 @@ pub fn serve_noted<I: Source, O: Sink, N: Sink>(
     limit: u64,
 ) -> Ended
     requires { limit ≤ 2 ^ 62 }
-    ensures { GoesNoted limit (record { input = I.seen input.old; output = O.seen output.old; notes = N.seen notes.old }) (record { input = I.seen input.new; output = O.seen output.new; notes = N.seen notes.new })
-        (record { engine = engine.old; clock = answers clock.old; pacers = map (λ b. (⟦<dyn Pacer as Pacer>⟧ b.vtable).seen b.value) (drop conductor.old.front conductor.old.pacers.items) })
-        (record { engine = engine.new; clock = answers clock.new; pacers = map (λ b. (⟦<dyn Pacer as Pacer>⟧ b.vtable).seen b.value) (drop conductor.new.front conductor.new.pacers.items) }) result }
+    ensures { let before : Streams = record { input = I.seen input.old; output = O.seen output.old; notes = N.seen notes.old } in
+        let after : Streams = record { input = I.seen input.new; output = O.seen output.new; notes = N.seen notes.new } in
+        let first : Timed EngineSeen = record { engine = engine.old; clock = answers clock.old; pacers = following (λ b. (⟦<dyn Pacer as Pacer>⟧ b.vtable).pacing b.value) conductor.old } in
+        let last : Timed EngineSeen = record { engine = engine.new; clock = answers clock.new; pacers = following (λ b. (⟦<dyn Pacer as Pacer>⟧ b.vtable).pacing b.value) conductor.new } in
+        GoesNoted limit before after first last result }
 {
     let ended = serve_input(alloc, engine, clock, conductor, input, output, limit);
     note(notes, served_to(ended));
@@ -35,7 +40,8 @@ pub fn serve_noted<I: Source, O: Sink, N: Sink>(
 /// Serves the requests of the input with this engine, at the moments of the clock, in milliseconds. After each request but the
 /// last one it asks the conductor for a plan and does that. At most so many bytes are taken: 1 to 2^62.
 ///
-/// The status is 0, 2, 3, 4, 5, 8 or 9, as that of a whole run, and its line is in the notes.
+/// The status is 0, 2, 3, 4, 5, 8 or 9, as that of a whole run, and its line is in the notes. The engine is spent afterwards only
+/// where it is 8.
 pub fn serve<I: Source, O: Sink, N: Sink>(
     alloc: Global,
     engine: &mut Engine<ClassHeap>,
@@ -49,9 +55,11 @@ pub fn serve<I: Source, O: Sink, N: Sink>(
     requires alive { engine.old.is_spent ≡ false }
     requires some { 0 < limit }
     requires most { limit ≤ 2 ^ 62 }
-    ensures { Lent limit (record { input = I.seen input.old; output = O.seen output.old; notes = N.seen notes.old }) (record { input = I.seen input.new; output = O.seen output.new; notes = N.seen notes.new })
-        (record { engine = engine.old; clock = answers clock.old; pacers = map (λ b. (⟦<dyn Pacer as Pacer>⟧ b.vtable).seen b.value) (drop conductor.old.front conductor.old.pacers.items) })
-        (record { engine = engine.new; clock = answers clock.new; pacers = map (λ b. (⟦<dyn Pacer as Pacer>⟧ b.vtable).seen b.value) (drop conductor.new.front conductor.new.pacers.items) }) result }
+    ensures { let before : Streams = record { input = I.seen input.old; output = O.seen output.old; notes = N.seen notes.old } in
+        let after : Streams = record { input = I.seen input.new; output = O.seen output.new; notes = N.seen notes.new } in
+        let first : Timed EngineSeen = record { engine = engine.old; clock = answers clock.old; pacers = following (λ b. (⟦<dyn Pacer as Pacer>⟧ b.vtable).pacing b.value) conductor.old } in
+        let last : Timed EngineSeen = record { engine = engine.new; clock = answers clock.new; pacers = following (λ b. (⟦<dyn Pacer as Pacer>⟧ b.vtable).pacing b.value) conductor.new } in
+        Lent limit before after first last result }
 {
     served_to(serve_noted(alloc, engine, input, output, notes, clock, conductor, limit)).status()
 }

@@ -2,6 +2,7 @@
 
 ghost use Rattle.std.specs.Prelude.{◌≡◌, ◌≤◌, ◌^◌, IfOk, IfErr, is_err};
 ghost use Rattle.object_codec.specs.Limits.{AreInRange};
+ghost use Rattle.rdb_reader.specs.Taken.{TakesFile};
 ghost use Rattle.program_top.specs.Engines.{world_of, IsFirst, Begun};
 ghost use Rattle.program_top.specs.WordsRead.{options_read};
 ghost use Rattle.program_top.specs.Starting.{UsesHost, CountsHost};
@@ -60,6 +61,7 @@ fn load_file<H: Host>(
     ensures first { IsFirst engine.old.bases.seed engine.old.bases.limits engine.new }
     ensures moment { engine.new.last ≡ moment }
     ensures host { CountsHost (H.seen host.old) (H.seen host.new) name.now (host_failed result) }
+    ensures few { TakesFile (H.seen host.old).files name.now limit (H.seen host.new) (host_failed result) }
 {
     match engine.load(host, name, limit, moment) {
         Ok(_) => Ok(()),
@@ -77,9 +79,12 @@ pub fn start<H: Host>(
 ) -> Result<Engine<ClassHeap>, Ending>
     requires { AreInRange options.limits }
     ensures starts { Starts (H.seen host.old).files (options_read options.entry) moment result }
-    ensures host { UsesHost (options_read options.entry).file (H.seen host.old) (H.seen host.new) (host_failed result) }
+    ensures host { UsesHost (options_read options.entry).max_input (options_read options.entry).file (H.seen host.old) (H.seen host.new) (host_failed result) }
 {
-    let mut engine = begin(alloc, options.limits, options.seed)?;
+    let mut engine = match begin(alloc, options.limits, options.seed) {
+        Ok(engine) => engine,
+        Err(ending) => return Err(ending),
+    };
     match options.file {
         None => {
             let _done = engine.background(NOTHING, moment);

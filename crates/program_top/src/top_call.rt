@@ -2,11 +2,11 @@
 
 ghost use Rattle.std.specs.Prelude.{◌≡◌, ◌^◌, ◌≤◌, [], map, string_bytes};
 ghost use Rattle.object_codec.specs.Limits.{AreInRange};
-ghost use Rattle.program_top.specs.Given.{given_by};
+ghost use Rattle.program_top.specs.Given.{Outside, given_by};
 ghost use Rattle.program_top.specs.WordsRead.{AreTaken, given_read, options_read};
 ghost use Rattle.program_top.specs.Given.{Run};
-ghost use Rattle.program_top.specs.Stepped.{RunsNoted, StepsStatus};
-ghost use Rattle.program_top.specs.Headline.{Concludes, CountsFaults, Exactly, Completes, NotesStatus};
+ghost use Rattle.program_top.specs.Stepped.{RunsNoted};
+ghost use Rattle.program_top.specs.TopAnswers.{TopAnswers};
 
 use crate::ending::{Ending, served_to};
 use crate::lent::serve_noted;
@@ -30,8 +30,9 @@ fn run<H: Host, I: Source, O: Sink, N: Sink>(
 ) -> Ending
     requires limits { AreInRange options.limits }
     requires limit { options.max_input ≤ 2 ^ 62 }
-    ensures { RunsNoted (Run (options_read options.entry)) (record { host = H.seen host.old; input = I.seen input.old; output = O.seen output.old; notes = N.seen notes.old; clock = answers clock.old; pacers = map (λ b. (⟦<dyn Pacer as Pacer>⟧ b.vtable).seen b.value) pacers.items })
-        (record { host = H.seen host.new; input = I.seen input.new; output = O.seen output.new; notes = N.seen notes.new; clock = answers clock.new; pacers = [] }) result }
+    ensures { let before : Outside = record { host = H.seen host.old; input = I.seen input.old; output = O.seen output.old; notes = N.seen notes.old; clock = answers clock.old; pacers = map (λ b. (⟦<dyn Pacer as Pacer>⟧ b.vtable).pacing b.value) pacers.items } in
+        let after : Outside = record { host = H.seen host.new; input = I.seen input.new; output = O.seen output.new; notes = N.seen notes.new; clock = answers clock.new; pacers = [] } in
+        RunsNoted (Run (options_read options.entry)) before after result }
 {
     let moment = moment_of(clock);
     match start(alloc, options, host, moment) {
@@ -67,8 +68,9 @@ pub fn run_given<H: Host, I: Source, O: Sink, N: Sink>(
     pacers: Vec<Box<dyn Pacer>>,
 ) -> Ending
     requires { AreTaken given }
-    ensures { RunsNoted (given_read given.entry) (record { host = H.seen host.old; input = I.seen input.old; output = O.seen output.old; notes = N.seen notes.old; clock = answers clock.old; pacers = map (λ b. (⟦<dyn Pacer as Pacer>⟧ b.vtable).seen b.value) pacers.items })
-        (record { host = H.seen host.new; input = I.seen input.new; output = O.seen output.new; notes = N.seen notes.new; clock = answers clock.new; pacers = [] }) result }
+    ensures { let before : Outside = record { host = H.seen host.old; input = I.seen input.old; output = O.seen output.old; notes = N.seen notes.old; clock = answers clock.old; pacers = map (λ b. (⟦<dyn Pacer as Pacer>⟧ b.vtable).pacing b.value) pacers.items } in
+        let after : Outside = record { host = H.seen host.new; input = I.seen input.new; output = O.seen output.new; notes = N.seen notes.new; clock = answers clock.new; pacers = [] } in
+        RunsNoted (given_read given.entry) before after result }
 {
     match given {
         Given::Wrong => {
@@ -102,18 +104,9 @@ pub fn redis_core<H: Host, I: Source, O: Sink, N: Sink>(
     clock: &mut Box<dyn Clock>,
     pacers: Vec<Box<dyn Pacer>>,
 ) -> u8
-    ensures headline { Concludes (given_by (map string_bytes words.now)) (record { host = H.seen host.old; input = I.seen input.old; output = O.seen output.old; notes = N.seen notes.old; clock = answers clock.old; pacers = map (λ b. (⟦<dyn Pacer as Pacer>⟧ b.vtable).seen b.value) pacers.items })
-        (record { host = H.seen host.new; input = I.seen input.new; output = O.seen output.new; notes = N.seen notes.new; clock = answers clock.new; pacers = [] }) result }
-    ensures stepped { StepsStatus (given_by (map string_bytes words.now)) (record { host = H.seen host.old; input = I.seen input.old; output = O.seen output.old; notes = N.seen notes.old; clock = answers clock.old; pacers = map (λ b. (⟦<dyn Pacer as Pacer>⟧ b.vtable).seen b.value) pacers.items })
-        (record { host = H.seen host.new; input = I.seen input.new; output = O.seen output.new; notes = N.seen notes.new; clock = answers clock.new; pacers = [] }) result }
-    ensures counts { CountsFaults (given_by (map string_bytes words.now)) (record { host = H.seen host.old; input = I.seen input.old; output = O.seen output.old; notes = N.seen notes.old; clock = answers clock.old; pacers = map (λ b. (⟦<dyn Pacer as Pacer>⟧ b.vtable).seen b.value) pacers.items })
-        (record { host = H.seen host.new; input = I.seen input.new; output = O.seen output.new; notes = N.seen notes.new; clock = answers clock.new; pacers = [] }) result }
-    ensures exact { Exactly (given_by (map string_bytes words.now)) (record { host = H.seen host.old; input = I.seen input.old; output = O.seen output.old; notes = N.seen notes.old; clock = answers clock.old; pacers = map (λ b. (⟦<dyn Pacer as Pacer>⟧ b.vtable).seen b.value) pacers.items })
-        (record { host = H.seen host.new; input = I.seen input.new; output = O.seen output.new; notes = N.seen notes.new; clock = answers clock.new; pacers = [] }) result }
-    ensures complete { Completes (given_by (map string_bytes words.now)) (record { host = H.seen host.old; input = I.seen input.old; output = O.seen output.old; notes = N.seen notes.old; clock = answers clock.old; pacers = map (λ b. (⟦<dyn Pacer as Pacer>⟧ b.vtable).seen b.value) pacers.items })
-        (record { host = H.seen host.new; input = I.seen input.new; output = O.seen output.new; notes = N.seen notes.new; clock = answers clock.new; pacers = [] }) result }
-    ensures notes { NotesStatus (record { host = H.seen host.old; input = I.seen input.old; output = O.seen output.old; notes = N.seen notes.old; clock = answers clock.old; pacers = map (λ b. (⟦<dyn Pacer as Pacer>⟧ b.vtable).seen b.value) pacers.items })
-        (record { host = H.seen host.new; input = I.seen input.new; output = O.seen output.new; notes = N.seen notes.new; clock = answers clock.new; pacers = [] }) result }
+    ensures { let before : Outside = record { host = H.seen host.old; input = I.seen input.old; output = O.seen output.old; notes = N.seen notes.old; clock = answers clock.old; pacers = map (λ b. (⟦<dyn Pacer as Pacer>⟧ b.vtable).pacing b.value) pacers.items } in
+        let after : Outside = record { host = H.seen host.new; input = I.seen input.new; output = O.seen output.new; notes = N.seen notes.new; clock = answers clock.new; pacers = [] } in
+        TopAnswers (given_by (map string_bytes words.now)) before after result }
 {
     match read_words(alloc, words) {
         Ok(given) => run_given(alloc, given, host, input, output, notes, clock, pacers).status(),

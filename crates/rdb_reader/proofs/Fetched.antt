@@ -9,7 +9,8 @@ use Rattle.outside.specs.Files.{Files, HostSeen, HasLeft, IsListed, Begins}
 use Rattle.outside.specs.declared.faults.HostFault.{HostFault}
 use Rattle.outside.proofs.Takings.{takes_then, takes_none}
 use Rattle.rdb_reader.specs.Named.{IsFileOf, IsLongFile}
-use Rattle.rdb_reader.specs.Fetching.{IsAll, IsLong, TakesPiece, TakesUpTo, TakesFile, begun, not_begun, most_of, Counts, Fetches, FetchesFile}
+use Rattle.rdb_reader.specs.Taken.{TakesUpTo, TakesFile, begun, not_begun, most_of}
+use Rattle.rdb_reader.specs.Fetching.{IsAll, IsLong, TakesPiece, Counts, Fetches, FetchesFile}
 use Rattle.outside.specs.Counts.{Rose}
 use Rattle.rdb_reader.specs.declared.fault.LoadFault.{LoadFault}
 use Rattle.rdb_reader.specs.declared.fault.LoadFault.TheVariants as faults

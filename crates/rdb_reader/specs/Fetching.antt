@@ -1,10 +1,10 @@
 -- The bytes of a host's file.
-use Rattle.std.specs.Prelude.{◌≡◌, ◌<◌, ◌≤◌, ◌+◌, ℕ, List, [], ◌++◌, Bool, true, false, Option, Some, None, Result, Ok, Err, ⊤, length}
-use Rattle.std.specs.Io.KnownBytes.{Consumes, IsAtEnd}
+use Rattle.std.specs.Prelude.{◌≡◌, ◌<◌, ◌≤◌, ℕ, List, [], ◌++◌, Bool, true, false, Option, Some, None, Result, Ok, Err, ⊤, length}
+use Rattle.std.specs.Io.KnownBytes.{IsAtEnd}
 use Rattle.std.specs.Global.{Vec}
 use Rattle.outside.specs.Counts.{Rose}
 use Rattle.outside.specs.Streams.{SourceSeen, TakesAll, TakesNone}
-use Rattle.outside.specs.Files.{Files, HostSeen, HasLeft}
+use Rattle.outside.specs.Files.{Files}
 use Rattle.rdb_reader.specs.Named.{IsFileOf, IsLongFile}
 use Rattle.rdb_reader.specs.declared.fault.LoadFault.{LoadFault}
 use Rattle.rdb_reader.specs.declared.fault.LoadFault.TheVariants as faults
@@ -43,12 +43,6 @@ pub record IsLong (left : Option (List ℕ)) (limit : ℕ) : Type 0 where
   pub whole : IsAll left all
   pub long : limit < length all
 
--- at most so many bytes were taken of those that were left
-pub record TakesUpTo (left left' : Option (List ℕ)) (most : ℕ) : Type 0 where
-  pub taken : List ℕ
-  pub took : Consumes left left' taken
-  pub few : length taken ≤ most
-
 -- whether the host failed
 abbrev pub has_failed : {A : Type 0} → Result A LoadFault → Bool
 has_failed (Ok x) = false
@@ -56,18 +50,6 @@ has_failed (Err (faults.Refused what at)) = false
 has_failed (Err faults.Host) = true
 has_failed (Err faults.Limit) = false
 has_failed (Err faults.Memory) = false
-
--- of a file so many bytes are taken: one more than the limit, and where the host failed no more than that
-abbrev pub most_of : ℕ → Bool → ℕ
-most_of limit false = limit + 1
-most_of limit true = limit
-
--- How far the host's file of a name is taken, where the host failed or not: it wasn't begun, which failed; or it was, and
--- at most so many bytes were taken of those that it had.
-pub data TakesFile (files : Files) (name : List ℕ) (limit : ℕ) (after : HostSeen) (failed : Bool) : Type 0 where
-  not_begun : after.begun ≡ false → failed ≡ true → TakesFile files name limit after failed
-  begun : (left : Option (List ℕ)) → after.begun ≡ true → HasLeft files name left
-      → TakesUpTo left after.reading.told (most_of limit failed) → TakesFile files name limit after failed
 
 -- The count of faults rose exactly where the host failed, as none does that is sure.
 abbrev pub Counts : {A : Type 0} → ℕ → ℕ → Type 0 → Result A LoadFault → Type 0

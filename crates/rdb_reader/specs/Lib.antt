@@ -1,3 +1,4 @@
 pub mod Named
+pub mod Taken
 pub mod Fetching
 pub mod Loads

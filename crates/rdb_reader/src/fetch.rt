@@ -2,7 +2,8 @@
 
 ghost use Rattle.std.specs.Prelude.{◌≡◌, ◌≤◌, ◌<◌, ◌+◌, ℕ, List, length, vec_len, true};
 ghost use Rattle.outside.specs.Files.{IsListed};
-ghost use Rattle.rdb_reader.specs.Fetching.{Takes, TakesUpTo, TakesFile, Counts, Fetches, FetchesFile, has_failed, most_of};
+ghost use Rattle.rdb_reader.specs.Taken.{TakesUpTo, TakesFile, most_of};
+ghost use Rattle.rdb_reader.specs.Fetching.{Takes, Counts, Fetches, FetchesFile, has_failed};
 
 use crate::fault::LoadFault;
 use outside::Host;

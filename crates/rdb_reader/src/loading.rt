@@ -8,7 +8,8 @@ ghost use Rattle.keyspace.specs.Databases.{means, SameSettings};
 ghost use Rattle.keyspace.specs.Sound.{Sound};
 ghost use Rattle.keyspace.specs.Scopes.{anything, Within};
 ghost use Rattle.keyspace.specs.Forms.{AreWhole};
-ghost use Rattle.rdb_reader.specs.Fetching.{Counts, TakesFile, has_failed};
+ghost use Rattle.rdb_reader.specs.Fetching.{Counts, has_failed};
+ghost use Rattle.rdb_reader.specs.Taken.{TakesFile};
 ghost use Rattle.rdb_reader.specs.Loads.{Loads, load_scope};
 
 use crate::fault::LoadFault;

@@ -3,7 +3,7 @@ use Rattle.std.proofs.Common.{sym, subst}
 use Rattle.keyspace.specs.Databases.{means}
 use Rattle.keyspace.specs.Scopes.{anything}
 use Rattle.keyspace.proofs.Serving.{further, unbound}
-use Rattle.rdb_reader.specs.Fetching.{TakesFile}
+use Rattle.rdb_reader.specs.Taken.{TakesFile}
 use Rattle.rdb_reader.specs.Loads.{any_key}
 use Rattle.rdb_reader.proofs.Living.{read_failed}
 use Rattle.rdb_reader.proofs.loading.load.Goals as goal
