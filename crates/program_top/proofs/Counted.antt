@@ -1,9 +1,10 @@
 -- Which status a fault has, and that it is counted there.
-use Rattle.std.proofs.Common.{◌≡◌, ◌==◌, ◌<◌, ℕ, List, Option, Some, None, Bool, true, false, refl, sym, ap, ◌∙◌, arith}
+use Rattle.std.proofs.Common.{◌≡◌, ◌==◌, ◌<◌, ℕ, List, Option, Some, None, Bool, true, false, refl, sym, ap, ◌∙◌, arith, inl, inr}
 use Rattle.std.specs.Prelude.{if◌then◌else◌}
 use Rattle.outside.specs.Counts.{Rose}
 use Rattle.outside.specs.Files.{Files, HostSeen, IsListed}
 use Rattle.outside.specs.Streams.{SourceSeen, SinkSeen}
+use Rattle.rdb_reader.specs.Taken.{TakesFile}
 use Rattle.serving.specs.Served.{CountsReads, CountsWrites}
 use Rattle.serving.specs.declared.ending.Ended.{Ended}
 use Rattle.serving.specs.declared.ending.Ended.TheVariants as served
@@ -134,6 +135,11 @@ module _ (limit : ℕ) (h h1 : HostSeen) where
   pub host_surely : (name : List ℕ) (fails : Bool) → UsesHost limit (Some name) h h1 fails → h.reading.sure ≡ true → IsListed h.files name → fails ≡ true → ⊥
   host_surely name true u sure listed e = u.0.1 (sure, listed)
   host_surely name false u sure listed e = cc
+
+  -- a host that failed was taken from no further than the limit
+  pub host_stops : (name : List ℕ) (fails : Bool) → UsesHost limit (Some name) h h1 fails → fails ≡ true → TakesFile h.files name limit h1 true
+  host_stops name true u e = elim u.1 [ inl taken ↦ taken | inr none ↦ absurd (cc none.1) ]
+  host_stops name false u e = cc
 
   pub host_alone : (fails : Bool) → UsesHost limit None h h1 fails → h1 ≡ h
   host_alone fails u = u.0

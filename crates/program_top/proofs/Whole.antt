@@ -22,12 +22,12 @@ use Rattle.program_top.specs.Notes.{Notes, refused_line, line_of}
 use Rattle.program_top.specs.Running.{Fails, RunsOptions, begun, not_begun, RunsOf, RunsWords, read, unread}
 use Rattle.program_top.specs.Starting.{Standing, IsLoaded, BeginsWith, Begins, NotLoaded, NotBegun, UsesHost, is_host}
 use Rattle.program_top.specs.Statuses.{status_of, ending_of}
-use Rattle.program_top.specs.Headline.{may_answer, standing_clock, Concludes, NoHostFault, NoOutputFault, CountsFaults, NotesStatus, IsTold, IsAbsent, AtFirst, CanBegin, Excused, IsRefused, Exactly, Completes}
+use Rattle.program_top.specs.Headline.{may_answer, standing_clock, Concludes, NoHostFault, NoOutputFault, CountsFaults, NotesStatus, IsTold, IsAbsent, AtFirst, CanBegin, Excused, HostStops, IsRefused, Exactly, Completes}
 use Rattle.program_top.specs.Stepped.{StepsStatus}
 use Rattle.program_top.specs.TopAnswers.{TopAnswers}
 use Rattle.program_top.specs.declared.ending.Ending.{Ending}
 use Rattle.program_top.specs.declared.ending.Ending.TheVariants as endings
-use Rattle.program_top.proofs.Counted.{stayed, reads_at, reads_surely, writes_at, not_served, not_begun_status, six_is_host, host_at, host_same, host_surely, host_alone}
+use Rattle.program_top.proofs.Counted.{stayed, reads_at, reads_surely, writes_at, not_served, not_begun_status, six_is_host, host_at, host_same, host_surely, host_stops, host_alone}
 
 -- ---- the bytes of a file that is told
 
@@ -82,11 +82,11 @@ module _ (files : Files) (limit : ℕ) (name : List ℕ) (moment : ℕ) where
   absent_excused none endings.WriteFault n = absurd n
 
   -- a file longer than the limit that isn't loaded gives status 9, unless the host failed or memory wanted
-  long_ends : (bytes : List ℕ) → IsTold files name bytes → limit < length bytes → (ending : Ending) → NotLoaded files limit name moment ending → Excused (status_of ending) ⊎ (status_of ending ≡ 9)
-  long_ends bytes t long endings.Host n = inl (inl refl)
+  long_ends : (bytes : List ℕ) → IsTold files name bytes → limit < length bytes → (ending : Ending) → NotLoaded files limit name moment ending → (status_of ending ≡ 9) ⊎ ((status_of ending ≡ 8) ⊎ (status_of ending ≡ 6))
+  long_ends bytes t long endings.Host n = inr (inr refl)
   long_ends bytes t long (endings.Refused what at) n = absurd (omega (arith, ap length (told_file files name bytes n.bytes t n.is), n.few))
-  long_ends bytes t long endings.Limit n = inr refl
-  long_ends bytes t long endings.Memory n = inl (inr refl)
+  long_ends bytes t long endings.Limit n = inl refl
+  long_ends bytes t long endings.Memory n = inr (inl refl)
   long_ends bytes t long endings.Whole n = absurd n
   long_ends bytes t long endings.Quit n = absurd n
   long_ends bytes t long endings.Usage n = absurd n
@@ -247,10 +247,18 @@ module _ (before after : Outside) (ending : Ending) (line : Notes before.notes a
   refused_alone (Run options) (begun first last ended b host s reads is) e = absurd (not_served ended 7 refl (ap status_of (sym is) ∙ e))
   refused_alone (Run options) (not_begun f) e = refusal options f options.file refl f.why ending refl e
 
-  -- a file of more bytes than the limit ends the run with status 9, unless the host failed or memory wanted
-  long : (options : Options) → Ran options → (name bytes : List ℕ) → options.file ≡ Some name → IsTold before.host.files name bytes → options.max_input < length bytes → Excused (status_of ending) ⊎ (status_of ending ≡ 9)
+  -- a file of more bytes than the limit ends the run with status 9, unless memory wanted or the host failed before
+  long : (options : Options) → Ran options → (name bytes : List ℕ) → options.file ≡ Some name → IsTold before.host.files name bytes → options.max_input < length bytes → (status_of ending ≡ 9) ⊎ ((status_of ending ≡ 8) ⊎ HostStops before after options.max_input name (status_of ending))
   long options (begun first last ended b host s reads is) name bytes file t h = let l = loaded_as options name first file b in absurd (omega (arith, ap length (told_file before.host.files name bytes l.bytes t l.is), l.few, h))
-  long options (not_begun f) name bytes file t h = long_ends before.host.files options.max_input name f.moment bytes t h ending (not_loaded_as options name file f)
+  long options (not_begun f) name bytes file t h = by (long_ends before.host.files options.max_input name f.moment bytes t h ending (not_loaded_as options name file f))
+    where
+      used : UsesHost options.max_input (Some name) before.host after.host (is_host ending)
+      used = let H : Option (List ℕ) → Type 0 = λ o. UsesHost options.max_input o before.host after.host (is_host ending) in subst H file f.host
+
+      by : (status_of ending ≡ 9) ⊎ ((status_of ending ≡ 8) ⊎ (status_of ending ≡ 6)) → (status_of ending ≡ 9) ⊎ ((status_of ending ≡ 8) ⊎ HostStops before after options.max_input name (status_of ending))
+      by (inl nine) = inl nine
+      by (inr (inl eight)) = inr (inl eight)
+      by (inr (inr six)) = inr (inr (six, host_stops options.max_input before.host after.host name (is_host ending) used (six_is_host ending six)))
 
   -- a run whose name has no file ends by a fault of the host, or by want of memory
   absent : (options : Options) → Ran options → (name : List ℕ) → options.file ≡ Some name → IsAbsent before.host.files name → Excused (status_of ending)
@@ -291,7 +299,7 @@ module _ (before after : Outside) (ending : Ending) (line : Notes before.notes a
         wrong_alone = λ one. absurd (omega (arith, one, eight));
         refused = λ options name bytes what at e f t few fault. inl (inr eight);
         refused_alone = λ seven. absurd (omega (arith, seven, eight));
-        long = λ options name bytes e f t h. inl (inr eight);
+        long = λ options name bytes e f t h. inr (inl eight);
         absent = λ options name e f none. inr eight;
         served = λ options e can. inl (inr eight);
       }

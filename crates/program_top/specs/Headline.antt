@@ -11,6 +11,7 @@ use Rattle.plain_model.specs.Runs.{run, Call, Turn, calls_of, replies_of, moment
 use Rattle.rdb_grammar.specs.Files.{IsFile, IsFault}
 use Rattle.rdb_grammar.specs.declared.fault.LoadKind.{LoadKind}
 use Rattle.rdb_reader.specs.Named.{RefusesFile}
+use Rattle.rdb_reader.specs.Taken.{TakesFile}
 use Rattle.plain_model.specs.Meant.{asks_to_quit}
 use Rattle.resp_frames.specs.Ends.{End, Frames}
 use Rattle.serving.specs.declared.ending.Ended.{Ended}
@@ -115,6 +116,10 @@ CanBegin before options (Some name) = IsLoadable before options.max_input name
 abbrev pub Excused : ℕ → Type 0
 Excused status = (status ≡ 6) ⊎ (status ≡ 8)
 
+-- the host failed at the file of a name, before one byte more than the limit was taken
+abbrev pub HostStops : Outside → Outside → ℕ → List ℕ → ℕ → Type 0
+HostStops before after limit name status = (status ≡ 6) × TakesFile before.host.files name limit after.host true
+
 -- the file of the run is refused by this first fault, and its line says so
 pub record IsRefused (given : Given) (before after : Outside) : Type 0 where
   pub options : Options
@@ -141,7 +146,8 @@ pub record Exactly (given : Given) (before after : Outside) (status : ℕ) : Typ
   pub refused_alone : status ≡ 7 → IsRefused given before after
   -- a file of more bytes than the limit
   pub long : (options : Options) (name bytes : List ℕ) → given ≡ Run options → options.file ≡ Some name
-      → IsTold before.host.files name bytes → options.max_input < length bytes → Excused status ⊎ (status ≡ 9)
+      → IsTold before.host.files name bytes → options.max_input < length bytes
+      → (status ≡ 9) ⊎ ((status ≡ 8) ⊎ HostStops before after options.max_input name status)
   -- a name that the host has no file of
   pub absent : (options : Options) (name : List ℕ) → given ≡ Run options → options.file ≡ Some name
       → IsAbsent before.host.files name → Excused status
