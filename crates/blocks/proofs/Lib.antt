@@ -8,3 +8,4 @@ pub mod Serve
 pub mod Sums
 pub mod Sweeps
 pub mod Written
+pub mod Copies

@@ -1,5 +1,5 @@
 -- What a store of blocks holds, and what calls on it may change.
-use Rattle.std.specs.Prelude.{◌≡◌, ℕ, ◌+◌, Bool, ◌==◌, ◌&&◌, List, Option, None, is_some, IsSome, ◌≤◌, ◌<◌, ◌∷◌, take, drop, length, ◌++◌, [], unwrap_or, if◌then◌else◌}
+use Rattle.std.specs.Prelude.{◌≡◌, ℕ, ◌+◌, ◌-◌, Bool, ◌==◌, ◌&&◌, List, Option, None, is_some, IsSome, ◌≤◌, ◌<◌, ◌∷◌, take, drop, length, replicate, ◌++◌, [], unwrap_or, if◌then◌else◌}
 use Rattle.blocks.specs.declared.BlockRef.{BlockRef}
 
 -- both references name one block
@@ -21,6 +21,10 @@ with_block blocks at content r = if ref_eq r at then content else blocks r
 -- the bytes with a piece put over them from this place on
 abbrev pub overwritten : List ℕ → ℕ → List ℕ → List ℕ
 overwritten bytes from piece = take from bytes ++ piece ++ drop (from + length piece) bytes
+
+-- the bytes with zero bytes behind them up to a length
+abbrev pub widened : List ℕ → ℕ → List ℕ
+widened bytes len = bytes ++ replicate (len - length bytes) 0
 
 -- the bytes of a live block
 abbrev pub bytes_at : Blocks → BlockRef → List ℕ

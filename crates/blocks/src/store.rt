@@ -1,11 +1,24 @@
-ghost use Rattle.std.specs.Prelude.{◌≡◌, ℕ, ◌+◌, ◌<◌, ◌≤◌, false, List, Option, Some, None, length, replicate, IfOk, OnErr, IfSome, IfNone, IsSome, MatchBool, is_some};
+ghost use Rattle.std.specs.Prelude.{◌≡◌, ℕ, ◌+◌, ◌<◌, ◌≤◌, false, List, Option, Some, None, length, replicate, take, drop, IfOk, OnErr, IfSome, IfNone, IsSome, MatchBool, is_some};
 ghost use Rattle.blocks.specs.declared.BlockRef.{BlockRef};
 ghost use Rattle.blocks.specs.declared.ClassUse.{ClassUse};
-ghost use Rattle.blocks.specs.Blocks.{with_block, overwritten, bytes_at, IsFinite};
+ghost use Rattle.blocks.specs.Blocks.{ref_eq, with_block, overwritten, bytes_at, widened, IsFinite, Served};
 ghost use Rattle.blocks.specs.Slabs.{Heap, wants, IsWaiting, Begun, Moves, ended, IsSoundHeap, slabs_of, used_of, size_of};
 ghost use Rattle.blocks.specs.Steps.{IsStep};
 
 use crate::{BlockRef, ClassUse, Memory};
+
+/// A store lends no block while it is written to, so bytes go from block to block through the stack, so many at once.
+const AT_ONCE: usize = 512;
+
+/// The bytes from the place on, as many as there are and go at once, in the room given.
+fn piece_from<'a>(bytes: &[u8], start: usize, room: &'a mut [u8; AT_ONCE]) -> &'a [u8]
+    requires { start ≤ length bytes.now }
+    ensures { result.now ≡ take 512 (drop start bytes.now) }
+{
+    let count = (bytes.len() - start).min(AT_ONCE);
+    room[..count].copy_from_slice(&bytes[start..start + count]);
+    &room[..count]
+}
 
 /// A store of blocks of bytes under references.
 ///
@@ -50,12 +63,56 @@ pub trait BlockStore: Drop {
         ensures slabs { heap self.new ≡ heap self.old }
         ensures step { step self.old self.new };
 
-    /// Ends a live reference.
+    /// Ends a live reference. No further block wants to move.
     fn give_back(&mut self, at: BlockRef)
         requires { IsSome (blocks self.old at) }
         ensures ended { blocks self.new ≡ with_block (blocks self.old) at None }
+        ensures calm { (r : BlockRef) → wants (heap self.old) r ≡ false → wants (heap self.new) r ≡ false }
         ensures pass { (heap self.new).passing ≡ (heap self.old).passing }
         ensures step { step self.old self.new };
+
+    /// Writes the bytes of a live block over the first ones of another.
+    fn copy_block(&mut self, from: BlockRef, to: BlockRef)
+        requires from_live { IsSome (blocks self.old from) }
+        requires to_live { IsSome (blocks self.old to) }
+        requires apart { ref_eq from to ≡ false }
+        requires room { length (bytes_at (blocks self.old) from) ≤ length (bytes_at (blocks self.old) to) }
+        ensures copied { blocks self.new ≡ with_block (blocks self.old) to (Some (overwritten (bytes_at (blocks self.old) to) 0 (bytes_at (blocks self.old) from))) }
+        ensures slabs { heap self.new ≡ heap self.old }
+        ensures served { Served step self.old self.new }
+    {
+        let len = self.bytes(from).len();
+        let mut room = [0; AT_ONCE];
+        let mut done = 0;
+        while done < len {
+            let piece = piece_from(self.bytes(from), done, &mut room);
+            self.write(to, done, piece);
+            done += piece.len();
+        }
+    }
+
+    /// Lengthens a live block: the answer names its bytes, with zero bytes behind them up to `len`. By the store's rule this is a
+    /// placing, a write and a return. So the answer wasn't live, and the old reference ends. The block wants no move.
+    ///
+    /// `Memory` leaves all blocks and slabs.
+    fn lengthen(&mut self, at: BlockRef, len: usize) -> Result<BlockRef, Memory>
+        requires live { IsSome (blocks self.old at) }
+        requires longer { length (bytes_at (blocks self.old) at) ≤ len }
+        ensures fresh { IfOk result (λ new. blocks self.old new ≡ None) }
+        ensures lengthened { IfOk result (λ new. blocks self.new ≡ with_block (with_block (blocks self.old) at None) new (Some (widened (bytes_at (blocks self.old) at) len))) }
+        ensures calm { IfOk result (λ new. wants (heap self.new) new ≡ false) }
+        ensures pass { (heap self.new).passing ≡ (heap self.old).passing }
+        ensures served { Served step self.old self.new }
+
+        // Want of memory changes nothing.
+        ensures err_blocks { OnErr result (blocks self.new ≡ blocks self.old) }
+        ensures err_slabs { OnErr result (heap self.new ≡ heap self.old) }
+    {
+        let new = self.place(len)?;
+        self.copy_block(at, new);
+        self.give_back(at);
+        Ok(new)
+    }
 
     /// Begins a pass, and first ends one that is open. No block changes.
     fn begin_pass(&mut self)

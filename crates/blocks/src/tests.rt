@@ -22,6 +22,15 @@ fn blocks_keep_their_bytes(rt: HostRuntime) -> Result<(), Fail> {
 }
 
 #[test]
+fn a_block_is_lengthened(rt: HostRuntime) -> Result<(), Fail> {
+    let mut store = PlainStore::new(rt.alloc());
+    let short = put_block(&mut store, b"ab")?;
+    let longer = store.lengthen(short, 4)?;
+    assert_eq!(rt; store.bytes(longer), b"ab\0\0".as_slice());
+    Ok(())
+}
+
+#[test]
 fn nothing_moves(rt: HostRuntime) -> Result<(), Fail> {
     let mut store = PlainStore::new(rt.alloc());
     let at = put_block(&mut store, b"stays")?;
