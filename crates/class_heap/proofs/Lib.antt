@@ -12,3 +12,4 @@ pub mod Placings
 pub mod Keeping
 pub mod Moving
 pub mod Returns
+pub mod Lengthening

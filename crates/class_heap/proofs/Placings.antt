@@ -4,6 +4,7 @@ use Rattle.std.proofs.Common.{arith, cond, eqb, ap, ◌∙◌, sym, subst, inl, 
 use Rattle.std.proofs.lemmas.Grind.{common_steps}
 use Rattle.std.proofs.lemmas.Bool.{cases_eq, cases_lt}
 use Rattle.std.proofs.lemmas.Bool.Decides.{nat_tests}
+use Rattle.std.specs.Global.{Vec}
 use Rattle.blocks.specs.declared.BlockRef.{BlockRef}
 use Rattle.blocks.specs.Blocks.{Blocks, with_block}
 use Rattle.blocks.specs.Slabs.{SlabUse, Heap, slab_at, per_slab, IsClassOf, waiting_in, spare_in, waiting_of, spare_of, one_more_in, wants, is_other}
@@ -103,6 +104,12 @@ large_slots bytes old slot is = ap (λ e. cond (eqb slot 0) (Some bytes) (block_
 -- a block that no class holds stands alone at the least vacant number, as the rule says
 pub goes_alone : {passing later : Bool} (old mid new : List Entry) (e : Entry) (len n : ℕ) → 14336 < len → SameEntries old mid → IsLeastVacant mid n → IsChange mid new n e → use_in e ≡ None → GoesTo (blocks_of old) (heap_of passing old) (heap_of later new) len (record { slab = n; slot = 0 })
 goes_alone {passing = passing} {later = later} old mid new e len n large same v c none = alone (record { large = large; free = least_vacant_same passing old mid n same v; first = refl; none = changed_here later mid new n e c ∙ none })
+
+-- a heap stays sound where a large block comes to a number with nothing
+pub sound_alone : {passing : Bool} {old : List Entry} {directory : Directory} {margins : List ℕ} (sound : IsHeap passing old directory margins) (n : ℕ) (block : Vec ℕ) (later : Directory) → n < length old → entry_at old n ≡ Vacant → later.bound ≡ directory.bound → ((m : ℕ) → m < later.bound → labels_at later m ≡ cond (eqb m n) 0 (labels_at directory m)) → IsHeap passing (slice_set old n (Large block)) later margins
+sound_alone {margins = margins} sound n block later lt vacant bound labels =
+    sound_set sound n (Large block) 0 later margins lt refl bound labels (record { marked = λ s at kept. cc; filled = λ s at kept. cc }) sound.classes
+    (λ open' class within. ap (λ x. waiting_in class None + spare_in class (use_in x) + slice_index_or margins class 0) vacant ∙ sym (ap (λ x. waiting_in class (use_in x) + spare_in class None + slice_index_or margins class 0) vacant))
 
 -- ---- into a slab
 

@@ -9,7 +9,7 @@ use Rattle.std.proofs.lemmas.List.Sums.{sum_by-cons}
 use Rattle.std.proofs.Math.Seq.{map-set_same}
 use Rattle.blocks.specs.declared.BlockRef.{BlockRef}
 use Rattle.blocks.specs.Blocks.{Blocks, with_block}
-use Rattle.blocks.specs.Slabs.{SlabUse, Heap, per_slab, waiting_in, spare_in, released, unmarked, ended, Begun}
+use Rattle.blocks.specs.Slabs.{SlabUse, Heap, slab_at, per_slab, is_other, wants, waiting_in, spare_in, released, unmarked, ended, Begun}
 use Rattle.class_heap.specs.declared.entry.Entry.{Entry}
 use Rattle.class_heap.specs.declared.entry.Entry.TheVariants.{Vacant, Large, Classed}
 use Rattle.class_heap.specs.declared.directory.Directory.{Directory}
@@ -17,7 +17,7 @@ use Rattle.class_heap.specs.Directory.{labels_at}
 use Rattle.class_heap.specs.Slab.{with_slot}
 use Rattle.class_heap.specs.Entries.{use_in, block_in, labels_of, entry_at, blocks_of, heap_of, class_in, IsHeap}
 use Rattle.class_heap.specs.Marks.{needed_in, IsMarked}
-use Rattle.class_heap.specs.Placing.{returned, IsPlacing, IsHeapStep, stays, places, returns}
+use Rattle.class_heap.specs.Placing.{returned, IsPlacing, IsReturn, IsHeapStep, stays, places, returns}
 use Rattle.class_heap.specs.Laws.{slab_read, slab_there, fits_in}
 use Rattle.class_heap.proofs.Parts.{used_pos}
 use Rattle.class_heap.proofs.Heaps.{IsEntry, blocks_changed, others_stay, changed_here}
@@ -138,6 +138,41 @@ given_step passing old at e live ended' left =
     returns at (record {
       was = live;
       ended = given_blocks old at e live ended';
+      passing = refl;
+      left = changed_here passing old (slice_set old at.slab e) at.slab e c ∙ (left ∙ ap returned (sym (slab_read passing old at.slab)));
+      others = others_stay passing old (slice_set old at.slab e) at.slab e c;
+    })
+
+-- the slabs where a block came back
+record IsLeft (h later : Heap) (n : ℕ) : Type 0 where
+  passing : later.passing ≡ h.passing
+  left : slab_at later n ≡ returned (slab_at h n)
+  others : (m : ℕ) → m ≢ n → slab_at later m ≡ slab_at h m
+
+-- no further block wants to move
+calm_left : (h later : Heap) (n : ℕ) → IsLeft h later n → (r : BlockRef) → wants h r ≡ false → wants later r ≡ false
+calm_left h later n back r calm = ap (λ p. p && is_other (slab_at later r.slab)) back.passing ∙ by_number (cases_eq r.slab n)
+  where
+    by_kept : (p t k : Bool) (a b : ℕ) → (p && not k) ≡ false → (p && is_other (cond t None (Some (record { class = a; used = b; kept = k })))) ≡ false
+    by_kept true true k a b e = refl
+    by_kept true false k a b e = e
+    by_kept false t k a b e = refl
+
+    by_slab : (p : Bool) (o : Option SlabUse) → (p && is_other o) ≡ false → (p && is_other (returned o)) ≡ false
+    by_slab p None e = e
+    by_slab p (Some s) e = by_kept p (eqb s.used 1 && not s.kept) s.kept s.class (s.used - 1) e
+
+    by_number : (r.slab ≡ n) ⊎ (r.slab ≢ n) → (h.passing && is_other (slab_at later r.slab)) ≡ false
+    by_number (inl same) = ap (λ m. h.passing && is_other (slab_at later m)) same ∙ (ap (λ o. h.passing && is_other o) back.left ∙ by_slab h.passing (slab_at h n) (ap (λ m. h.passing && is_other (slab_at h m)) (sym same) ∙ calm))
+    by_number (inr other) = ap (λ o. h.passing && is_other o) (back.others r.slab other) ∙ calm
+
+pub calm_returned : {before after : Blocks} {h later : Heap} {at : BlockRef} → IsReturn before h after later at → (r : BlockRef) → wants h r ≡ false → wants later r ≡ false
+calm_returned {h = h} {later = later} {at = at} back = calm_left h later at.slab (record { passing = back.passing; left = back.left; others = back.others })
+
+pub given_calm : (passing : Bool) (old : List Entry) (at : BlockRef) (e : Entry) → IsSome (block_in (entry_at old at.slab) at.slot) → use_in e ≡ returned (use_in (entry_at old at.slab)) → (r : BlockRef) → wants (heap_of passing old) r ≡ false → wants (heap_of passing (slice_set old at.slab e)) r ≡ false
+given_calm passing old at e live left =
+    let c = change_set old at.slab e (slab_there old at.slab at.slot live) in
+    calm_left (heap_of passing old) (heap_of passing (slice_set old at.slab e)) at.slab (record {
       passing = refl;
       left = changed_here passing old (slice_set old at.slab e) at.slab e c ∙ (left ∙ ap returned (sym (slab_read passing old at.slab)));
       others = others_stay passing old (slice_set old at.slab e) at.slab e c;

@@ -1,5 +1,7 @@
 -- What stands at each number of a class heap.
-use Rattle.std.specs.Prelude.{◌≡◌, ◌≢◌, ℕ, ◌+◌, ◌^◌, ◌<◌, Bool, true, false, ◌==◌, List, length, Option, Some, None, map, slice_index_or, if◌then◌else◌}
+use Rattle.std.specs.Prelude.{◌≡◌, ◌≢◌, ℕ, ◌+◌, ◌^◌, ◌<◌, ◌≤◌, Bool, true, false, ◌==◌, List, length, Option, Some, None, map, slice_index_or, if◌then◌else◌}
+use Rattle.std.specs.Global.{Vec}
+use Rattle.std.specs.Vec.{vec_capacity}
 use Rattle.blocks.specs.Blocks.{Blocks}
 use Rattle.blocks.specs.Slabs.{SlabUse, Heap, per_slab, IsClassOf, one_more_in, waiting_of, spare_of}
 use Rattle.class_heap.specs.declared.entry.Entry.{Entry}
@@ -36,6 +38,18 @@ labels_of passing (Classed slab) = slab_label passing (use_of slab)
 abbrev pub IsRoomFor : ℕ → Option SlabUse → Type 0
 IsRoomFor len None = ⊥
 IsRoomFor len (Some s) = (s.used < per_slab s.class) × IsClassOf len s.class
+
+-- a large block of these bytes
+pub record IsLarge (bytes : List ℕ) (e : Entry) : Type 0 where
+  pub block : Vec ℕ
+  pub is : e ≡ Large block
+  pub holds : block.items ≡ bytes
+
+-- a large block whose memory has room for so many bytes
+abbrev pub HasRoom : ℕ → Entry → Type 0
+HasRoom len Vacant = ⊥
+HasRoom len (Large bytes) = len ≤ vec_capacity bytes
+HasRoom len (Classed slab) = ⊥
 
 -- a slab with one block more
 abbrev pub fuller : Option SlabUse → Option SlabUse

@@ -1,11 +1,11 @@
 -- What a class heap holds.
 use Rattle.std.specs.Prelude.{ℕ}
 use Rattle.blocks.specs.declared.BlockRef.{BlockRef}
-use Rattle.blocks.specs.Blocks.{Blocks}
+use Rattle.blocks.specs.Blocks.{Blocks, bytes_at}
 use Rattle.blocks.specs.Slabs.{Heap}
 use Rattle.class_heap.specs.declared.heap.ClassHeap.{ClassHeap}
 use Rattle.class_heap.specs.Entries.{blocks_of, heap_of}
-use Rattle.class_heap.specs.Placing.{IsHeapStep, IsPlacing}
+use Rattle.class_heap.specs.Placing.{IsHeapStep, IsPlacing, IsWrite, IsReturn}
 
 -- its blocks
 abbrev pub heap_blocks : ClassHeap → Blocks
@@ -24,3 +24,12 @@ Places before after len at =
 abbrev pub IsClassHeapStep : ClassHeap → ClassHeap → Type 0
 IsClassHeapStep before after =
     IsHeapStep (heap_blocks before) (heap_slabs before) (heap_blocks after) (heap_slabs after)
+
+-- A block was lengthened: by the heap's rule by a placing of so many bytes, a write of its own over them, and its return.
+pub record Lengthens (before after : ClassHeap) (at : BlockRef) (len : ℕ) (new : BlockRef) : Type 0 where
+  pub placed : ClassHeap
+  pub written : ClassHeap
+  pub places : Places before placed len new
+  pub writes : IsWrite (heap_blocks placed) (heap_slabs placed) (heap_blocks written) (heap_slabs written) new 0
+      (bytes_at (heap_blocks before) at)
+  pub returns : IsReturn (heap_blocks written) (heap_slabs written) (heap_blocks after) (heap_slabs after) at

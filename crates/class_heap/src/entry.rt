@@ -1,10 +1,11 @@
-ghost use Rattle.std.specs.Prelude.{◌≡◌, ℕ, ◌+◌, ◌<◌, ◌≤◌, ◌&&◌, Bool, false, Some, None, IsSome, IsTrue, length, replicate, unwrap_or, [], IfSome, map};
-ghost use Rattle.blocks.specs.Blocks.{overwritten};
+ghost use Rattle.std.specs.Prelude.{◌≡◌, ℕ, ◌+◌, ◌<◌, ◌≤◌, ◌&&◌, Bool, false, Some, None, IsSome, IsTrue, length, replicate, unwrap_or, [], IfSome, OnOk, map};
+ghost use Rattle.blocks.specs.Blocks.{overwritten, widened};
 ghost use Rattle.blocks.specs.Slabs.{per_slab, is_of, is_other, released, used_in};
 ghost use Rattle.class_heap.specs.Placing.{returned};
 
 use crate::class::slots_in;
 use crate::slab::Slab;
+use blocks::Memory;
 
 /// The label of a number without a slab and without a large block.
 pub(crate) const VACANT: u32 = 36;
@@ -23,7 +24,7 @@ pub(crate) enum Entry {
 impl Entry {
     ghost use Rattle.class_heap.specs.Slab.{with_slot};
     ghost use Rattle.class_heap.specs.Marks.{holds_at_least, marked, equal_after};
-    ghost use Rattle.class_heap.specs.Entries.{use_in, block_in, labels_of, class_in, fuller, IsRoomFor};
+    ghost use Rattle.class_heap.specs.Entries.{use_in, block_in, labels_of, class_in, fuller, IsRoomFor, HasRoom, IsLarge};
 
     /// The label under which a number is found: that of a vacant one, or the class whose blocks its slab takes.
     pub(crate) fn labels(&self, passing: bool) -> u64
@@ -93,6 +94,36 @@ impl Entry {
             Entry::Large(bytes) => bytes[from..from + piece.len()].copy_from_slice(piece),
             Entry::Classed(slab) => slab.write(slot as usize, from, piece),
         }
+    }
+
+    /// Makes room for a large block to have so many bytes. Where its memory grows it gets room to spare, so that many small
+    /// steps take linear time. `Memory` where there is none.
+    pub(crate) fn reserve(&mut self, len: usize) -> Result<(), Memory>
+        requires live { IsSome (block_in self.old 0) }
+        requires alone { class_in (use_in self.old) ≡ None }
+        requires longer { length (unwrap_or (block_in self.old 0) []) ≤ len }
+        ensures blocks { (slot : ℕ) → block_in self.new slot ≡ block_in self.old slot }
+        ensures same { use_in self.new ≡ use_in self.old }
+        ensures labels { (passing : Bool) → labels_of passing self.new ≡ labels_of passing self.old }
+        ensures room { OnOk result (HasRoom len self.new) }
+    {
+        let Entry::Large(bytes) = self else {
+            unreachable!()
+        };
+        bytes.reserve(len - bytes.len())
+    }
+
+    /// Puts zero bytes behind those of a large block that has room for them.
+    pub(crate) fn lengthen(&mut self, len: usize)
+        requires room { HasRoom len self.old }
+        requires longer { length (unwrap_or (block_in self.old 0) []) ≤ len }
+        ensures lengthened { IsLarge (widened (unwrap_or (block_in self.old 0) []) len) self.new }
+    {
+        let Entry::Large(bytes) = self else {
+            unreachable!()
+        };
+        let filled = bytes.resize(len, 0).is_ok();
+        prove!(filled);
     }
 
     /// Places a block of zeros into a slab.

@@ -1,9 +1,9 @@
 ghost use Rattle.std.specs.Prelude.{◌≡◌, ◌≢◌, ℕ, ◌+◌, ◌<◌, ◌≤◌, Bool, true, false, Some, None, IsSome, IfOk, IsTrue, OnOk, OnErr, length, slice_index_or};
 ghost use Rattle.blocks.specs.declared.BlockRef.{BlockRef};
-ghost use Rattle.blocks.specs.Blocks.{no_blocks, with_block};
+ghost use Rattle.blocks.specs.Blocks.{no_blocks, with_block, bytes_at};
 ghost use Rattle.blocks.specs.Slabs.{no_slabs, IsClassOf, Moves, spare_of, waiting_of, wants};
 ghost use Rattle.class_heap.specs.Tree.{IsLeastWith};
-ghost use Rattle.class_heap.specs.Entries.{IsHeap, IsLeastVacant, entry_at, use_in, labels_of};
+ghost use Rattle.class_heap.specs.Entries.{IsHeap, IsLeastVacant, entry_at, use_in, class_in, labels_of, HasRoom};
 ghost use Rattle.class_heap.specs.Placing.{takes};
 
 use crate::class::{class_of, slots_in};
@@ -48,7 +48,7 @@ fn extend(entries: &mut Vec<Entry>, bound: usize) -> Result<(), Memory>
 }
 
 impl ClassHeap {
-    ghost use Rattle.class_heap.specs.Heap.{Places, heap_blocks, heap_slabs};
+    ghost use Rattle.class_heap.specs.Heap.{Places, Lengthens, heap_blocks, heap_slabs};
 
     /// A heap without a block. It takes no memory.
     pub fn new(alloc: Global) -> Self
@@ -114,6 +114,51 @@ impl ClassHeap {
         self.entries[slab] = Entry::Large(bytes);
         self.directory.set(slab, 0);
         Ok(BlockRef { slab, slot: 0 })
+    }
+
+    /// Makes room for a block that stands alone to have so many bytes. No block and no slab changes.
+    fn reserve_alone(&mut self, at: BlockRef, len: usize) -> Result<(), Memory>
+        requires live { IsSome (heap_blocks self.old at) }
+        requires alone { class_in (use_in (entry_at self.old.entries.items at.slab)) ≡ None }
+        requires longer { length (bytes_at (heap_blocks self.old) at) ≤ len }
+        ensures blocks { heap_blocks self.new ≡ heap_blocks self.old }
+        ensures slabs { heap_slabs self.new ≡ heap_slabs self.old }
+        ensures room { OnOk result (HasRoom len (entry_at self.new.entries.items at.slab)) }
+    {
+        self.entries[at.slab].reserve(len)
+    }
+
+    /// Lengthens a block that stands alone and has room for that. It gets the number that one placed beside it would get.
+    fn lengthen_reserved(&mut self, at: BlockRef, len: usize) -> Result<BlockRef, Memory>
+        requires live { IsSome (heap_blocks self.old at) }
+        requires room { HasRoom len (entry_at self.old.entries.items at.slab) }
+        requires longer { length (bytes_at (heap_blocks self.old) at) ≤ len }
+        requires large { 14336 < len }
+        ensures lengthened { IfOk result (Lengthens self.old self.new at len) }
+        ensures err_blocks { OnErr result (heap_blocks self.new ≡ heap_blocks self.old) }
+        ensures err_slabs { OnErr result (heap_slabs self.new ≡ heap_slabs self.old) }
+    {
+        let slab = self.vacant()?;
+        let mut block = replace(&mut self.entries[at.slab], Entry::Vacant);
+        block.lengthen(len);
+        self.entries[slab] = block;
+        self.directory.set(slab, 0);
+        self.directory.set(at.slab, 1 << VACANT);
+        Ok(BlockRef { slab, slot: 0 })
+    }
+
+    /// Lengthens a block that stands alone, in its memory.
+    fn lengthen_alone(&mut self, at: BlockRef, len: usize) -> Result<BlockRef, Memory>
+        requires live { IsSome (heap_blocks self.old at) }
+        requires alone { class_in (use_in (entry_at self.old.entries.items at.slab)) ≡ None }
+        requires longer { length (bytes_at (heap_blocks self.old) at) ≤ len }
+        requires large { 14336 < len }
+        ensures lengthened { IfOk result (Lengthens self.old self.new at len) }
+        ensures err_blocks { OnErr result (heap_blocks self.new ≡ heap_blocks self.old) }
+        ensures err_slabs { OnErr result (heap_slabs self.new ≡ heap_slabs self.old) }
+    {
+        self.reserve_alone(at, len)?;
+        self.lengthen_reserved(at, len)
     }
 
     /// Places a block into a slab that takes it.
@@ -245,6 +290,16 @@ impl BlockStore for ClassHeap {
                 self.margins[class] += 1;
             }
         }
+    }
+
+    fn lengthen(&mut self, at: BlockRef, len: usize) -> Result<BlockRef, Memory> {
+        if class_of(len).is_none() && self.entries[at.slab].class().is_none() {
+            return self.lengthen_alone(at, len);
+        }
+        let new = self.place(len)?;
+        self.copy_block(at, new);
+        self.give_back(at);
+        Ok(new)
     }
 
     fn begin_pass(&mut self) {

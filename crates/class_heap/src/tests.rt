@@ -1,6 +1,6 @@
 use crate::model::{Slabs, per_slab};
 use crate::{ClassHeap, SlabMem};
-use blocks::{BlockRef, BlockStore, ClassUse, put_block};
+use blocks::{BlockRef, BlockStore, ClassUse, Memory, put_block};
 use rand_core::Rng;
 use rand_pcg::Pcg32;
 use std::process::Abort;
@@ -121,6 +121,18 @@ struct Filled {
     fill: u8,
 }
 
+// The name of a live block when it has been lengthened; `None` where it is longer already.
+fn lengthened(heap: &mut ClassHeap, at: BlockRef, len: usize) -> Result<Option<BlockRef>, Memory> {
+    if !heap.is_live(at) {
+        return Ok(None);
+    }
+    if heap.bytes(at).len() > len {
+        return Ok(None);
+    }
+    let longer = heap.lengthen(at, len)?;
+    Ok(Some(longer))
+}
+
 // Every slab count is that of the model.
 fn agree(rt: &impl Abort, heap: &ClassHeap, slabs: &Slabs) {
     for class in 0..36 {
@@ -167,6 +179,17 @@ fn agrees_with_a_plain_model(rt: HostRuntime) -> Result<(), Fail> {
                 heap.give_back(block.at);
                 slabs.give_back(block.at.slab);
             }
+            kind if kind < 46 => {
+                // By the rule a placing and a return.
+                let place = pick % live.len();
+                let block = &mut live[place];
+                let len = LENGTHS[pick / 64 % 12];
+                if let Some(longer) = lengthened(&mut heap, block.at, len)? {
+                    assert_eq!(rt; longer.slab, slabs.place(len)?, "at {round}");
+                    slabs.give_back(block.at.slab);
+                    block.at = longer;
+                }
+            }
             _ => {
                 let place = pick % live.len();
                 let block = &mut live[place];
@@ -201,10 +224,30 @@ fn agrees_with_a_plain_model(rt: HostRuntime) -> Result<(), Fail> {
     }
     for block in &live {
         assert!(rt; heap.is_live(block.at));
-        assert_eq!(rt;
-            heap.bytes(block.at),
-            vec![in rt.alloc(); block.fill; block.len]?.as_slice()
-        );
+        let wanted = vec![in rt.alloc(); block.fill; block.len]?;
+        assert!(rt; heap.bytes(block.at).starts_with(&wanted));
     }
+    Ok(())
+}
+
+// A large block keeps its bytes from number to number, however often it grows.
+#[test]
+fn a_large_block_grows(rt: HostRuntime) -> Result<(), Fail> {
+    let mut heap = ClassHeap::new(rt.alloc());
+    let mut at = put_block(&mut heap, &[7; 14_000])?;
+    for len in 14_000..16_000 {
+        if let Some(longer) = lengthened(&mut heap, at, len)? {
+            at = longer;
+        }
+    }
+    assert!(rt; heap.is_live(at));
+    let bytes = heap.bytes(at);
+    assert_eq!(rt; bytes.len(), 15_999);
+    assert_eq!(rt; bytes.iter().filter(|byte| **byte == 7).count(), 14_000);
+    assert_eq!(rt;
+        bytes.iter().rev().take_while(|byte| **byte == 0).count(),
+        1999
+    );
+    compare(&rt, &heap, &[]);
     Ok(())
 }

@@ -1,19 +1,14 @@
-use Rattle.std.proofs.Common.{◌≡◌, ◌∙◌, ◌+◌, sym, cond, eqb, slice_index_or, ap, refl, replicate, length-set, slice_set, rules}
+use Rattle.std.proofs.Common.{◌≡◌, ◌∙◌, cond, eqb, ap, refl, replicate, slice_set, rules}
 use Rattle.std.specs.Prelude.{Some, None}
-use Rattle.blocks.specs.Slabs.{waiting_in, spare_in}
-use Rattle.class_heap.specs.Entries.{use_in, block_in, entry_at}
+use Rattle.class_heap.specs.Entries.{block_in, entry_at}
 use Rattle.class_heap.specs.declared.entry.Entry.TheVariants.{Large}
-use Rattle.class_heap.proofs.Heaps.{sound_changed}
-use Rattle.class_heap.proofs.Placings.{change_set, placing, goes_alone, large_slots}
+use Rattle.class_heap.proofs.Placings.{change_set, placing, goes_alone, large_slots, sound_alone}
 use Rattle.class_heap.proofs.heap.ClassHeap.place_alone.Goals as goal
 
 pub invariant_of-self : goal.invariant_of-self
 invariant_of-self c =
-    let m = c.vacant.new.self in let v = c.in_ok-slab.ensures.vacant in let e = Large c.in_ok-bytes.bytes in
-    record {
-      sound = sound_changed m.sound (slice_set m.entries.items c.in_ok-slab.slab e) c.set.new.self m.margins c.in_ok-slab.slab e (length-set m.entries.items c.in_ok-slab.slab e) (change_set m.entries.items c.in_ok-slab.slab e v.within) c.set.ensures.bound c.set.ensures.labels (record { marked = λ s at kept. cc; filled = λ s at kept. cc }) m.sound.classes
-          (λ open' class lt. ap (λ x. waiting_in class None + spare_in class (use_in x) + slice_index_or m.margins class 0) v.vacant ∙ sym (ap (λ x. waiting_in class (use_in x) + spare_in class None + slice_index_or m.margins class 0) v.vacant));
-    }
+    let m = c.vacant.new.self in let v = c.in_ok-slab.ensures.vacant in
+    record { sound = sound_alone m.sound c.in_ok-slab.slab c.in_ok-bytes.bytes c.set.new.self v.within v.vacant c.set.ensures.bound c.set.ensures.labels }
 
 pub returns-clause-placed : goal.returns-clause-placed
 returns-clause-placed c =

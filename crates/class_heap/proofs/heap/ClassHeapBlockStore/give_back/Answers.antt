@@ -10,7 +10,7 @@ use Rattle.class_heap.specs.Placing.{returned}
 use Rattle.class_heap.specs.Slab.{with_slot}
 use Rattle.class_heap.proofs.Descent.{few_numbers}
 use Rattle.class_heap.proofs.Placings.{sound_set}
-use Rattle.class_heap.proofs.Returns.{entry_given, margin_given, margin_alone, margin_most, given_blocks, given_step}
+use Rattle.class_heap.proofs.Returns.{entry_given, margin_given, margin_alone, margin_most, given_blocks, given_step, given_calm}
 use Rattle.class_heap.proofs.heap.ClassHeapBlockStore.give_back.Goals as goal
 
 pub overflow_add-self : goal.overflow_add-self
@@ -63,6 +63,16 @@ pub returns-in-Some-clause-step : goal.returns-in-Some-clause-step
 returns-in-Some-clause-step c =
     let s = c.args.self.now in let is = get_or_read s.entries.items _ _ (slab_there s.entries.items c.args.at.slab c.args.at.slot c.requires) c.index_mut-entry.ensures.value Vacant in
     given_step s.passing s.entries.items c.args.at c.give_back.new.self c.requires (λ slot. c.give_back.ensures.ended slot ∙ ap (λ x. with_slot (block_in x) c.args.at.slot None slot) is) (c.give_back.ensures.left ∙ ap (λ x. returned (use_in x)) is)
+
+pub returns-in-Some-clause-calm : goal.returns-in-Some-clause-calm
+returns-in-Some-clause-calm c =
+    let s = c.args.self.now in let is = get_or_read s.entries.items _ _ (slab_there s.entries.items c.args.at.slab c.args.at.slot c.requires) c.index_mut-entry.ensures.value Vacant in
+    given_calm s.passing s.entries.items c.args.at c.give_back.new.self c.requires (c.give_back.ensures.left ∙ ap (λ x. returned (use_in x)) is)
+
+pub returns-in_default-clause-calm : goal.returns-in_default-clause-calm
+returns-in_default-clause-calm c =
+    let s = c.args.self.now in let is = get_or_read s.entries.items _ _ (slab_there s.entries.items c.args.at.slab c.args.at.slot c.requires) c.index_mut-entry.ensures.value Vacant in
+    given_calm s.passing s.entries.items c.args.at c.give_back.new.self c.requires (c.give_back.ensures.left ∙ ap (λ x. returned (use_in x)) is)
 
 pub returns-in_default-clause-step : goal.returns-in_default-clause-step
 returns-in_default-clause-step c =
