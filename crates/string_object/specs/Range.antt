@@ -6,7 +6,3 @@ use Rattle.std.specs.Prelude.{ℕ, ◌+◌, ◌-◌, ◌==◌, List, ◌++◌, l
 abbrev pub ranged : List ℕ → ℕ → List ℕ → List ℕ
 ranged bytes at piece = if length piece == 0 then bytes
     else take at bytes ++ replicate (at - length bytes) 0 ++ piece ++ drop (at + length piece) bytes
-
--- the bytes with zero bytes behind them up to a length
-abbrev pub widened : List ℕ → ℕ → List ℕ
-widened bytes len = bytes ++ replicate (len - length bytes) 0

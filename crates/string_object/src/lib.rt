@@ -1,8 +1,8 @@
 //! String values over a block store: a number without a block, or one block of bytes.
 #![tactic(auto)]
 
-mod copy;
 mod laws;
+mod print;
 mod relocate;
 #[cfg(test)]
 mod tests;

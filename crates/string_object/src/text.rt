@@ -1,12 +1,12 @@
 ghost use Rattle.std.specs.Prelude.{◌≡◌, ◌+◌, ◌<◌, ◌≤◌, ◌++◌, Some, None, [], ◌∷◌, true, false, IfOk, OnOk, OnErr, IfSome, IfNone, length};
-ghost use Rattle.blocks.specs.Blocks.{bytes_at, overwritten, with_block, Changes, Owned, Served};
+ghost use Rattle.blocks.specs.Blocks.{bytes_at, overwritten, widened, with_block, Changes, Owned, Served};
 ghost use Rattle.int_text.specs.Decimal.{canonical, IsI64Text};
 ghost use Rattle.object_codec.specs.Names.{IsNameOf};
 ghost use Rattle.plain_world.specs.Words.{longest};
 ghost use Rattle.string_object.specs.Text.{text_bytes, text_refs, is_raw};
-ghost use Rattle.string_object.specs.Range.{ranged, widened};
+ghost use Rattle.string_object.specs.Range.{ranged};
 
-use crate::copy::{copy_block, print_into};
+use crate::print::print_into;
 use blocks::{BlockRef, BlockStore, Memory, put_block};
 use int_text::read_i64;
 use object_codec::{Name, string_name};
@@ -181,7 +181,7 @@ impl Text {
                 store.write(to, 0, print_into(n, &mut room));
             }
             Text::Whole { slot, slab } | Text::Raw { slot, slab } => {
-                copy_block(store, BlockRef { slab, slot }, to)
+                store.copy_block(BlockRef { slab, slot }, to)
             }
         }
     }
@@ -201,8 +201,30 @@ impl Text {
         Ok(at)
     }
 
-    // Makes the string raw, with zero bytes behind its own up to the length. The answer is its block, which is the
-    // old one where that has the length already.
+    // A block of the string's bytes with zero bytes behind them up to the length, in place of its own. It is the old one where
+    // that has the length already.
+    fn reach<B: BlockStore>(&self, store: &mut B, len: usize) -> Result<BlockRef, Memory>
+        requires owned { Owned (text_refs self.now) (B.blocks store.old) }
+        requires room { length (text_bytes (B.blocks store.old) self.now) ≤ len }
+        ensures bytes { IfOk result (λ at. B.blocks store.new at ≡ Some (widened (text_bytes (B.blocks store.old) self.now) len)) }
+        ensures changes { IfOk result (λ at. Changes (B.blocks store.old) (B.blocks store.new) (text_refs self.now) (at ∷ [])) }
+        ensures served { Served B.step store.old store.new }
+        ensures err_blocks { OnErr result (B.blocks store.new ≡ B.blocks store.old) }
+        ensures err_slabs { OnErr result (B.heap store.new ≡ B.heap store.old) }
+    {
+        match *self {
+            Text::Number(_) => self.place_copy(store, len),
+            Text::Whole { slot, slab } | Text::Raw { slot, slab } => {
+                let at = BlockRef { slab, slot };
+                if store.bytes(at).len() == len {
+                    return Ok(at);
+                }
+                store.lengthen(at, len)
+            }
+        }
+    }
+
+    // Makes the string raw, with zero bytes behind its own up to the length. The answer is its block.
     fn widen<B: BlockStore>(&mut self, store: &mut B, len: usize) -> Result<BlockRef, Memory>
         requires owned { Owned (text_refs self.old) (B.blocks store.old) }
         requires room { length (text_bytes (B.blocks store.old) self.old) ≤ len }
@@ -216,18 +238,9 @@ impl Text {
         ensures err_blocks { OnErr result (B.blocks store.new ≡ B.blocks store.old) }
         ensures err_slabs { OnErr result (B.heap store.new ≡ B.heap store.old) }
     {
-        match *self {
-            Text::Whole { slot, slab } | Text::Raw { slot, slab }
-                if store.bytes(BlockRef { slab, slot }).len() == len => {
-                *self = Text::Raw { slot, slab };
-                Ok(BlockRef { slab, slot })
-            }
-            _ => {
-                let at = self.place_copy(store, len)?;
-                mem::replace(self, raw(at)).release(store);
-                Ok(at)
-            }
-        }
+        let at = self.reach(store, len)?;
+        *self = raw(at);
+        Ok(at)
     }
 
     /// Appends bytes, and makes the string raw. The answer is the new length in bytes, which is at most 536,870,912.

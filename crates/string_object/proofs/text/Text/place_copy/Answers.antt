@@ -1,8 +1,7 @@
-use Rattle.std.proofs.Common.{replicate}
 use Rattle.blocks.proofs.Serve.{Served-once, Served-then}
 use Rattle.string_object.specs.Text.{text_bytes}
-use Rattle.string_object.proofs.Lists.{overwritten_zeros}
-use Rattle.string_object.proofs.Texts.{placed_over, text-beside}
+use Rattle.blocks.proofs.Copies.{placed_over}
+use Rattle.string_object.proofs.Texts.{text-beside}
 use Rattle.string_object.proofs.text.Text.place_copy.Goals as goal
 
 pub returns-in_err-at-clause-served : goal.returns-in_err-at-clause-served
@@ -12,10 +11,10 @@ pub returns-clause-placed : goal.returns-clause-placed
 returns-clause-placed g c =
     let m = g.B.BlockStore.blocks c.args.store.now in
     let mid = g.B.BlockStore.blocks c.place.new.self in
-    placed_over m mid (g.B.BlockStore.blocks c.copy_to.new.store) c.in_ok-at.at (replicate c.args.len 0) (text_bytes mid c.args.self.now) (text_bytes m c.args.self.now) _
+    placed_over m mid (g.B.BlockStore.blocks c.copy_to.new.store) c.in_ok-at.at c.args.len (text_bytes mid c.args.self.now) (text_bytes m c.args.self.now)
     c.in_ok-at.ensures.placed c.copy_to.ensures.copied
     (text-beside m mid c.in_ok-at.at _ c.args.self.now c.requires.owned c.in_ok-at.ensures.fresh c.in_ok-at.ensures.placed)
-    (overwritten_zeros (text_bytes m c.args.self.now) c.args.len c.requires.room)
+    c.requires.room
 
 pub returns-clause-served : goal.returns-clause-served
 returns-clause-served g c = Served-then _ _ _ (Served-once _ _ c.place.ensures.step) c.copy_to.ensures.served

@@ -1,8 +1,7 @@
 use Rattle.std.proofs.Common.{◌≡◌, ◌+◌, ◌<◌, length, max, ap, ◌∙◌, arith}
 use Rattle.std.proofs.lemmas.Grind.{common_steps}
-use Rattle.blocks.specs.Blocks.{overwritten, no_step}
+use Rattle.blocks.specs.Blocks.{overwritten, widened, no_step}
 use Rattle.blocks.proofs.Serve.{Served-next}
-use Rattle.string_object.specs.Range.{widened}
 use Rattle.string_object.specs.Text.{text_bytes}
 use Rattle.string_object.proofs.Lists.{overwritten_range}
 use Rattle.string_object.proofs.Texts.{text_written}
