@@ -88,12 +88,12 @@ HasFirst m mid from to done = mid ≡ with_block m to (Some (overwritten (bytes_
 from_stays : (m mid : Blocks) (from to : BlockRef) (done : ℕ) → ref_eq from to ≡ false → HasFirst m mid from to done → bytes_at mid from ≡ bytes_at m from
 from_stays m mid from to done apart is = ap (λ k. bytes_at k from) is ∙ ap (λ o. unwrap_or o []) (with_block-other m to from (Some (overwritten (bytes_at m to) 0 (take done (bytes_at m from)))) apart)
 
--- the next piece of it ends where it ends, or before
-pub piece_fits : (m mid : Blocks) (from to : BlockRef) (done most : ℕ) (piece : List ℕ) → ref_eq from to ≡ false → HasFirst m mid from to done → piece ≡ take most (drop done (bytes_at mid from)) → done ≤ length (bytes_at m from) → done + length piece ≤ length (bytes_at m from)
-piece_fits m mid from to done most piece apart is seen inside =
-    let bytes = bytes_at m from in
-    let first : piece ≡ take most (drop done bytes) = seen ∙ ap (λ xs. take most (drop done xs)) (from_stays m mid from to done apart is) in
-    omega (arith, ap length first, length-take most (drop done bytes), length-drop done bytes, inside)
+-- the next piece is of the bytes that it had from the first, and ends within them
+pub next_piece : (m mid : Blocks) (from to : BlockRef) (done most : ℕ) (piece whole seen : List ℕ) → ref_eq from to ≡ false → HasFirst m mid from to done → m from ≡ Some whole → mid from ≡ Some seen → piece ≡ take most (drop done seen) → done ≤ length whole
+    → (piece ≡ take most (drop done (bytes_at m from))) × (done + length piece ≤ length (bytes_at m from))
+next_piece m mid from to done most piece whole seen apart is all read taken inside =
+    let first : piece ≡ take most (drop done (bytes_at m from)) = taken ∙ (ap (λ o. take most (drop done (unwrap_or o []))) (sym read) ∙ ap (λ xs. take most (drop done xs)) (from_stays m mid from to done apart is)) in
+    (first, omega (arith, ap length first, length-take most (drop done (bytes_at m from)), length-drop done (bytes_at m from), ap (λ o. length (unwrap_or o [])) all, inside))
 
 -- and the other block has room for it
 pub room_left : (m mid : Blocks) (from to : BlockRef) (done n : ℕ) → HasFirst m mid from to done → length (bytes_at m from) ≤ length (bytes_at m to) → done + n ≤ length (bytes_at m from) → done + n ≤ length (bytes_at mid to)
@@ -103,23 +103,20 @@ room_left m mid from to done n is room inside = omega (arith, room, inside, ap (
     long over bytes h = grind (arith, common_steps, h)
 
 -- with this piece behind them, so many more stand there
-pub copy_step : (m mid after : Blocks) (from to : BlockRef) (done most : ℕ) (piece : List ℕ) → ref_eq from to ≡ false → HasFirst m mid from to done → piece ≡ take most (drop done (bytes_at mid from)) → after ≡ with_block mid to (Some (overwritten (bytes_at mid to) done piece)) → done + length piece ≤ length (bytes_at m from) → HasFirst m after from to (done + length piece)
-copy_step m mid after from to done most piece apart is seen written inside =
+pub copy_step : (m mid after : Blocks) (from to : BlockRef) (done most : ℕ) (piece : List ℕ) → HasFirst m mid from to done → (piece ≡ take most (drop done (bytes_at m from))) × (done + length piece ≤ length (bytes_at m from)) → after ≡ with_block mid to (Some (overwritten (bytes_at mid to) done piece)) → HasFirst m after from to (done + length piece)
+copy_step m mid after from to done most piece is next written =
     written
     ∙ ap (λ k. with_block k to (Some (overwritten (bytes_at k to) done piece))) is
     ∙ with_block-twice m to (Some so_far) (Some (overwritten (bytes_at (with_block m to (Some so_far)) to) done piece))
     ∙ ap (λ over. with_block m to (Some (overwritten over done piece))) (bytes_at-placed m to so_far)
     ∙ ap (λ xs. with_block m to (Some (overwritten so_far done xs))) whole
-    ∙ ap (λ xs. with_block m to (Some xs)) (overwritten_step (bytes_at m to) (bytes_at m from) done (length piece) inside)
+    ∙ ap (λ xs. with_block m to (Some xs)) (overwritten_step (bytes_at m to) (bytes_at m from) done (length piece) next.1)
   where
     so_far : List ℕ
     so_far = overwritten (bytes_at m to) 0 (take done (bytes_at m from))
 
-    first : piece ≡ take most (drop done (bytes_at m from))
-    first = seen ∙ ap (λ xs. take most (drop done xs)) (from_stays m mid from to done apart is)
-
     whole : piece ≡ take (length piece) (drop done (bytes_at m from))
-    whole = first ∙ (sym (take_seen most (drop done (bytes_at m from))) ∙ ap (λ xs. take (length xs) (drop done (bytes_at m from))) (sym first))
+    whole = next.0 ∙ (sym (take_seen most (drop done (bytes_at m from))) ∙ ap (λ xs. take (length xs) (drop done (bytes_at m from))) (sym next.0))
 
 -- all of its pieces have been
 pub copied_whole : (m after : Blocks) (from to : BlockRef) (done : ℕ) → HasFirst m after from to done → length (bytes_at m from) ≤ done → after ≡ with_block m to (Some (overwritten (bytes_at m to) 0 (bytes_at m from)))

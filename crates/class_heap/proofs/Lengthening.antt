@@ -19,7 +19,7 @@ use Rattle.class_heap.specs.declared.directory.Directory.{Directory}
 use Rattle.class_heap.specs.declared.heap.ClassHeap.{ClassHeap}
 use Rattle.class_heap.specs.Directory.{labels_at}
 use Rattle.class_heap.specs.Slab.{with_slot}
-use Rattle.class_heap.specs.Entries.{use_in, block_in, entry_at, blocks_of, heap_of, class_in, IsHeap, IsLeastVacant, HasRoom}
+use Rattle.class_heap.specs.Entries.{use_in, block_in, entry_at, blocks_of, heap_of, class_in, IsHeap, IsLeastVacant, HasRoom, IsLarge}
 use Rattle.class_heap.specs.Heap.{heap_blocks, heap_slabs, IsClassHeapStep, Lengthens}
 use Rattle.class_heap.specs.Placing.{returned, IsPlacing, IsWrite, IsReturn, stays, places, returns, writes}
 use Rattle.class_heap.specs.Laws.{slab_read, slab_there}
@@ -68,7 +68,7 @@ sound_left {margins = margins} sound new n block later long change large bound l
 
 -- A large block is about to go from its number to the least one with nothing, n, and has been lengthened. The labels of n are
 -- those of a large block already.
-pub record IsLeaving (first mid : ClassHeap) (at : BlockRef) (n len : ℕ) (early : Directory) : Type 0 where
+pub record IsLeaving (first mid : ClassHeap) (at : BlockRef) (n len : ℕ) (put : Entry) (early : Directory) : Type 0 where
   pub from : Vec ℕ
   pub grown : Vec ℕ
   pub passing : mid.passing ≡ first.passing
@@ -78,11 +78,36 @@ pub record IsLeaving (first mid : ClassHeap) (at : BlockRef) (n len : ℕ) (earl
   pub slot : at.slot ≡ 0
   pub room : length from.items ≤ len
   pub large : 14336 < len
+  pub full : put ≡ Large grown
   pub wide : grown.items ≡ widened from.items len
   pub bound : early.bound ≡ mid.directory.bound
   pub labels : (m : ℕ) → m < early.bound → labels_at early m ≡ cond (eqb m n) 0 (labels_at mid.directory m)
 
-module _ {first mid : ClassHeap} {at : BlockRef} {n len : ℕ} {early : Directory} (h : IsLeaving first mid at n len early) where
+-- this is so where a block that had room was taken from its number and lengthened
+pub leaving : (first mid : ClassHeap) (at : BlockRef) (n len : ℕ) (taken put : Entry) (early : Directory)
+    → IsSome (heap_blocks first at) → HasRoom len (entry_at first.entries.items at.slab) → length (bytes_at (heap_blocks first) at) ≤ len → 14336 < len
+    → mid.passing ≡ first.passing → SameEntries first.entries.items mid.entries.items → IsLeastVacant mid.entries.items n → taken ≡ entry_at mid.entries.items at.slab → IsLarge (widened (unwrap_or (block_in taken 0) []) len) put
+    → early.bound ≡ mid.directory.bound → ((m : ℕ) → m < early.bound → labels_at early m ≡ cond (eqb m n) 0 (labels_at mid.directory m)) → IsLeaving first mid at n len put early
+leaving first mid at n len taken put early live has longer large passing same vacant took long bound labels =
+    let alone = alone_reserved (entry_at first.entries.items at.slab) at.slot len live has in
+    let were : bytes_at (heap_blocks first) at ≡ alone.block.items = ap (λ e. unwrap_or (block_in e at.slot) []) alone.is ∙ ap (λ t. unwrap_or (cond t (Some alone.block.items) None) []) (eq-eqb at.slot 0 alone.first) in
+    record {
+      from = alone.block;
+      grown = long.block;
+      passing = passing;
+      same = same;
+      vacant = vacant;
+      is = alone.is;
+      slot = alone.first;
+      room = omega (arith, ap length were, longer);
+      large = large;
+      full = long.is;
+      wide = long.holds ∙ ap (λ e. widened (unwrap_or (block_in e 0) []) len) (took ∙ (same at.slab ∙ alone.is));
+      bound = bound;
+      labels = labels;
+    }
+
+module _ {first mid : ClassHeap} {at : BlockRef} {n len : ℕ} {put : Entry} {early : Directory} (h : IsLeaving first mid at n len put early) where
   -- the entries
   abbrev pub old : List Entry
   old = mid.entries.items
@@ -176,15 +201,15 @@ module _ {first mid : ClassHeap} {at : BlockRef} {n len : ℕ} {early : Director
   there = slab_there old at.slab 0 (subst (λ e. IsSome (block_in e 0)) (sym is_mid) refl)
 
   -- nothing stands at the old number when the block has gone to the other
-  gone_by : (gap e : Entry) → gap ≡ Vacant → e ≡ Large h.grown → IsChange (slice_set old n (Large h.grown)) (slice_set (slice_set old at.slab gap) n e) at.slab Vacant
-  gone_by gap e empty full = record { here = get_or-set_other (slice_set old at.slab gap) n at.slab e Vacant apart ∙ (get_or-set_same old at.slab gap Vacant there ∙ empty); others = λ m ne. by_number m ne (cases_eq m n) }
+  gone_by : (gap : Entry) → gap ≡ Vacant → IsChange (slice_set old n (Large h.grown)) (slice_set (slice_set old at.slab gap) n put) at.slab Vacant
+  gone_by gap empty = record { here = get_or-set_other (slice_set old at.slab gap) n at.slab put Vacant apart ∙ (get_or-set_same old at.slab gap Vacant there ∙ empty); others = λ m ne. by_number m ne (cases_eq m n) }
     where
       lt : n < length (slice_set old at.slab gap)
       lt = (let w = h.vacant.within in omega (arith, length-set old at.slab gap, w))
 
-      by_number : (m : ℕ) → m ≢ at.slab → (m ≡ n) ⊎ (m ≢ n) → entry_at (slice_set (slice_set old at.slab gap) n e) m ≡ entry_at (slice_set old n (Large h.grown)) m
-      by_number m ne (inl here) = ap (entry_at (slice_set (slice_set old at.slab gap) n e)) here ∙ (get_or-set_same (slice_set old at.slab gap) n e Vacant lt ∙ (full ∙ (sym ((change (Large h.grown)).here) ∙ ap (entry_at (slice_set old n (Large h.grown))) (sym here))))
-      by_number m ne (inr other) = get_or-set_other (slice_set old at.slab gap) n m e Vacant other ∙ (get_or-set_other old at.slab m gap Vacant ne ∙ sym ((change (Large h.grown)).others m other))
+      by_number : (m : ℕ) → m ≢ at.slab → (m ≡ n) ⊎ (m ≢ n) → entry_at (slice_set (slice_set old at.slab gap) n put) m ≡ entry_at (slice_set old n (Large h.grown)) m
+      by_number m ne (inl here) = ap (entry_at (slice_set (slice_set old at.slab gap) n put)) here ∙ (get_or-set_same (slice_set old at.slab gap) n put Vacant lt ∙ (h.full ∙ (sym ((change (Large h.grown)).here) ∙ ap (entry_at (slice_set old n (Large h.grown))) (sym here))))
+      by_number m ne (inr other) = get_or-set_other (slice_set old at.slab gap) n m put Vacant other ∙ (get_or-set_other old at.slab m gap Vacant ne ∙ sym ((change (Large h.grown)).others m other))
 
   module _ (last : ClassHeap) (open' : last.passing ≡ mid.passing) (gone : IsChange (slice_set old n (Large h.grown)) last.entries.items at.slab Vacant) where
     -- the old block was given back
@@ -210,15 +235,15 @@ module _ {first mid : ClassHeap} {at : BlockRef} {n len : ℕ} {early : Director
     lengthens_alone = record { placed = placed; written = written; places = places_longer; writes = writes_bytes; returns = returns_old }
 
   -- when it has gone, the heap is sound
-  pub leaving-sound : (gap e : Entry) (late : Directory) → gap ≡ Vacant → e ≡ Large h.grown → late.bound ≡ early.bound → ((m : ℕ) → m < late.bound → labels_at late m ≡ cond (eqb m at.slab) (2 ^ 36) (labels_at early m)) → IsHeap mid.passing (slice_set (slice_set old at.slab gap) n e) late mid.margins
+  pub leaving-sound : (gap : Entry) (late : Directory) → gap ≡ Vacant → late.bound ≡ early.bound → ((m : ℕ) → m < late.bound → labels_at late m ≡ cond (eqb m at.slab) (2 ^ 36) (labels_at early m)) → IsHeap mid.passing (slice_set (slice_set old at.slab gap) n put) late mid.margins
   unfolding written
-  leaving-sound gap e late empty full bound labels =
-      sound_left written.sound (slice_set (slice_set old at.slab gap) n e) at.slab h.from late
-      (length-set (slice_set old at.slab gap) n e ∙ (length-set old at.slab gap ∙ sym (length-set old n (Large h.grown)))) (gone_by gap e empty full) stands bound labels
+  leaving-sound gap late empty bound labels =
+      sound_left written.sound (slice_set (slice_set old at.slab gap) n put) at.slab h.from late
+      (length-set (slice_set old at.slab gap) n put ∙ (length-set old at.slab gap ∙ sym (length-set old n (Large h.grown)))) (gone_by gap empty) stands bound labels
 
   -- and the block was lengthened by the rule
-  pub leaving-lengthens : (last : ClassHeap) (gap e : Entry) → gap ≡ Vacant → e ≡ Large h.grown → last.passing ≡ mid.passing → last.entries.items ≡ slice_set (slice_set old at.slab gap) n e → Lengthens first last at len longer
-  leaving-lengthens last gap e empty full open' stood = lengthens_alone last open' (subst (λ xs. IsChange (slice_set old n (Large h.grown)) xs at.slab Vacant) (sym stood) (gone_by gap e empty full))
+  pub leaving-lengthens : (last : ClassHeap) (gap : Entry) → gap ≡ Vacant → last.passing ≡ mid.passing → last.entries.items ≡ slice_set (slice_set old at.slab gap) n put → Lengthens first last at len longer
+  leaving-lengthens last gap empty open' stood = lengthens_alone last open' (subst (λ xs. IsChange (slice_set old n (Large h.grown)) xs at.slab Vacant) (sym stood) (gone_by gap empty))
 
 -- ---- what a block has that was lengthened by the rule
 
