@@ -21,6 +21,9 @@ use std::mem::replace;
 /// number that is free. While a pass is open, only kept slabs take blocks, and no more than leave room for all blocks
 /// that want to move: so a move takes no memory. Placing and giving back take time in the logarithm of the number of
 /// slabs, reading takes none. Beside its slabs the heap keeps two bytes a slot and some fifteen words a number.
+///
+/// A block that stands alone is lengthened in its memory, which at least doubles where it is full: so many short steps
+/// take time linear in the length. A block in a slab is copied.
 #[derive(Drop)]
 pub struct ClassHeap {
     alloc: Global,
