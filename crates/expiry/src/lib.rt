@@ -3,8 +3,6 @@
 
 mod deadlines;
 mod gone;
-#[cfg(test)]
-mod tests;
 
 pub use deadlines::Deadlines;
 pub use gone::Gone;

@@ -5,8 +5,6 @@ mod chains;
 mod dict;
 mod scan;
 mod tables;
-#[cfg(test)]
-mod tests;
 
 pub use dict::Dict;
 
