@@ -24,5 +24,3 @@ pub use node::{Container, Node};
 pub use quick::Quick;
 pub use reach::{End, is_text};
 
-#[cfg(test)]
-mod tests;
