@@ -69,13 +69,19 @@ fn has_first(met: &BTreeMap<u64, ()>) -> bool {
     true
 }
 
-/// Whether so many scans meet all that stands throughout.
-pub fn meets(alloc: Global, rounds: u64) -> Result<bool, Memory> {
-    let mut rng = Pcg32::new(7, 54);
+// A dictionary of the first 40 numbers.
+fn of_first(alloc: Global) -> Result<Held, Memory> {
     let mut held = Held::new(alloc);
     for n in 0..40u64 {
         held.put(&n.to_le_bytes(), n)?;
     }
+    Ok(held)
+}
+
+/// Whether so many scans meet all that stands throughout.
+pub fn meets(alloc: Global, rounds: u64) -> Result<bool, Memory> {
+    let mut rng = Pcg32::new(7, 54);
+    let mut held = of_first(alloc)?;
     for round in 0..rounds {
         match scanned(alloc, &mut held, &mut rng, round / 4 % 2 == 0)? {
             Some(met) => {

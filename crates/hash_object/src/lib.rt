@@ -13,11 +13,7 @@ mod packs;
 mod relocating;
 mod removing;
 mod scanning;
-#[cfg(test)]
-mod scarce;
 mod setting;
-#[cfg(test)]
-mod tests;
 
 pub use blocks::{Memory, Moved};
 pub use cursor::Cursor;

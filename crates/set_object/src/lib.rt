@@ -13,10 +13,6 @@ mod packs;
 mod relocating;
 mod removing;
 mod scanning;
-#[cfg(test)]
-mod scarce;
-#[cfg(test)]
-mod tests;
 
 pub use blocks::{Memory, Moved};
 pub use cursor::Cursor;

@@ -12,12 +12,8 @@ mod reading;
 mod relocating;
 mod removing;
 mod scanning;
-#[cfg(test)]
-mod scarce;
 mod scored;
 mod setting;
-#[cfg(test)]
-mod tests;
 
 pub use blocks::{Memory, Moved};
 pub use cursor::Cursor;
