@@ -1,5 +1,5 @@
 -- The marks of a dictionary's key blocks are the item numbers of its elements.
-use Rattle.std.proofs.Common.{◌≡◌, ◌≢◌, ◌⊎◌, ℕ, zero, suc, ◌+◌, ◌<◌, ◌≤◌, true, false, List, [], ◌∷◌, Option, Some, None, is_some, flat_map, length, slice_get, refl, sym, ap, ◌∙◌, subst, arith, inl, inr}
+use Rattle.std.proofs.Common.{◌++◌, ◌≡◌, ◌≢◌, ◌⊎◌, ℕ, zero, suc, ◌+◌, ◌<◌, ◌≤◌, true, false, List, [], ◌∷◌, Option, Some, None, is_some, flat_map, length, slice_get, refl, sym, ap, ◌∙◌, subst, arith, inl, inr}
 use Rattle.std.proofs.lemmas.Bool.{cases_eq}
 use Rattle.std.proofs.lemmas.Bool.Decides.{nat_tests}
 use Rattle.blocks.specs.declared.BlockRef.{BlockRef}
@@ -8,7 +8,7 @@ use Rattle.collection_walk.proofs.Lists.{same_some}
 use Rattle.rehash_dict.specs.Table.{Element, Table, at_item, item}
 use Rattle.rehash_dict.specs.MapOf.{own_of, key_refs}
 use Rattle.collection_walk.proofs.Ranks.{Slots}
-use Rattle.collection_walk.specs.Marks.{items_from, is_within, IsCalm, ArePassed}
+use Rattle.collection_walk.specs.Marks.{vacant_mark, vacant_below, items_from, is_within, IsCalm, ArePassed}
 
 pub within_parts : (start end mark : ℕ) → is_within start end mark ≡ true → (start ≤ mark) × (mark < end)
 within_parts start end mark h = grind (arith, nat_tests)
@@ -54,6 +54,19 @@ module _ {V : Type 0} where
   items_marked n [] = refl
   items_marked n (None ∷ items) = items_marked (suc n) items
   items_marked n (Some e ∷ items) = ap suc (items_marked (suc n) items)
+
+module _ {V : Type 0} where
+  -- item numbers at which elements stand alike are vacant alike
+  vacant_alike : (n : ℕ) (x y : Option (Element V)) → is_some x ≡ is_some y → vacant_mark n x ≡ vacant_mark n y
+  vacant_alike n None None same = refl
+  vacant_alike n None (Some e) same = cc
+  vacant_alike n (Some e) None same = cc
+  vacant_alike n (Some e) (Some f) same = refl
+
+  -- where an element stands at each item number at which one stood, the same item numbers are vacant
+  pub vacant_same : (t u : Table V) → ((at : ℕ) → is_some (item u at) ≡ is_some (item t at)) → (n : ℕ) → vacant_below u n ≡ vacant_below t n
+  vacant_same t u same zero = refl
+  vacant_same t u same (suc n) = λ i. vacant_alike n (item u n) (item t n) (same n) i ++ vacant_same t u same n i
 
 module _ {V : Type 0} (heap : Heap) (t u : Table V) (start end : ℕ) (same : (at : ℕ) → is_some (item u at) ≡ is_some (item t at)) where
   pub same_marks : items_from 0 u.items ≡ items_from 0 t.items

@@ -1,11 +1,12 @@
 -- What a call passes that goes through a part of a hash's blocks.
-use Rattle.std.proofs.Common.{◌≡◌, ◌⊎◌, ℕ, zero, suc, ◌<◌, ◌≤◌, Some, None, is_some, slice_get, sym, ap, ◌∙◌, subst, arith}
+use Rattle.std.proofs.Common.{◌++◌, Option, refl, ◌≡◌, ◌⊎◌, ℕ, zero, suc, ◌<◌, ◌≤◌, Some, None, is_some, slice_get, sym, ap, ◌∙◌, subst, arith}
 use Rattle.std.specs.Prelude.{nat_lt, min, if◌then◌else◌, IfSome}
 use Rattle.blocks.specs.declared.Moved.{Moved}
 use Rattle.blocks.specs.Blocks.{Blocks}
 use Rattle.blocks.specs.Slabs.{Heap}
 use Rattle.object_codec.specs.declared.limits.Limits.{Limits}
-use Rattle.rehash_dict.specs.Table.{item}
+use Rattle.rehash_dict.specs.Table.{Element, item}
+use Rattle.blocks.specs.declared.BlockRef.{BlockRef}
 use Rattle.collection_walk.proofs.Numbered.{within_parts, outside_parts}
 use Rattle.collection_walk.proofs.Passing.{passed_within, goes_on, part_passed}
 use Rattle.hash_object.specs.declared.fields.Body.{Body}
@@ -13,7 +14,7 @@ use Rattle.hash_object.specs.declared.fields.Body.TheVariants.{Empty, Pack, Tabl
 use Rattle.hash_object.specs.declared.fields.Fields.{Fields}
 use Rattle.hash_object.specs.Hashed.{FieldTable, blocks_of}
 use Rattle.hash_object.specs.Fields.{IsFields, IsBody, refs}
-use Rattle.hash_object.specs.Relocation.{marks_from, marks, marks_in, marks_end, end_in, vacant_marks, vacant_in, units, units_in, block_in, IsCalm, PassesPart}
+use Rattle.hash_object.specs.Relocation.{vacant_mark, vacant_below, marks_from, marks, marks_in, marks_end, end_in, vacant_marks, vacant_in, units, units_in, block_in, IsCalm, PassesPart}
 use Rattle.collection_walk.specs.Marks.{is_passed, is_within, ArePassed}
 use Rattle.hash_object.proofs.Marks.{marks_alike, mark_block, block_below, vacant_low, count_agree, count_none}
 
@@ -27,6 +28,17 @@ module _ (heap : Heap) (t u : FieldTable) (start end : ℕ) (same : (at : ℕ) �
     stays = λ index mark marked out.
         (mark_block u.items index mark marked).0 ∙ others mark (outside_parts start end mark out) ∙ sym (mark_block t.items index mark (ap (λ ms. slice_get ms index) (sym same_marks) ∙ marked)).0;
   }
+
+-- where an element stands at each item number at which one stood, the same item numbers are vacant
+vacant_alike : (n : ℕ) (x y : Option (Element BlockRef)) → is_some x ≡ is_some y → vacant_mark n x ≡ vacant_mark n y
+vacant_alike n None None same = refl
+vacant_alike n None (Some e) same = cc
+vacant_alike n (Some e) None same = cc
+vacant_alike n (Some e) (Some f) same = refl
+
+pub vacant_same : (t u : FieldTable) → ((at : ℕ) → is_some (item u at) ≡ is_some (item t at)) → (n : ℕ) → vacant_below u n ≡ vacant_below t n
+vacant_same t u same zero = refl
+vacant_same t u same (suc n) = λ i. vacant_alike n (item u n) (item t n) (same n) i ++ vacant_same t u same n i
 
 -- ---- what a call answers
 
@@ -48,9 +60,10 @@ none_within body start = omega (arith, count_none start (marks_in body), count_n
 -- a part of the marks was passed
 pub passes_part : (before : Blocks) (heap : Heap) (old new : Fields) (from room count start end : ℕ) (answer : Moved) → IsFields before old → count ≡ marks_end old → start ≡ min from count → start ≤ end → 32 ≤ room
     → answer.next ≡ (if nat_lt end count then Some end else None) → answer.used ≡ units old start end → answer.used ≤ room → (end < count → answer.used ≡ room)
-    → marks new ≡ marks old → ArePassed heap (is_within start end) (marks new) (refs old) (refs new) → PassesPart heap old new from room answer
-passes_part before heap old new from room count start end answer sound count_is start_is order wide next_is used_is fits full same p = record {
+    → marks new ≡ marks old → vacant_marks new ≡ vacant_marks old → ArePassed heap (is_within start end) (marks new) (refs old) (refs new) → PassesPart heap old new from room answer
+passes_part before heap old new from room count start end answer sound count_is start_is order wide next_is used_is fits full same vacant p = record {
   same_marks = same;
+  same_vacant = vacant;
   passed = part_passed from count start end answer.next start_is next_is heap (marks new) (refs old) (refs new) (λ index mark marked. below index mark (ap (λ ms. slice_get ms index) (sym same) ∙ marked)) p;
   counted = record {
     used = omega (

@@ -104,5 +104,6 @@ pub record IsRelocated (before after : Blocks) (old new : Fields) : Type 0 where
 -- A part of the blocks was passed.
 pub record PassesPart (heap : Heap) (old new : Fields) (from room : ℕ) (answer : Moved) : Type 0 where
   pub same_marks : marks new ≡ marks old
+  pub same_vacant : vacant_marks new ≡ vacant_marks old
   pub passed : ArePassed heap (is_passed from answer.next) (marks new) (refs old) (refs new)
   pub counted : IsCounted (marks old) (vacant_marks old) (marks_end old) from room answer

@@ -1,5 +1,5 @@
 -- Chains that are copied, and chains whose blocks move.
-use Rattle.std.proofs.Common.{◌≡◌, ◌≢◌, ℕ, zero, suc, ◌+◌, ◌-◌, ◌<◌, ◌≤◌, List, [], ◌∷◌, ◌++◌, Option, Some, None, IsSome, length, map, take, drop, get_or, set, refl, ap, ◌∙◌, sym, subst, arith, flat_map, unwrap_or, get_or-set_other}
+use Rattle.std.proofs.Common.{◌≡◌, ◌≢◌, ℕ, zero, suc, ◌+◌, ◌-◌, ◌<◌, ◌≤◌, List, [], ◌∷◌, ◌++◌, Option, Some, None, IsSome, length, map, take, drop, get_or, set, refl, ap, ◌∙◌, sym, subst, arith, flat_map, unwrap_or, get_or-set_other, inl, inr, ◌⊎◌}
 use Rattle.std.specs.Prelude.{IfSome, false}
 use Rattle.std.specs.List.{All}
 use Rattle.blocks.specs.Slabs.{Heap, wants}
@@ -13,7 +13,7 @@ use Rattle.quicklist.specs.declared.node.Container.{Container}
 use Rattle.quicklist.specs.declared.node.Node.{Node}
 use Rattle.quicklist.specs.declared.piece.Piece.{Piece}
 use Rattle.quicklist.specs.Nodes.{IsNode, IsChain, IsPiece, Placed, held, IsHeld, node_at, node_list, bytes_of, piece_list, refs_of, elements_of, container_of, container_of_piece}
-use Rattle.quicklist.specs.Chain.{IsCopied, IsSettled, IsPassed, ref_at, passed_to}
+use Rattle.quicklist.specs.Chain.{IsCopied, IsSettled, IsPassed, IsOutside, ref_at, passed_to}
 use Rattle.quicklist.proofs.Chains.{Same, times-refs, elements-same, each-same, one_placed, cut_at, one_self, node_live, all_same, length-placed}
 
 -- what a copy of a node is placed of
@@ -129,14 +129,20 @@ node_settled m n nodes new k node at c h is bytes p put =
     subst (λ (xs : List Node). IsSettled m n nodes xs (λ i. i ≢ k)) (sym now) (subst (λ (xs : List Node). IsSettled m n xs (front ++ (moved ∷ back)) (λ i. i ≢ k)) (sym was) settled)
 
 -- one move after others
-pub more_settled : (m mid n : Blocks) (nodes between new : List Node) (start k : ℕ) → start ≤ k → IsSettled m mid nodes between (λ i. i < start) → IsSettled mid n between new (λ i. i ≢ k) → IsSettled m n nodes new (λ i. i < start)
+pub more_settled : (m mid n : Blocks) (nodes between new : List Node) (start k : ℕ) → start ≤ k → IsSettled m mid nodes between (IsOutside start k) → IsSettled mid n between new (λ i. i ≢ k) → IsSettled m n nodes new (IsOutside start (k + 1))
 more_settled m mid n nodes between new start k h p q = record {
   chain = q.chain;
   list_is = q.list_is ∙ p.list_is;
   changes = Changes-then m mid n (refs_of nodes) (refs_of between) (refs_of new) p.changes q.changes;
   containers = q.containers ∙ p.containers;
-  others = λ i lt. q.others i (λ e. omega (arith, e, lt, h)) ∙ p.others i lt;
+  others = λ i out. q.others i (λ e. apart i out e) ∙ p.others i (wider i out);
 }
+  where
+    apart : (i : ℕ) → IsOutside start (k + 1) i → i ≡ k → ⊥
+    apart i out e = elim out [ inl lt ↦ omega (arith, e, lt, h) | inr le ↦ omega (arith, e, le) ]
+
+    wider : (i : ℕ) → IsOutside start (k + 1) i → IsOutside start k i
+    wider i out = elim out [ inl lt ↦ inl lt | inr le ↦ inr (omega (arith, le)) ]
 
 pub settled_len : (m n : Blocks) (nodes new : List Node) (stays : ℕ → Type 0) → IsSettled m n nodes new stays → length new ≡ length nodes
 settled_len m n nodes new stays p = sym (length-map new container_of) ∙ ap length p.containers ∙ length-map nodes container_of
@@ -147,20 +153,20 @@ ref_node (node ∷ nodes) zero = refl
 ref_node (node ∷ nodes) (suc i) = ref_node nodes i
 
 -- what was passed
-pub passed_by : (heap : Heap) (m n : Blocks) (old new : List Node) (from room end used : ℕ) (next : Option ℕ) → IsSettled m n old new (λ i. i < from)
+pub passed_by : (heap : Heap) (m n : Blocks) (old new : List Node) (from room end used : ℕ) (next : Option ℕ) → IsSettled m n old new (IsOutside from end)
     → ((i : ℕ) → from ≤ i → i < end → wants heap (node_at new i).at ≡ false) → used ≡ end - from → from ≤ end → used ≤ room → passed_to (length old) next ≡ end
     → IfSome next (λ to. (from < to) × (room ≤ used + 17) × (to < length old)) → IsPassed heap (refs_of old) (refs_of new) from room (record { next = next; used = used })
 passed_by heap m n old new from room end used next p calm so_many order few to on = record {
   within = few;
-  counted = λ h. omega (arith, so_many, order, to, ap (λ k. passed_to k next) (length-map old (λ (node : Node). node.at)));
+  counted = so_many ∙ ap (λ e. e - from) (sym (ap (λ k. passed_to k next) (length-map old (λ (node : Node). node.at)) ∙ to));
   on = at_length next on;
   same_count = same;
   calm = λ i low high. ap (wants heap) (ref_node new i) ∙ calm i low (omega (arith, high, to, ap (λ k. passed_to k next) (same ∙ length-map old (λ (node : Node). node.at))));
-  stays = λ i lt. ref_node new i ∙ ap (λ (node : Node). node.at) (p.others i lt) ∙ sym (ref_node old i);
+  stays = λ i out. ref_node new i ∙ ap (λ (node : Node). node.at) (p.others i (subst (λ e. IsOutside from e i) (ap (λ k. passed_to k next) (length-map old (λ (node : Node). node.at)) ∙ to) out)) ∙ sym (ref_node old i);
 }
   where
     same : length (refs_of new) ≡ length (refs_of old)
-    same = length-map new (λ (node : Node). node.at) ∙ settled_len m n old new (λ i. i < from) p ∙ sym (length-map old (λ (node : Node). node.at))
+    same = length-map new (λ (node : Node). node.at) ∙ settled_len m n old new (IsOutside from end) p ∙ sym (length-map old (λ (node : Node). node.at))
 
     at_length : (o : Option ℕ) → IfSome o (λ to. (from < to) × (room ≤ used + 17) × (to < length old)) → IfSome o (λ to. (from < to) × (room ≤ used + 17) × (to < length (refs_of new)))
     at_length None h = tt

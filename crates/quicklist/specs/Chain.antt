@@ -1,5 +1,5 @@
 -- What contracts see of a list over a store.
-use Rattle.std.specs.Prelude.{◌≡◌, ℕ, ◌<◌, ◌⊎◌, ◌∷◌, ◌++◌, [], List, length, map, take, drop, get_or, ◌+◌, ◌≤◌, Option, Some, None, IfSome, false}
+use Rattle.std.specs.Prelude.{◌≡◌, ℕ, ◌<◌, ◌⊎◌, ◌∷◌, ◌++◌, [], List, length, map, take, drop, get_or, ◌+◌, ◌≤◌, Option, Some, None, IfSome, false, ◌-◌}
 use Rattle.blocks.specs.declared.BlockRef.{BlockRef}
 use Rattle.blocks.specs.declared.Moved.{Moved}
 use Rattle.blocks.specs.Slabs.{Heap, wants}
@@ -96,12 +96,16 @@ abbrev pub passed_to : ℕ → Option ℕ → ℕ
 passed_to count None = count
 passed_to count (Some next) = next
 
--- The blocks from the mark `from` to below the answer's are passed and want no move, and so many of them were; those
--- before it have the references that they had.
+-- the index is not from `start` to below `end`
+abbrev pub IsOutside : ℕ → ℕ → ℕ → Type 0
+IsOutside start end i = (i < start) ⊎ (end ≤ i)
+
+-- The blocks from the mark `from` to below the answer's are passed and want no move, and so many of them were; the others
+-- have the references that they had.
 pub record IsPassed (heap : Heap) (old new : List BlockRef) (from room : ℕ) (answer : Moved) : Type 0 where
   pub within : answer.used ≤ room
-  pub counted : from < length old → from + answer.used ≡ passed_to (length old) answer.next
+  pub counted : answer.used ≡ passed_to (length old) answer.next - from
   pub on : IfSome answer.next (λ next. (from < next) × (room ≤ answer.used + 17) × (next < length new))
   pub same_count : length new ≡ length old
   pub calm : (i : ℕ) → from ≤ i → i < passed_to (length new) answer.next → wants heap (ref_at new i) ≡ false
-  pub stays : (i : ℕ) → i < from → ref_at new i ≡ ref_at old i
+  pub stays : (i : ℕ) → IsOutside from (passed_to (length old) answer.next) i → ref_at new i ≡ ref_at old i

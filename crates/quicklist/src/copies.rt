@@ -4,7 +4,7 @@ ghost use Rattle.std.specs.Prelude.{◌≡◌, ◌≢◌, ℕ, ◌<◌, ◌≤�
 ghost use Rattle.blocks.specs.Blocks.{Changes, Served, with_block, bytes_at, Owned};
 ghost use Rattle.blocks.specs.Slabs.{wants, Calmer};
 ghost use Rattle.quicklist.specs.Nodes.{IsChain, node_at, refs_of, elements_of};
-ghost use Rattle.quicklist.specs.Chain.{elements, refs, IsQuick, IsCopied, IsSettled, IsPassed};
+ghost use Rattle.quicklist.specs.Chain.{elements, refs, IsQuick, IsCopied, IsSettled, IsOutside, IsPassed};
 
 use crate::exchange::end_nodes;
 use crate::node::Node;
@@ -79,7 +79,7 @@ fn settle_nodes<B: BlockStore>(store: &mut B, nodes: &mut VecDeque<Node>, start:
     requires order { start ≤ end }
     requires inside { end ≤ length nodes.old.items }
     requires chain { IsChain (B.blocks store.old) nodes.old.items }
-    ensures settled { IsSettled (B.blocks store.old) (B.blocks store.new) nodes.old.items nodes.new.items (λ i. i < start) }
+    ensures settled { IsSettled (B.blocks store.old) (B.blocks store.new) nodes.old.items nodes.new.items (IsOutside start end) }
     ensures calm { (i : ℕ) → start ≤ i → i < end → wants (B.heap store.new) (node_at nodes.new.items i).at ≡ false }
     ensures calmer { Calmer (B.heap store.old) (B.heap store.new) }
 {

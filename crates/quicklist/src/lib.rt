@@ -23,4 +23,3 @@ pub use laws::quick_laws;
 pub use node::{Container, Node};
 pub use quick::Quick;
 pub use reach::{End, is_text};
-

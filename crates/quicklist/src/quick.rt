@@ -1,7 +1,7 @@
 // Lists.
 
 ghost use Rattle.std.specs.Prelude.{◌≡◌, ◌∷◌, ◌≤◌, ◌↔◌, [], length, IsTrue, slice_index_or, MatchOption};
-ghost use Rattle.blocks.specs.Blocks.{Blocks, Changes, Served};
+ghost use Rattle.blocks.specs.Blocks.{Blocks, Changes, Owned, Served};
 ghost use Rattle.listpack.specs.Element.{element_text};
 ghost use Rattle.object_codec.specs.Forms.{IsLeast, FitsList};
 ghost use Rattle.quicklist.specs.Chain.{elements, refs, IsQuick};
@@ -94,7 +94,7 @@ impl Quick {
 
     /// Gives back all blocks.
     pub fn release<B: BlockStore>(self, store: &mut B)
-        requires { IsQuick (B.blocks store.old) self }
+        requires { Owned (refs self) (B.blocks store.old) }
         ensures changes { Changes (B.blocks store.old) (B.blocks store.new) (refs self) [] }
         ensures served { Served B.step store.old store.new }
     {

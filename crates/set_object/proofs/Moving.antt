@@ -14,7 +14,7 @@ use Rattle.set_object.specs.declared.members.Body.{Body}
 use Rattle.set_object.specs.declared.members.Body.TheVariants.{Empty, Numbers, Pack, Table}
 use Rattle.set_object.specs.declared.members.Members.{Members}
 use Rattle.set_object.specs.Members.{IsMembers, IsBody, refs, refs_of}
-use Rattle.set_object.specs.Relocation.{marks, marks_in, marks_end, vacant_in, end_in, ItemWaits, WantsMove, PassesPart}
+use Rattle.set_object.specs.Relocation.{vacant_marks, marks, marks_in, marks_end, vacant_in, end_in, ItemWaits, WantsMove, PassesPart}
 use Rattle.collection_walk.specs.Marks.{items_from, is_passed, is_within, IsCalm, ArePassed}
 use Rattle.collection_walk.proofs.Numbered.{within_parts, mark_item, item_mark, items_passed}
 use Rattle.collection_walk.proofs.Counted.{passed_below, each_number, within_count}
@@ -48,9 +48,10 @@ mark_below after limits seed (Table t) index mark is h =
 
 -- a part of the marks was passed
 pub passes_part : (before : Blocks) (heap : Heap) (old new : Members) (from room count start end : ℕ) (answer : Moved) → IsMembers before old → count ≡ marks_end old → start ≡ min from count → end ≡ min count (start + room) → 32 ≤ room
-    → answer.next ≡ (if nat_lt end count then Some end else None) → answer.used ≡ end - start → marks new ≡ marks old → ArePassed heap (is_within start end) (marks new) (refs old) (refs new) → PassesPart heap old new from room answer
-passes_part before heap old new from room count start end answer sound count_is start_is end_is wide next_is used_is same p = record {
+    → answer.next ≡ (if nat_lt end count then Some end else None) → answer.used ≡ end - start → marks new ≡ marks old → vacant_marks new ≡ vacant_marks old → ArePassed heap (is_within start end) (marks new) (refs old) (refs new) → PassesPart heap old new from room answer
+passes_part before heap old new from room count start end answer sound count_is start_is end_is wide next_is used_is same vacant p = record {
   same_marks = same;
+  same_vacant = vacant;
   passed = part_passed from count start end answer.next start_is next_is heap (marks new) (refs old) (refs new) below p;
   counted = record {
     used = omega (

@@ -87,6 +87,7 @@ impl Members {
         requires order { part.start ≤ part.end }
         ensures relocated { IsRelocated (B.blocks store.old) (B.blocks store.new) self.old self.new }
         ensures marks { marks self.new ≡ marks self.old }
+        ensures vacant { vacant_marks self.new ≡ vacant_marks self.old }
         ensures count { marks_end self.new ≡ marks_end self.old }
         ensures passed { ArePassed (B.heap store.new) (is_within part.start part.end) (marks self.new) (refs self.old) (refs self.new) }
         ensures calmer { Calmer (B.heap store.old) (B.heap store.new) }

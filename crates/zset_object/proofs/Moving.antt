@@ -8,15 +8,16 @@ use Rattle.collection_walk.proofs.Counted.{passed_below, within_count}
 use Rattle.collection_walk.proofs.Passing.{passed_within, goes_on, part_passed}
 use Rattle.zset_object.specs.declared.scored.Scored.{Scored}
 use Rattle.zset_object.specs.Scored.{IsScored, refs}
-use Rattle.zset_object.specs.Relocation.{marks, marks_end, PassesPart}
+use Rattle.zset_object.specs.Relocation.{vacant_marks, marks, marks_end, PassesPart}
 use Rattle.collection_walk.specs.Marks.{is_passed, is_within, ArePassed}
 use Rattle.zset_object.proofs.Marks.{mark_below, marks_counted}
 
 -- a part of the marks was passed
 pub passes_part : (before : Blocks) (heap : Heap) (old new : Scored) (from room count start end : ℕ) (answer : Moved) → IsScored before old → count ≡ marks_end old → start ≡ min from count → end ≡ min count (start + room) → 32 ≤ room
-    → answer.next ≡ (if nat_lt end count then Some end else None) → answer.used ≡ end - start → marks new ≡ marks old → ArePassed heap (is_within start end) (marks new) (refs old) (refs new) → PassesPart heap old new from room answer
-passes_part before heap old new from room count start end answer sound count_is start_is end_is wide next_is used_is same p = record {
+    → answer.next ≡ (if nat_lt end count then Some end else None) → answer.used ≡ end - start → marks new ≡ marks old → vacant_marks new ≡ vacant_marks old → ArePassed heap (is_within start end) (marks new) (refs old) (refs new) → PassesPart heap old new from room answer
+passes_part before heap old new from room count start end answer sound count_is start_is end_is wide next_is used_is same vacant p = record {
   same_marks = same;
+  same_vacant = vacant;
   passed = part_passed from count start end answer.next start_is next_is heap (marks new) (refs old) (refs new) below p;
   counted = record {
     used = omega (
