@@ -6,6 +6,7 @@ use Rattle.blocks.specs.Blocks.{IsIn}
 use Rattle.blocks.specs.Slabs.{Heap, Swept}
 use Rattle.held.specs.Table.{Element, item}
 use Rattle.held.specs.Databases.{Bases, table_at}
+use Rattle.stored.specs.Passing.{Marks}
 use Rattle.defrag.specs.declared.walk.Walk.{Walk}
 
 -- the reference names a block of a value whose mark is below this one
@@ -16,11 +17,11 @@ pub record IsBelow (refs : List BlockRef) (marks : List ℕ) (bound : ℕ) (r : 
   pub marked : slice_get marks index ≡ Some mark
   pub below : mark < bound
 
-module _ {V : Type 0} (refs_of : V → List BlockRef) (marks : V → List ℕ) where
+module _ {V : Type 0} (refs_of : V → List BlockRef) (marks : V → Marks) where
   -- the reference names a block of the element before this place inside it: its key's comes before all of its value
   abbrev pub ComesBefore : Element V → Option ℕ → BlockRef → Type 0
   ComesBefore e None r = ⊥
-  ComesBefore e (Some bound) r = (r ≡ e.key) ⊎ IsBelow (refs_of e.value) (marks e.value) bound r
+  ComesBefore e (Some bound) r = (r ≡ e.key) ⊎ IsBelow (refs_of e.value) (marks e.value).named bound r
 
   -- The walk has passed the block: one of a key of a lower database, one of a key of a lower item number in its own, or
   -- one of its item's that comes before its mark.

@@ -1,5 +1,6 @@
 -- Keys leave that blocks name: what one removal does to the tables, and what several do.
-use Rattle.std.proofs.Common.{◌≡◌, ◌≢◌, ◌⊎◌, inl, inr, ℕ, List, [], ◌∷◌, ◌++◌, Some, None, refl, sym, ap, ◌∙◌, subst, arith}
+use Rattle.std.proofs.Common.{◌≡◌, ◌≢◌, ◌⊎◌, inl, inr, ℕ, List, [], ◌∷◌, ◌++◌, Some, None, refl, sym, ap, ◌∙◌, subst, arith, ◌<◌}
+use Rattle.object_codec.specs.declared.limits.Limits.{Limits}
 use Rattle.std.proofs.lemmas.Bool.{cases_eq, cond-false}
 use Rattle.blocks.specs.declared.BlockRef.{BlockRef}
 use Rattle.blocks.specs.Blocks.{Blocks, ref_eq, times, no_step}
@@ -84,12 +85,12 @@ module _ {X : Type 0} where
 
 -- ---- databases
 
-module _ {V : Type 0} (refs_of : V → List BlockRef) where
+module _ {V : Type 0} (refs_of : Blocks → V → List BlockRef) where
   pub stayed_none : (old : Bases V) (m : Blocks) (db at : ℕ) (e : Element V) → item (table_at old db) at ≡ Some e → Stayed refs_of old m m db at e
-  stayed_none old m db at e found = record { stood = found; bytes = λ r owns. refl }
+  stayed_none old m db at e found = record { stood = found; bytes = λ r owns. refl; refs = refl }
 
   pub stayed_then : (a b : Bases V) (m mid after : Blocks) (db at : ℕ) (e : Element V) → Stayed refs_of b mid after db at e → Stayed refs_of a m mid db at e → Stayed refs_of a m after db at e
-  stayed_then a b m mid after db at e last first = record { stood = first.stood; bytes = λ r owns. last.bytes r owns ∙ first.bytes r owns }
+  stayed_then a b m mid after db at e last first = record { stood = first.stood; bytes = λ r owns. last.bytes r (subst (λ list. 0 < times r (e.key ∷ list)) (sym first.refs) owns) ∙ first.bytes r owns; refs = last.refs ∙ first.refs }
 
   pub thinned_none : (old : Bases V) (m : Blocks) (db : ℕ) → Thinned refs_of [] old old m m db
   thinned_none old m db = record {
@@ -112,10 +113,10 @@ module _ {V : Type 0} (refs_of : V → List BlockRef) where
   }
 
   -- a key's deadline goes, then the key that a block names, and its blocks are given back
-  module _ (old mid new : Bases V) (m after : Blocks) (db : ℕ) (name ref : BlockRef) (key : List ℕ) (value : V) (a : IsArranged old m) (n : Names (table_at old db) name) (is : m name ≡ Some key)
+  module _ {IsSound : Limits → ℕ → Blocks → V → Type 0} (old mid new : Bases V) (m after : Blocks) (db : ℕ) (name ref : BlockRef) (key : List ℕ) (value : V) (a : IsArranged IsSound old m) (n : Names (table_at old db) name) (is : m name ≡ Some key)
       (c : ChangesDeadlines old mid db) (cleared : Clears m (deadlines_at old db).table (deadlines_at mid db).table key ⊎ ((mid ≡ old) × Lacks m (deadlines_at old db).table key))
       (d : ChangesTable mid new db) (l : Removes m (table_at mid db) (table_at new db) key ref value) (tables : key_tables m (table_at new db) ≡ removed same_key (key_tables m (table_at mid db)) key)
-      (b : IsArranged new after) (w : Within refs_of (no_key db) old new m after) where
+      (b : IsArranged IsSound new after) (w : Within refs_of (no_key db) old new m after) where
     mid_keyed : Keyed m (table_at mid db)
     mid_keyed = subst (Keyed m) (sym c.keys) (a.keyed db)
 

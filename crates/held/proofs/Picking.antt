@@ -1,5 +1,6 @@
 -- Some key that is there at a moment.
 use Rattle.std.proofs.Common.{◌≡◌, inl, inr, ℕ, ◌<◌, ◌≤◌, true, false, List, Option, Some, None, IfNone, IsSome, is_some, refl, sym, ap, ◌∙◌, arith}
+use Rattle.object_codec.specs.declared.limits.Limits.{Limits}
 use Rattle.std.proofs.lemmas.Bool.{cases_Bool, cases_lt}
 use Rattle.std.specs.FinMap.{get}
 use Rattle.blocks.specs.declared.BlockRef.{BlockRef}
@@ -9,7 +10,8 @@ use Rattle.plain_world.specs.Worlds.{Value, look, in_time}
 use Rattle.plain_world.specs.Worlds as model
 use Rattle.expiry.specs.Timed.{moments}
 use Rattle.held.specs.Table.{Table, Element, item, key_at, Stands}
-use Rattle.held.specs.Databases.{ReadsOwn, Bases, table_at, deadlines_at, means}
+use Rattle.held.specs.Databases.{Bases, table_at, deadlines_at, means}
+use Rattle.stored.specs.Owning.{ReadsOwn}
 use Rattle.held.specs.Sound.{IsArranged}
 use Rattle.held.specs.Calls.{StandsAt}
 use Rattle.held.proofs.Calls.{look_now, look_past, look_nothing, look_lacks, look_stands}
@@ -19,7 +21,7 @@ pub none_then : {A P Q : Type 0} (o : Option A) → IfNone o P → (P → Q) →
 none_then None p f = f p
 none_then (Some x) p f = tt
 
-module _ {V : Type 0} (refs_of : V → List BlockRef) (value_of : Blocks → V → Value) (own : ReadsOwn refs_of value_of) (bases : Bases V) (db moment : ℕ) (m : Blocks) where
+module _ {V : Type 0} {IsSound : Limits → ℕ → Blocks → V → Type 0} (refs_of : Blocks → V → List BlockRef) (value_of : Blocks → V → Value) (own : ReadsOwn refs_of value_of IsSound) (bases : Bases V) (db moment : ℕ) (m : Blocks) where
   -- a key that a block names
   pub named_stands : (at : ℕ) (name : BlockRef) (key : List ℕ) → key_at (item (table_at bases db) at) ≡ Some name → m name ≡ Some key → Stands m (table_at bases db) at key
   named_stands at name key is bytes = go (item (table_at bases db) at) refl is
@@ -28,7 +30,7 @@ module _ {V : Type 0} (refs_of : V → List BlockRef) (value_of : Blocks → V �
       go None found named = cc
       go (Some e) found named = record { element = e; found = found; bytes = ap m (let same : e.key ≡ name = cc in same) ∙ bytes }
 
-  module _ (a : IsArranged bases m) where
+  module _ (a : IsArranged IsSound bases m) where
     pub there_seen : (at : ℕ) (key : List ℕ) → StandsAt bases m db key moment at → is_some (look (model.live (means value_of db bases m) moment) key) ≡ true
     there_seen at key s = ap is_some (look_now refs_of value_of own bases db moment m key _ (look_stands refs_of value_of own bases db m a key at s.stands.element s.stands.found s.stands.bytes _ refl) s.in_time)
 

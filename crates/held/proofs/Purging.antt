@@ -1,5 +1,6 @@
 -- Keys that are gone at a moment leave, one by one.
 use Rattle.std.proofs.Common.{◌≡◌, ◌≢◌, ◌⊎◌, inl, inr, ℕ, ◌+◌, ◌≤◌, ◌<◌, Bool, true, false, cond, List, [], Option, Some, None, IsSome, is_some, refl, sym, ap, ◌∙◌, subst, arith}
+use Rattle.object_codec.specs.declared.limits.Limits.{Limits}
 use Rattle.std.specs.Prelude.{◌==◌}
 use Rattle.std.proofs.lemmas.Bool.{cases_eq, eq-eqb, ne_eqb, cond-true, cond-false, lt-leb, le-leb}
 use Rattle.std.specs.Ordering.{nat_cmp}
@@ -15,7 +16,8 @@ use Rattle.plain_world.proofs.Lives.{shown, live_removed, live_all}
 use Rattle.expiry.specs.Timed.{Timed, moments}
 use Rattle.expiry.specs.Changes.{Clears}
 use Rattle.held.specs.Table.{Table, Element, item, Stands, Lacks, Keyed, map_of}
-use Rattle.held.specs.Databases.{ReadsOwn, Bases, base_at, table_at, deadlines_at, base_means, means, owned, ChangesDeadlines, ChangesTable}
+use Rattle.held.specs.Databases.{Bases, base_at, table_at, deadlines_at, base_means, means, owned, ChangesDeadlines, ChangesTable}
+use Rattle.stored.specs.Owning.{ReadsOwn}
 use Rattle.held.specs.Sound.{Names, IsArranged, IsIntact}
 use Rattle.held.specs.Worlds.{without}
 use Rattle.held.specs.Gone.{IsPassed, Loses, Thins}
@@ -66,20 +68,20 @@ module _ {V : Type 0} (m : Blocks) where
   named_there old mid db key name n bytes c lacks = absurd (lacks.each n.at n.element (ap (λ (t : Table V). item t n.at) c.keys ∙ n.found) (ap m n.same ∙ bytes))
 
 -- What was dropped before an item number of the deadlines.
-pub record IsPurged {V : Type 0} (refs_of : V → List BlockRef) (value_of : Blocks → V → Value) (old now : Bases V) (m after : Blocks) (db moment n count : ℕ) : Type 0 where
+pub record IsPurged {V : Type 0} (refs_of : Blocks → V → List BlockRef) (value_of : Blocks → V → Value) (IsSound : Limits → ℕ → Blocks → V → Type 0) (old now : Bases V) (m after : Blocks) (db moment n count : ℕ) : Type 0 where
   pub thins : Thins value_of old now m after db moment count
   pub in_time : (i : ℕ) (e : Element ℕ) → i < n → item (deadlines_at now db).table i ≡ Some e → moment ≤ e.value
-  pub arranged : IsArranged now after
-  pub changes : Changes m after (owned refs_of old) (owned refs_of now)
+  pub arranged : IsArranged IsSound now after
+  pub changes : Changes m after (owned (refs_of m) old) (owned (refs_of after) now)
   pub few : count ≤ n
 
-module _ {V : Type 0} (refs_of : V → List BlockRef) (value_of : Blocks → V → Value) (own : ReadsOwn refs_of value_of) where
+module _ {V : Type 0} {IsSound : Limits → ℕ → Blocks → V → Type 0} (refs_of : Blocks → V → List BlockRef) (value_of : Blocks → V → Value) (own : ReadsOwn refs_of value_of IsSound) where
   -- where databases are in order over changed blocks, they are intact
-  pub intact_after : (old new : Bases V) (m after : Blocks) → Changes m after (owned refs_of old) (owned refs_of new) → IsArranged new after → IsIntact refs_of new after []
-  intact_after old new m after p a = record { owned = λ r. omega (arith, Changes-owned m after (owned refs_of old) (owned refs_of new) p r); arranged = a }
+  pub intact_after : (old new : Bases V) (m after : Blocks) → Changes m after (owned (refs_of m) old) (owned (refs_of after) new) → IsArranged IsSound new after → IsIntact refs_of IsSound new after []
+  intact_after old new m after p a = record { owned = λ r. omega (arith, Changes-owned m after (owned (refs_of m) old) (owned (refs_of after) new) p r); arranged = a }
 
-  pub same_owned : (old : Bases V) (m : Blocks) → IsIntact refs_of old m [] → Changes m m (owned refs_of old) (owned refs_of old)
-  same_owned old m intact = Changes-same m (owned refs_of old) (λ r. omega (arith, intact.owned r))
+  pub same_owned : (old : Bases V) (m : Blocks) → IsIntact refs_of IsSound old m [] → Changes m m (owned (refs_of m) old) (owned (refs_of m) old)
+  same_owned old m intact = Changes-same m (owned (refs_of m) old) (λ r. omega (arith, intact.owned r))
 
   -- ---- no key leaves
 
@@ -105,7 +107,7 @@ module _ {V : Type 0} (refs_of : V → List BlockRef) (value_of : Blocks → V �
 
   -- ---- a key that is gone leaves
 
-  module _ (old new : Bases V) (m after : Blocks) (db moment at : ℕ) (name : BlockRef) (a : IsArranged old m) (p : IsPassed (deadlines_at old db) at moment name) where
+  module _ (old new : Bases V) (m after : Blocks) (db moment at : ℕ) (name : BlockRef) (a : IsArranged IsSound old m) (p : IsPassed (deadlines_at old db) at moment name) where
     -- the key is one of the table
     pub passed_named : Names (table_at old db) name
     passed_named = subst (Names (table_at old db)) p.named ((a.timed db).names at p.element p.found)
@@ -139,7 +141,7 @@ module _ {V : Type 0} (refs_of : V → List BlockRef) (value_of : Blocks → V �
 
   -- ---- the whole database
 
-  pub purge_begins : (old : Bases V) (m : Blocks) (db moment : ℕ) → IsIntact refs_of old m [] → IsPurged refs_of value_of old old m m db moment 0 0
+  pub purge_begins : (old : Bases V) (m : Blocks) (db moment : ℕ) → IsIntact refs_of IsSound old m [] → IsPurged refs_of value_of IsSound old old m m db moment 0 0
   purge_begins old m db moment intact = record {
     thins = thins_none old m db moment;
     in_time = λ i e below. absurd (omega (arith, below));
@@ -148,8 +150,8 @@ module _ {V : Type 0} (refs_of : V → List BlockRef) (value_of : Blocks → V �
     few = omega arith;
   }
 
-  pub purge_next : (old now next : Bases V) (m mid after : Blocks) (db moment n count : ℕ) (dropped : Bool) (later : ℕ) → later ≡ count + cond dropped 1 0 → IsPurged refs_of value_of old now m mid db moment n count → Thins value_of now next mid after db moment (cond dropped 1 0)
-      → ((e : Element ℕ) → item (deadlines_at next db).table n ≡ Some e → moment ≤ e.value) → IsArranged next after → Changes mid after (owned refs_of now) (owned refs_of next) → IsPurged refs_of value_of old next m after db moment (n + 1) later
+  pub purge_next : (old now next : Bases V) (m mid after : Blocks) (db moment n count : ℕ) (dropped : Bool) (later : ℕ) → later ≡ count + cond dropped 1 0 → IsPurged refs_of value_of IsSound old now m mid db moment n count → Thins value_of now next mid after db moment (cond dropped 1 0)
+      → ((e : Element ℕ) → item (deadlines_at next db).table n ≡ Some e → moment ≤ e.value) → IsArranged IsSound next after → Changes mid after (owned (refs_of mid) now) (owned (refs_of after) next) → IsPurged refs_of value_of IsSound old next m after db moment (n + 1) later
   purge_next old now next m mid after db moment n count dropped later is p t here a c = record {
     thins = subst (Thins value_of old next m after db moment) (sym is) (thins_then old now next m mid after db moment count (cond dropped 1 0) p.thins t);
     in_time = λ i e below found. elim (cases_eq i n) [
@@ -157,7 +159,7 @@ module _ {V : Type 0} (refs_of : V → List BlockRef) (value_of : Blocks → V �
       | inr other ↦ p.in_time i e (omega (arith, below, other)) (t.part i e found)
     ];
     arranged = a;
-    changes = Changes-then m mid after (owned refs_of old) (owned refs_of now) (owned refs_of next) p.changes c;
+    changes = Changes-then m mid after (owned (refs_of m) old) (owned (refs_of mid) now) (owned (refs_of after) next) p.changes c;
     few = (let one = at_most dropped in omega (arith, one, is, p.few));
   }
     where
@@ -166,7 +168,7 @@ module _ {V : Type 0} (refs_of : V → List BlockRef) (value_of : Blocks → V �
       at_most false = omega arith
 
   -- where no deadline is past each key is there
-  module _ (bases : Bases V) (m : Blocks) (db moment : ℕ) (a : IsArranged bases m) (all : (i : ℕ) (e : Element ℕ) → item (deadlines_at bases db).table i ≡ Some e → moment ≤ e.value) where
+  module _ (bases : Bases V) (m : Blocks) (db moment : ℕ) (a : IsArranged IsSound bases m) (all : (i : ℕ) (e : Element ℕ) → item (deadlines_at bases db).table i ≡ Some e → moment ≤ e.value) where
     deadline_in_time : (key : List ℕ) → in_time moment (get (moments m (deadlines_at bases db)) key) ≡ true
     deadline_in_time key = elim (cases_key m (deadlines_at bases db).table key (a.timed db).keyed) [
       | inl s ↦ ap (in_time moment) (map_of-stands m (λ v. v) (deadlines_at bases db).table s.at s.element key (a.timed db).keyed s.found s.bytes) ∙ le-leb moment s.element.value (all s.at s.element s.found)
@@ -183,7 +185,7 @@ module _ {V : Type 0} (refs_of : V → List BlockRef) (value_of : Blocks → V �
         seen None deadline late = refl
         seen (Some value) deadline late = cond-true _ _ _ late
 
-  pub purge_ends : (old now : Bases V) (m after : Blocks) (db moment n count : ℕ) → IsPurged refs_of value_of old now m after db moment n count → ((i : ℕ) → IsSome (item (deadlines_at old db).table i) → i < n)
+  pub purge_ends : (old now : Bases V) (m after : Blocks) (db moment n count : ℕ) → IsPurged refs_of value_of IsSound old now m after db moment n count → ((i : ℕ) → IsSome (item (deadlines_at old db).table i) → i < n)
       → means value_of db now after ≡ with_base (means value_of db old m) (live_keys ((means value_of db old m).bases db) moment)
   purge_ends old now m after db moment n count p below =
       p.thins.world ∙ ap (with_base (means value_of db old m)) (sym (all_there now after db moment p.arranged (λ i e found. p.in_time i e (below i (ap is_some (p.thins.part i e found))) found)) ∙ p.thins.same)

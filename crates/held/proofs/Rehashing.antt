@@ -1,5 +1,6 @@
 -- Rehash steps leave what the databases mean.
 use Rattle.std.proofs.Common.{◌≡◌, inl, inr, ℕ, zero, suc, ◌+◌, ◌<◌, ◌≤◌, true, false, List, [], ◌∷◌, length, get_or, refl, sym, ap, ◌∙◌, subst, arith}
+use Rattle.object_codec.specs.declared.limits.Limits.{Limits}
 use Rattle.std.proofs.lemmas.Bool.{cases_eq}
 use Rattle.blocks.specs.declared.BlockRef.{BlockRef}
 use Rattle.blocks.specs.Blocks.{Blocks}
@@ -7,7 +8,8 @@ use Rattle.plain_world.specs.Worlds.{Value, selecting}
 use Rattle.expiry.specs.Timed.{KeepsCursor}
 use Rattle.held.specs.declared.databases.Base.{Base}
 use Rattle.held.specs.Table.{Table, Keyed}
-use Rattle.held.specs.Databases.{ReadsOwn, Bases, table_at, deadlines_at, ChangesTable, ChangesDeadlines}
+use Rattle.held.specs.Databases.{Bases, table_at, deadlines_at, ChangesTable, ChangesDeadlines}
+use Rattle.stored.specs.Owning.{ReadsOwn}
 use Rattle.held.specs.Sound.{IsArranged}
 use Rattle.held.specs.Rehash.{keys_move, deadlines_move, StepsTable, Preserves, Rehashes, Steps, start, more, Rehashed, of_keys, of_deadlines}
 use Rattle.held.proofs.Shrinking.{KeepsItems, keys_shrink, items_arranged, items_means, items_sound}
@@ -27,13 +29,13 @@ module _ {V : Type 0} (m : Blocks) where
   keys_all old _ _ start db = refl
   keys_all old _ _ (more count mid new before step) db = keys_one mid new step db ∙ keys_all old count mid before db
 
-module _ {V : Type 0} (refs_of : V → List BlockRef) (value_of : Blocks → V → Value) (own : ReadsOwn refs_of value_of) (m : Blocks) where
-  pub preserves_none : (old new : Bases V) → IsArranged old m → new ≡ old → Preserves refs_of value_of m old new
+module _ {V : Type 0} {IsSound : Limits → ℕ → Blocks → V → Type 0} (refs_of : Blocks → V → List BlockRef) (value_of : Blocks → V → Value) (own : ReadsOwn refs_of value_of IsSound) (m : Blocks) where
+  pub preserves_none : (old new : Bases V) → IsArranged IsSound old m → new ≡ old → Preserves refs_of value_of IsSound m old new
   preserves_none old new a same =
-      let P : Bases V → Type 0 = λ b. Preserves refs_of value_of m old b in
+      let P : Bases V → Type 0 = λ b. Preserves refs_of value_of IsSound m old b in
       subst P (sym same) (record { arranged = a; means = λ number. refl; sound = λ out s. s; settings = record { limits = refl; seed = refl; turn = refl } })
 
-  pub preserves_then : (old mid new : Bases V) → Preserves refs_of value_of m old mid → Preserves refs_of value_of m mid new → Preserves refs_of value_of m old new
+  pub preserves_then : (old mid new : Bases V) → Preserves refs_of value_of IsSound m old mid → Preserves refs_of value_of IsSound m mid new → Preserves refs_of value_of IsSound m old new
   preserves_then old mid new p q = record {
     arranged = q.arranged;
     means = λ number. q.means number ∙ p.means number;
@@ -41,7 +43,7 @@ module _ {V : Type 0} (refs_of : V → List BlockRef) (value_of : Blocks → V �
     settings = record { limits = q.settings.limits ∙ p.settings.limits; seed = q.settings.seed ∙ p.settings.seed; turn = q.settings.turn ∙ p.settings.turn };
   }
 
-  preserves_items : (old new : Bases V) (db : ℕ) → IsArranged old m → KeepsItems old new m db → Preserves refs_of value_of m old new
+  preserves_items : (old new : Bases V) (db : ℕ) → IsArranged IsSound old m → KeepsItems old new m db → Preserves refs_of value_of IsSound m old new
   preserves_items old new db a k = record {
     arranged = items_arranged refs_of value_of own old new m db a k;
     means = λ number. ap (λ w. selecting w number) (items_means refs_of value_of own old new m db a k);
@@ -49,10 +51,10 @@ module _ {V : Type 0} (refs_of : V → List BlockRef) (value_of : Blocks → V �
     settings = k.base.settings;
   }
 
-  pub preserves_keys : (old new : Bases V) (db : ℕ) → IsArranged old m → ChangesTable old new db → (table_at new db).items ≡ (table_at old db).items → Keyed m (table_at new db) → (table_at new db).seed ≡ (table_at old db).seed → Preserves refs_of value_of m old new
+  pub preserves_keys : (old new : Bases V) (db : ℕ) → IsArranged IsSound old m → ChangesTable old new db → (table_at new db).items ≡ (table_at old db).items → Keyed m (table_at new db) → (table_at new db).seed ≡ (table_at old db).seed → Preserves refs_of value_of IsSound m old new
   preserves_keys old new db a c items keyed seed = preserves_items old new db a (keys_shrink refs_of value_of own old new m db a c items keyed seed)
 
-  pub preserves_deadlines : (old new : Bases V) (db : ℕ) → IsArranged old m → ChangesDeadlines old new db → (deadlines_at new db).table.items ≡ (deadlines_at old db).table.items → Keyed m (deadlines_at new db).table → (deadlines_at new db).table.seed ≡ (deadlines_at old db).table.seed → Preserves refs_of value_of m old new
+  pub preserves_deadlines : (old new : Bases V) (db : ℕ) → IsArranged IsSound old m → ChangesDeadlines old new db → (deadlines_at new db).table.items ≡ (deadlines_at old db).table.items → Keyed m (deadlines_at new db).table → (deadlines_at new db).table.seed ≡ (deadlines_at old db).table.seed → Preserves refs_of value_of IsSound m old new
   preserves_deadlines old new db a d times keyed seed = preserves_items old new db a (record {
     base = d.base;
     keys = ap (λ (t : Table V). t.items) d.keys;

@@ -3,7 +3,10 @@ use Rattle.std.proofs.Common.{◌≡◌, ◌≢◌, ℕ, zero, suc, ◌+◌, ◌
 use Rattle.blocks.specs.declared.BlockRef.{BlockRef}
 use Rattle.blocks.specs.Blocks.{Blocks, times, Changes, Owned}
 use Rattle.blocks.proofs.Times.{times-append}
-use Rattle.blocks.proofs.Change.{Changes-same, Changes-then, Changes-beside, Changes-owned}
+use Rattle.object_codec.specs.declared.limits.Limits.{Limits}
+use Rattle.plain_world.specs.Worlds.{Value}
+use Rattle.stored.specs.Owning.{ReadsOwn}
+use Rattle.blocks.proofs.Change.{live-once, Changes-same, Changes-then, Changes-beside, Changes-owned}
 use Rattle.rehash_dict.specs.Table.{at_item}
 use Rattle.rehash_dict.specs.Steps.{Holds}
 use Rattle.held.specs.Table.{Table, Element, item, Swaps, own_of, refs}
@@ -45,16 +48,26 @@ module _ {V : Type 0} (own : V → List BlockRef) where
       none (Some e) h = absurd (h refl)
   left_end (x ∷ items) (suc n) q below = left_end items n q (λ i some. omega (arith, below (suc i) some))
 
+  left_named : (items : List (Option (Element V))) (k i : ℕ) (q : BlockRef) → k ≤ i → times q (own_of own (at_item items i)) ≤ times q (flat_map (own_of own) (drop k items))
+  left_named [] k i q below = omega arith
+  left_named (x ∷ items) zero zero q below = omega (arith, times-append q (own_of own x) (flat_map (own_of own) items))
+  left_named (x ∷ items) zero (suc i) q below = omega (arith, times-append q (own_of own x) (flat_map (own_of own) items), left_named items zero i q (omega arith), ap (λ list. times q (flat_map (own_of own) list)) (all_left items))
+  left_named (x ∷ items) (suc k) zero q below = absurd (omega (arith, below))
+  left_named (x ∷ items) (suc k) (suc i) q below = left_named items k i q (omega (arith, below))
+
   -- ---- the walk
 
   -- The elements before an item number are released, and the others still stand.
   pub record IsReleased (first now : Table V) (n : ℕ) (before after : Blocks) : Type 0 where
     pub same : (i : ℕ) → n ≤ i → item now i ≡ item first i
     pub changes : Changes before after (refs own first) (refs_from first n)
+    -- what is still to be released has the bytes that it had
+    pub kept : (i : ℕ) (e : Element V) → n ≤ i → item first i ≡ Some e → (q : BlockRef) → 0 < times q (e.key ∷ own e.value) → after q ≡ before q
 
   pub release_begins : (first : Table V) (m : Blocks) → Owned (refs own first) m → IsReleased first first 0 m m
   release_begins first m owned = record {
     same = λ i above. refl;
+    kept = λ i e above found q isin. refl;
     changes = subst (λ items. Changes m m (refs own first) (flat_map (own_of own) items)) (sym (all_left first.items)) (Changes-same m (refs own first) owned);
   }
 
@@ -69,6 +82,7 @@ module _ {V : Type 0} (own : V → List BlockRef) where
 
     goes_on : (later : Table V) (after : Blocks) (given : List BlockRef) → ((q : BlockRef) → times q (own_of own (item first n)) ≡ times q given) → ((i : ℕ) → i ≢ n → item later i ≡ item now i) → Changes mid after given [] → IsReleased first later (suc n) before after
     goes_on later after given is others p = record {
+      kept = λ i e above found q isin. (let there : times q (own_of own (item first i)) ≡ times q (e.key ∷ own e.value) = ap (λ o. times q (own_of own o)) found in p.kept q (omega (arith, left_next first.items n q, is q, left_owned q, live-once mid q, left_named first.items (suc n) i q above, there, isin)) refl ∙ r.kept i e (omega (arith, above)) found q isin);
       same = λ i above. others i (λ at. omega (arith, above, at)) ∙ r.same i (omega (arith, above));
       changes = Changes-then before mid after (refs own first) (refs_from first n) (refs_from first (suc n)) r.changes
           (Changes-beside mid after given [] (refs_from first n) (refs_from first (suc n)) p left_owned (λ q. times q (refs_from first (suc n))) (λ q. omega (arith, left_next first.items n q, is q)) (λ q. omega arith));
@@ -89,8 +103,26 @@ module _ {V : Type 0} (own : V → List BlockRef) where
       named : (q : BlockRef) → times q (own_of own (item first n)) ≡ times q (key ∷ own was)
       named q = ap (λ o. times q (own_of own o)) (sym (r.same n (omega arith)) ∙ s.found) ∙ ap (λ k. times q (k ∷ own was)) same_key
 
-      pub release_owned : Owned (key ∷ own was) mid
-      release_owned q = omega (arith, left_next first.items n q, named q, left_owned q)
+      pub was_owned : Owned (key ∷ own was) mid
+      was_owned q = omega (arith, left_next first.items n q, named q, left_owned q)
 
-      pub release_goes_on : (after : Blocks) → Changes mid after (key ∷ own was) [] → IsReleased first later (suc n) before after
-      release_goes_on after p = goes_on later after (key ∷ own was) named s.updates.others p
+      pub was_goes_on : (after : Blocks) → Changes mid after (key ∷ own was) [] → IsReleased first later (suc n) before after
+      was_goes_on after p = goes_on later after (key ∷ own was) named s.updates.others p
+
+-- what a value owns is read out of its own blocks
+module _ {V : Type 0} {IsSound : Limits → ℕ → Blocks → V → Type 0} (refs_of : Blocks → V → List BlockRef) (value_of : Blocks → V → Value) (own : ReadsOwn refs_of value_of IsSound) (first now : Table V) (n : ℕ) (before mid : Blocks) (r : IsReleased (refs_of before) first now n before mid) (later : Table V) (was zero : V) (s : Swaps now later n was zero) (key : BlockRef) (value : V)
+    (h : Holds later n key value) where
+  was_refs : refs_of mid was ≡ refs_of before was
+  was_refs = own.refs before mid was (λ q isin. r.kept n (record { key = s.key; hash = s.hash; value = was }) (omega arith) (sym (r.same n (omega arith)) ∙ s.found) q (omega (arith, isin)))
+
+  pub release_owned : Owned (key ∷ refs_of mid was) mid
+  release_owned q = omega (arith, ap (times q) was_refs, was_owned (refs_of before) first now n before mid r later was zero s key value h q)
+
+  -- the value that was taken out is sound, as it was
+  pub release_sound : (limits : Limits) (seed : ℕ) → ((at : ℕ) (e : Element V) → item first at ≡ Some e → IsSound limits seed before e.value) → IsSound limits seed mid was
+  release_sound limits seed all =
+      let there : item first n ≡ Some (record { key = s.key; hash = s.hash; value = was }) = sym (r.same n (omega arith)) ∙ s.found in
+      own.stays limits seed before mid was (λ q isin. r.kept n (record { key = s.key; hash = s.hash; value = was }) (omega arith) there q (omega (arith, isin))) (all n (record { key = s.key; hash = s.hash; value = was }) there)
+
+  pub release_goes_on : (after : Blocks) → Changes mid after (key ∷ refs_of mid was) [] → IsReleased (refs_of before) first later (suc n) before after
+  release_goes_on after p = was_goes_on (refs_of before) first now n before mid r later was zero s key value h after (subst (λ list. Changes mid after (key ∷ list) []) was_refs p)

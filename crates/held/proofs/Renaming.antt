@@ -1,5 +1,6 @@
 -- A key moves with its value and its deadline.
 use Rattle.std.proofs.Common.{◌≡◌, inl, inr, ℕ, ◌+◌, ◌<◌, ◌^◌, List, [], ◌++◌, Option, Some, None, refl, sym, ap, ◌∙◌, subst, arith}
+use Rattle.object_codec.specs.declared.limits.Limits.{Limits}
 use Rattle.std.proofs.lemmas.Bool.{cases_eq, eq-eqb, ne_eqb, cond-true, cond-false}
 use Rattle.std.specs.FinMap.{get, insert}
 use Rattle.std.specs.FinMap as map
@@ -12,8 +13,9 @@ use Rattle.rehash_dict.proofs.MapOf.{map_of-has}
 use Rattle.plain_world.specs.Worlds.{Value, Entry, World, Database, look, put, put_in, remove, selecting, deadline_of}
 use Rattle.expiry.specs.Timed.{Timed, moments}
 use Rattle.held.specs.Table.{Table, Element, item, Stands, Keyed, Swaps}
-use Rattle.held.specs.Databases.{ReadsOwn, Bases, table_at, deadlines_at, means, owned, ChangesTable}
-use Rattle.held.specs.Sound.{IsArranged, IsIntact, SoundBeside}
+use Rattle.held.specs.Databases.{Bases, table_at, deadlines_at, means, owned, SameSettings, ChangesTable}
+use Rattle.stored.specs.Owning.{ReadsOwn, IsBlank}
+use Rattle.held.specs.Sound.{IsArranged, IsIntact, IsIntactWith, SoundBeside}
 use Rattle.held.specs.Worlds.{without}
 use Rattle.held.specs.Calls.{HasValue, HasOnly, IsDeadline}
 use Rattle.held.proofs.Maps.{same_entry, put_removed, moved_base}
@@ -82,9 +84,9 @@ moved_world w key to number a e apart = λ i. record { bases = λ n. each n i; s
       | inr other ↦ there n other
     ]
 
-module _ {V : Type 0} (refs_of : V → List BlockRef) (value_of : Blocks → V → Value) (own : ReadsOwn refs_of value_of) where
+module _ {V : Type 0} {IsSound : Limits → ℕ → Blocks → V → Type 0} (refs_of : Blocks → V → List BlockRef) (value_of : Blocks → V → Value) (own : ReadsOwn refs_of value_of IsSound) where
   -- each deadline that a key has is at most the greatest
-  pub deadline_late : (bases : Bases V) (db : ℕ) (m : Blocks) → IsArranged bases m → (key : List ℕ) (deadline : Option ℕ) → get (moments m (deadlines_at bases db)) key ≡ deadline → IsDeadline deadline
+  pub deadline_late : (bases : Bases V) (db : ℕ) (m : Blocks) → IsArranged IsSound bases m → (key : List ℕ) (deadline : Option ℕ) → get (moments m (deadlines_at bases db)) key ≡ deadline → IsDeadline deadline
   deadline_late bases db m a key None is = tt
   deadline_late bases db m a key (Some deadline) is =
       (let had = map_of-has m (λ v. v) (deadlines_at bases db).table key deadline (a.timed db).keyed is in
@@ -92,15 +94,23 @@ module _ {V : Type 0} (refs_of : V → List BlockRef) (value_of : Blocks → V �
 
   -- ---- the value is taken out of its place
 
-  module _ (old mid : Bases V) (db : ℕ) (m : Blocks) (intact : IsIntact refs_of old m []) (key : List ℕ) (at : ℕ) (stands : Stands m (table_at old db) at key) (deadline : Option ℕ) (lasts : get (moments m (deadlines_at old db)) key ≡ deadline)
-      (c : ChangesTable old mid db) (was zero : V) (nothing : refs_of zero ≡ []) (s : Swaps (table_at old db) (table_at mid db) at was zero) (keyed : Keyed m (table_at mid db)) where
+  module _ (old mid : Bases V) (db : ℕ) (m : Blocks) (intact : IsIntact refs_of IsSound old m []) (key : List ℕ) (at : ℕ) (stands : Stands m (table_at old db) at key) (deadline : Option ℕ) (lasts : get (moments m (deadlines_at old db)) key ≡ deadline)
+      (c : ChangesTable old mid db) (was zero : V) (nothing : IsBlank refs_of IsSound zero) (s : Swaps (table_at old db) (table_at mid db) at was zero) (keyed : Keyed m (table_at mid db)) where
     -- the element whose value is taken out has the first key
     out_key : m s.key ≡ Some key
     out_key = swapped_key refs_of value_of own old mid db m c at was zero s keyed intact.arranged key stands
 
     -- where the value is taken out, the databases are intact with it out of them
-    pub out_intact : IsIntact refs_of mid m (refs_of was)
-    out_intact = over_intact refs_of value_of own old mid db m c at was zero s keyed intact.arranged [] (refs_of was) intact (λ r. omega (arith, ap (times r) nothing))
+    pub out_intact : IsIntact refs_of IsSound mid m (refs_of m was)
+    out_intact = over_intact refs_of value_of own old mid db m c at was zero s keyed intact.arranged (nothing.sound old.limits old.seed m) [] (refs_of m was) intact (λ r. omega (arith, ap (times r) (nothing.none m)))
+
+    -- and the value is sound, as it was
+    pub out_with : IsIntactWith refs_of IsSound mid m was
+    out_with = record {
+      owned = out_intact.owned;
+      arranged = out_intact.arranged;
+      sound = subst (λ limits. IsSound limits mid.seed m was) (sym c.base.settings.limits) (subst (λ seed. IsSound old.limits seed m was) (sym c.base.settings.seed) (intact.arranged.values db at (record { key = s.key; hash = s.hash; value = was }) s.found));
+    }
 
     -- where the value is taken out, what stands in its place is put at the key with the key's deadline
     out_means : means value_of db mid m ≡ put (means value_of db old m) key (record { value = value_of m zero; deadline = deadline })
@@ -111,12 +121,12 @@ module _ {V : Type 0} (refs_of : V → List BlockRef) (value_of : Blocks → V �
     out_look = look_stands refs_of value_of own old db m intact.arranged key at (record { key = s.key; hash = s.hash; value = was }) s.found out_key deadline lasts
 
     -- the databases owned the blocks of the value that is taken out besides what they own
-    out_owned : (r : BlockRef) → times r (owned refs_of old) ≡ times r (owned refs_of mid) + times r (refs_of was)
-    out_owned r = omega (arith, owned_swaps refs_of value_of own old mid db c.base r at was zero s, ap (times r) nothing)
+    out_owned : (r : BlockRef) → times r (owned (refs_of m) old) ≡ times r (owned (refs_of m) mid) + times r (refs_of m was)
+    out_owned r = omega (arith, owned_swaps (refs_of m) old mid db c.base r at was zero s, ap (times r) (nothing.none m))
 
     -- where the value is taken out, sound databases are sound beside it and what was out already
-    out_sound : (out : List BlockRef) → SoundBeside refs_of old m out → SoundBeside refs_of mid m (refs_of was ++ out)
-    out_sound out sound = record { owns = λ r. omega (arith, sound.owns r, out_owned r, times-append r (refs_of was) out); arranged = out_intact.arranged }
+    out_sound : (out : List BlockRef) → SoundBeside refs_of IsSound old m out → SoundBeside refs_of IsSound mid m (refs_of m was ++ out)
+    out_sound out sound = record { owns = λ r. omega (arith, sound.owns r, out_owned r, times-append r (refs_of m was) out); arranged = out_intact.arranged }
 
     -- that the value is taken out is within the scope of both keys
     pub out_within : key_tables m (table_at mid db) ≡ key_tables m (table_at old db) → (to_db : ℕ) (to : List ℕ) → Within refs_of (two_keys db key to_db to) old mid m m
@@ -135,7 +145,7 @@ module _ {V : Type 0} (refs_of : V → List BlockRef) (value_of : Blocks → V �
 
     -- Nothing stands at the first key, and whatever stands at the other one is the value that stood there.
     pub moved_writes : (to_db : ℕ) (to : List ℕ) (new last : Bases V) (after later : Blocks) → HasOnly new after to_db to was → Within refs_of (no_key db) new last after later → means value_of db last later ≡ without (means value_of db new after) key
-        → Within refs_of (two_keys db key to_db to) old last m later → IsArranged last later → Written refs_of (HasValue old m db key) old last m later
+        → Within refs_of (two_keys db key to_db to) old last m later → IsArranged IsSound last later → Written refs_of (HasValue old m db key) old last m later
     moved_writes to_db to new last after later only left gone within arranged =
         written_named refs_of (HasValue old m db key) (two_keys db key to_db to) (two_settled db key to_db to) old last m later within arranged
         (λ number i e other found bytes named. elim named [
@@ -154,17 +164,17 @@ module _ {V : Type 0} (refs_of : V → List BlockRef) (value_of : Blocks → V �
 
     -- ---- it stands at the other key, and the first one leaves
 
-    module _ (to_db : ℕ) (to : List ℕ) (new : Bases V) (after : Blocks) (p : Changes m after (owned refs_of mid ++ refs_of was) (owned refs_of new)) (a : IsArranged new after) where
+    module _ (to_db : ℕ) (to : List ℕ) (new : Bases V) (after : Blocks) (p : Changes m after (owned (refs_of m) mid ++ refs_of m was) (owned (refs_of after) new)) (a : IsArranged IsSound new after) where
       -- with the value at the other key sound databases are sound beside what was out
-      pub moved_sound : (out : List BlockRef) → SoundBeside refs_of old m out → SoundBeside refs_of new after out
-      moved_sound out sound = sound_joined refs_of value_of own mid new m after (refs_of was) p a (refs_of was ++ out) out (out_sound out sound) (λ r. times-append r (refs_of was) out)
+      pub moved_sound : (out : List BlockRef) → SoundBeside refs_of IsSound old m out → SoundBeside refs_of IsSound new after out
+      moved_sound out sound = sound_joined refs_of value_of own mid new m after (refs_of m was) p a (refs_of m was ++ out) out (out_sound out sound) (λ r. times-append r (refs_of m was) out)
 
       -- with the value at the other key what is owned stands in place of what was owned
-      pub moved_changes : Changes m after (owned refs_of old) (owned refs_of new)
+      pub moved_changes : Changes m after (owned (refs_of m) old) (owned (refs_of after) new)
       moved_changes =
-          Changes-then m m after (owned refs_of old) (owned refs_of mid ++ refs_of was) (owned refs_of new)
-          (Changes-beside m m [] [] (owned refs_of old) (owned refs_of mid ++ refs_of was) (Changes-same m [] (λ q. omega arith)) (λ r. omega (arith, intact.owned r)) (λ r. times r (owned refs_of old)) (λ r. omega arith)
-          (λ r. omega (arith, out_owned r, times-append r (owned refs_of mid) (refs_of was)))) p
+          Changes-then m m after (owned (refs_of m) old) (owned (refs_of m) mid ++ refs_of m was) (owned (refs_of after) new)
+          (Changes-beside m m [] [] (owned (refs_of m) old) (owned (refs_of m) mid ++ refs_of m was) (Changes-same m [] (λ q. omega arith)) (λ r. omega (arith, intact.owned r)) (λ r. times r (owned (refs_of m) old)) (λ r. omega arith)
+          (λ r. omega (arith, out_owned r, times-append r (owned (refs_of m) mid) (refs_of m was)))) p
 
       -- with the value at the other key and the first key gone, the key has moved in the world with its entry
       pub moved_means : means value_of to_db new after ≡ put (means value_of to_db mid m) to (record { value = value_of m was; deadline = deadline }) → (last : Bases V) (later : Blocks) → means value_of db last later ≡ without (means value_of db new after) key
@@ -178,7 +188,10 @@ module _ {V : Type 0} (refs_of : V → List BlockRef) (value_of : Blocks → V �
 
     -- ---- memory is refused, and it is put back
 
-    module _ (to_db : ℕ) (new : Bases V) (after : Blocks) (same : after ≡ m) (keys : (number : ℕ) → table_at new number ≡ table_at mid number) (owns : (r : BlockRef) → times r (owned refs_of new) ≡ times r (owned refs_of mid)) (a : IsArranged new after) (kept : means value_of to_db new after ≡ means value_of to_db mid m) where
+    module _ (to_db : ℕ) (new : Bases V) (after : Blocks) (same : after ≡ m) (keys : (number : ℕ) → table_at new number ≡ table_at mid number) (owns : (r : BlockRef) → times r (owned (refs_of after) new) ≡ times r (owned (refs_of m) mid)) (a : IsArranged IsSound new after) (kept : means value_of to_db new after ≡ means value_of to_db mid m) where
+      owns_m : (r : BlockRef) → times r (owned (refs_of m) new) ≡ times r (owned (refs_of m) mid)
+      owns_m r = ap (λ b. times r (owned (refs_of b) new)) (sym same) ∙ owns r
+
       -- where memory is refused, the databases mean what they meant when the value was taken out
       back_world : means value_of db new after ≡ means value_of db mid m
       back_world = ap (λ w. selecting w db) kept
@@ -189,7 +202,7 @@ module _ {V : Type 0} (refs_of : V → List BlockRef) (value_of : Blocks → V �
           deadline_seen refs_of value_of own new db after a key ∙ ap (λ w. deadline_of (look w key)) back_world
           ∙ sym (deadline_seen refs_of value_of own mid db m out_intact.arranged key) ∙ ap (λ (d : Timed). get (moments m d) key) c.deadlines ∙ lasts
 
-      module _ (last : Bases V) (value : V) (returned : value ≡ was) (d : ChangesTable new last db) (vacant : V) (b : Swaps (table_at new db) (table_at last db) at vacant value) (last_keyed : Keyed after (table_at last db)) where
+      module _ (last : Bases V) (value : V) (returned : value ≡ was) (settings : SameSettings mid new) (d : ChangesTable new last db) (vacant : V) (b : Swaps (table_at new db) (table_at last db) at vacant value) (last_keyed : Keyed after (table_at last db)) where
         -- where memory is refused, the first key's element stands as it stood when the value was taken out
         back_found : item (table_at new db) at ≡ Some (record { key = s.key; hash = s.hash; value = zero })
         back_found = ap (λ (t : Table V). item t at) (keys db) ∙ s.updates.changed
@@ -199,10 +212,10 @@ module _ {V : Type 0} (refs_of : V → List BlockRef) (value_of : Blocks → V �
         back_stands = record { element = record { key = s.key; hash = s.hash; value = zero }; found = back_found; bytes = ap (λ x. x s.key) same ∙ out_key }
 
         -- what stands in the place that the value goes back to owns no block
-        back_zero : refs_of vacant ≡ []
-        back_zero =
+        back_zero : (x : Blocks) → refs_of x vacant ≡ []
+        back_zero x =
             let one : record { key = b.key; hash = b.hash; value = vacant } ≡ record { key = s.key; hash = s.hash; value = zero } = some_same (item (table_at new db) at) _ _ b.found back_found in
-            ap (λ (x : Element V). refs_of x.value) one ∙ nothing
+            ap (λ (e : Element V). refs_of x e.value) one ∙ nothing.none x
 
         -- that the value is put back is within the scope of both keys
         pub back_within : key_tables after (table_at last db) ≡ key_tables after (table_at new db) → (to : List ℕ) → Within refs_of (two_keys db key to_db to) new last after after
@@ -224,22 +237,31 @@ module _ {V : Type 0} (refs_of : V → List BlockRef) (value_of : Blocks → V �
             ∙ put_same (means value_of db old m) key _ out_look
 
         -- where the value is put back, the databases own what they owned at first
-        back_owned : (r : BlockRef) → times r (owned refs_of last) ≡ times r (owned refs_of old)
-        back_owned r = (let returned_refs = ap (λ v. times r (refs_of v)) returned in omega (arith, owned_swaps refs_of value_of own new last db d.base r at vacant value b, ap (times r) back_zero, returned_refs, owns r, out_owned r))
+        back_owned : (r : BlockRef) → times r (owned (refs_of m) last) ≡ times r (owned (refs_of m) old)
+        back_owned r = (let returned_refs = ap (λ v. times r (refs_of m v)) returned in omega (arith, owned_swaps (refs_of m) new last db d.base r at vacant value b, ap (times r) (back_zero m), returned_refs, owns_m r, out_owned r))
 
         -- until the value is put back the databases are intact with it out of them
-        new_intact : IsIntact refs_of new after (refs_of value)
-        new_intact = record { owned = λ r. (let returned_refs = ap (λ v. times r (refs_of v)) returned in let alive = ap (λ x. live x r) same in omega (arith, out_intact.owned r, owns r, returned_refs, alive)); arranged = a }
+        new_intact : IsIntact refs_of IsSound new after (refs_of after value)
+        new_intact = record { owned = λ r. (let returned_refs : times r (refs_of after value) ≡ times r (refs_of m was) = (λ i. times r (refs_of (same i) (returned i))) in let alive = ap (λ x. live x r) same in omega (arith, out_intact.owned r, owns r, returned_refs, alive)); arranged = a }
+
+        -- the value that is put back is sound, as it was
+        new_sound : IsSound new.limits new.seed after value
+        new_sound = subst (λ v. IsSound new.limits new.seed after v) (sym returned) (subst (λ x. IsSound new.limits new.seed x was) (sym same)
+            (subst (λ limits. IsSound limits new.seed m was) (sym (settings.limits ∙ c.base.settings.limits)) (subst (λ seed. IsSound old.limits seed m was) (sym (settings.seed ∙ c.base.settings.seed)) (intact.arranged.values db at (record { key = s.key; hash = s.hash; value = was }) s.found))))
 
         -- where the value is put back, the databases are arranged
-        last_arranged : IsArranged last after
-        last_arranged = (over_intact refs_of value_of own new last db after d at vacant value b last_keyed a (refs_of value) [] new_intact (λ r. omega (arith, ap (times r) back_zero))).arranged
+        last_arranged : IsArranged IsSound last after
+        last_arranged = (over_intact refs_of value_of own new last db after d at vacant value b last_keyed a new_sound (refs_of after value) [] new_intact (λ r. omega (arith, ap (times r) (back_zero after)))).arranged
 
         -- where the value is put back, sound databases are sound beside what was out
-        pub refused_sound : (out : List BlockRef) → SoundBeside refs_of old m out → SoundBeside refs_of last after out
-        refused_sound out sound = record { owns = λ r. (let alive = ap (λ x. live x r) same in omega (arith, sound.owns r, back_owned r, alive)); arranged = last_arranged }
+        pub refused_sound : (out : List BlockRef) → SoundBeside refs_of IsSound old m out → SoundBeside refs_of IsSound last after out
+        refused_sound out sound = record { owns = λ r. (let alive = ap (λ x. live x r) same in omega (arith, sound.owns r, back_owned r, alive, ap (λ x. times r (owned (refs_of x) last)) same)); arranged = last_arranged }
+
+        -- where memory was refused the databases own what they owned
+        pub refused_owns : (r : BlockRef) → times r (owned (refs_of after) last) ≡ times r (owned (refs_of m) old)
+        refused_owns r = subst (λ x. times r (owned (refs_of x) last) ≡ times r (owned (refs_of m) old)) (sym same) (omega (arith, back_owned r))
 
         -- where the value is put back, what is owned stands in place of what was owned
-        pub refused_same : Changes m after (owned refs_of old) (owned refs_of last)
-        refused_same = subst (λ x. Changes m x (owned refs_of old) (owned refs_of last)) (sym same)
-            (Changes-beside m m [] [] (owned refs_of old) (owned refs_of last) (Changes-same m [] (λ q. omega arith)) (λ r. omega (arith, intact.owned r)) (λ r. times r (owned refs_of old)) (λ r. omega arith) (λ r. omega (arith, back_owned r)))
+        pub refused_same : Changes m after (owned (refs_of m) old) (owned (refs_of after) last)
+        refused_same = subst (λ x. Changes m x (owned (refs_of m) old) (owned (refs_of x) last)) (sym same)
+            (Changes-beside m m [] [] (owned (refs_of m) old) (owned (refs_of m) last) (Changes-same m [] (λ q. omega arith)) (λ r. omega (arith, intact.owned r)) (λ r. times r (owned (refs_of m) old)) (λ r. omega arith) (λ r. omega (arith, back_owned r)))

@@ -1,5 +1,6 @@
 -- The elements of a database's tables stay, whatever the tables do.
 use Rattle.std.proofs.Common.{◌≡◌, inl, inr, ℕ, List, flat_map, sym, ap, ◌∙◌, subst, arith}
+use Rattle.object_codec.specs.declared.limits.Limits.{Limits}
 use Rattle.std.proofs.lemmas.Bool.{cases_eq}
 use Rattle.blocks.specs.declared.BlockRef.{BlockRef}
 use Rattle.blocks.specs.Blocks.{Blocks, times}
@@ -8,7 +9,8 @@ use Rattle.rehash_dict.proofs.MapOf.{map_of-items}
 use Rattle.plain_world.specs.Worlds.{Value}
 use Rattle.expiry.specs.Timed.{Timed}
 use Rattle.held.specs.Table.{Table, Keyed, own_of}
-use Rattle.held.specs.Databases.{ReadsOwn, Bases, base_at, table_at, deadlines_at, base_means, with_deadlines, means, ChangesBase, ChangesTable, ChangesDeadlines}
+use Rattle.held.specs.Databases.{Bases, base_at, table_at, deadlines_at, base_means, with_deadlines, means, ChangesBase, ChangesTable, ChangesDeadlines}
+use Rattle.stored.specs.Owning.{ReadsOwn}
 use Rattle.held.specs.Sound.{IsArranged, SoundBeside}
 use Rattle.held.proofs.Bases.{InOrder, arranged_changed, base_then, owned_changed}
 
@@ -21,7 +23,7 @@ pub record KeepsItems {V : Type 0} (old new : Bases V) (m : Blocks) (db : ℕ) :
   pub times_keyed : Keyed m (deadlines_at new db).table
   pub times_seed : (deadlines_at new db).table.seed ≡ (deadlines_at old db).table.seed
 
-module _ {V : Type 0} (refs_of : V → List BlockRef) (value_of : Blocks → V → Value) (own : ReadsOwn refs_of value_of) (old mid : Bases V) (m : Blocks) (db : ℕ) (a : IsArranged old m) (c : ChangesTable old mid db) (items : (table_at mid db).items ≡ (table_at old db).items) (keyed : Keyed m (table_at mid db)) (seed : (table_at mid db).seed ≡ (table_at old db).seed) where
+module _ {V : Type 0} {IsSound : Limits → ℕ → Blocks → V → Type 0} (refs_of : Blocks → V → List BlockRef) (value_of : Blocks → V → Value) (own : ReadsOwn refs_of value_of IsSound) (old mid : Bases V) (m : Blocks) (db : ℕ) (a : IsArranged IsSound old m) (c : ChangesTable old mid db) (items : (table_at mid db).items ≡ (table_at old db).items) (keyed : Keyed m (table_at mid db)) (seed : (table_at mid db).seed ≡ (table_at old db).seed) where
   pub keys_shrink : KeepsItems old mid m db
   keys_shrink = record {
     base = c.base;
@@ -44,8 +46,8 @@ module _ {V : Type 0} (refs_of : V → List BlockRef) (value_of : Blocks → V �
     times_seed = times_seed ∙ ap (λ (x : Timed). x.table.seed) c.deadlines;
   }
 
-module _ {V : Type 0} (refs_of : V → List BlockRef) (value_of : Blocks → V → Value) (own : ReadsOwn refs_of value_of) (old new : Bases V) (m : Blocks) (db : ℕ) (a : IsArranged old m) (k : KeepsItems old new m db) where
-  items_order : InOrder m old new db
+module _ {V : Type 0} {IsSound : Limits → ℕ → Blocks → V → Type 0} (refs_of : Blocks → V → List BlockRef) (value_of : Blocks → V → Value) (own : ReadsOwn refs_of value_of IsSound) (old new : Bases V) (m : Blocks) (db : ℕ) (a : IsArranged IsSound old m) (k : KeepsItems old new m db) where
+  items_order : InOrder IsSound m old new db
   items_order = record {
     keyed = k.keyed;
     timed = record {
@@ -53,10 +55,11 @@ module _ {V : Type 0} (refs_of : V → List BlockRef) (value_of : Blocks → V �
       names = λ i f found. (let n = (a.timed db).names i f (ap (λ items. at_item items i) (sym k.times) ∙ found) in record { at = n.at; element = n.element; found = ap (λ items. at_item items n.at) k.keys ∙ n.found; same = n.same });
       latest = λ i f found. (a.timed db).latest i f (ap (λ items. at_item items i) (sym k.times) ∙ found);
     };
+    values = λ at e found. a.values db at e (ap (λ items. at_item items at) (sym k.keys) ∙ found);
     seeds = λ h. record { keys = k.seed ∙ h.keys; deadlines = k.times_seed ∙ h.deadlines };
   }
 
-  pub items_arranged : IsArranged new m
+  pub items_arranged : IsArranged IsSound new m
   items_arranged = arranged_changed refs_of value_of own old new db m k.base a items_order
 
   pub items_means : means value_of db new m ≡ means value_of db old m
@@ -71,8 +74,8 @@ module _ {V : Type 0} (refs_of : V → List BlockRef) (value_of : Blocks → V �
         | inr other ↦ ap (base_means value_of m) (k.base.others number other)
       ]
 
-  pub items_sound : (out : List BlockRef) → SoundBeside refs_of old m out → SoundBeside refs_of new m out
+  pub items_sound : (out : List BlockRef) → SoundBeside refs_of IsSound old m out → SoundBeside refs_of IsSound new m out
   items_sound out sound = record {
-    owns = λ r. (let same = ap (λ items. times r (flat_map (own_of refs_of) items)) k.keys in omega (arith, sound.owns r, owned_changed refs_of value_of own old new db k.base r, same));
+    owns = λ r. (let same = ap (λ items. times r (flat_map (own_of (refs_of m)) items)) k.keys in omega (arith, sound.owns r, owned_changed (refs_of m) old new db k.base r, same));
     arranged = arranged_changed refs_of value_of own old new db m k.base a items_order;
   }

@@ -1,5 +1,6 @@
 -- What is seen of a key that is sought.
 use Rattle.std.proofs.Common.{◌≡◌, inl, inr, ℕ, List, Option, None, Some, true, false, IfSome, IfNone, sym, ap, ◌∙◌, subst}
+use Rattle.object_codec.specs.declared.limits.Limits.{Limits}
 use Rattle.std.proofs.lemmas.Bool.{cases_eq}
 use Rattle.std.specs.FinMap.{get}
 use Rattle.blocks.specs.declared.BlockRef.{BlockRef}
@@ -12,7 +13,8 @@ use Rattle.held.specs.declared.seeking.Sought.{Sought}
 use Rattle.rehash_dict.specs.Keyed.{hash_of}
 use Rattle.held.specs.Table.{Table, Element, item, Stands, Lacks, Swaps}
 use Rattle.held.specs.declared.databases.Base.{Base}
-use Rattle.held.specs.Databases.{ReadsOwn, Bases, table_at, deadlines_at, means, ChangesTable}
+use Rattle.held.specs.Databases.{Bases, table_at, deadlines_at, means, ChangesTable}
+use Rattle.stored.specs.Owning.{ReadsOwn}
 use Rattle.held.specs.Sound.{IsArranged}
 use Rattle.held.specs.Calls.{StandsAt, HasUntil, Seeks, Sees}
 use Rattle.held.proofs.Timing.{some_same, untimed}
@@ -70,9 +72,9 @@ module _ {V : Type 0} where
         })
   ]
 
-module _ {V : Type 0} (refs_of : V → List BlockRef) (value_of : Blocks → V → Value) (own : ReadsOwn refs_of value_of) where
+module _ {V : Type 0} {IsSound : Limits → ℕ → Blocks → V → Type 0} (refs_of : Blocks → V → List BlockRef) (value_of : Blocks → V → Value) (own : ReadsOwn refs_of value_of IsSound) where
   -- a key that is there at a moment is seen with its deadline
-  pub seen_until : (bases : Bases V) (db moment : ℕ) (m : Blocks) → IsArranged bases m → (key : List ℕ) (at : ℕ) → StandsAt bases m db key moment at → (deadline : Option ℕ) → get (moments m (deadlines_at bases db)) key ≡ deadline → HasUntil (live (means value_of db bases m) moment) key deadline
+  pub seen_until : (bases : Bases V) (db moment : ℕ) (m : Blocks) → IsArranged IsSound bases m → (key : List ℕ) (at : ℕ) → StandsAt bases m db key moment at → (deadline : Option ℕ) → get (moments m (deadlines_at bases db)) key ≡ deadline → HasUntil (live (means value_of db bases m) moment) key deadline
   seen_until bases db moment m a key at there deadline is = record {
     value = value_of m there.stands.element.value;
     stands =
@@ -82,7 +84,7 @@ module _ {V : Type 0} (refs_of : V → List BlockRef) (value_of : Blocks → V �
   }
 
   -- what a search found, at each of its ends
-  module _ (bases : Bases V) (db moment : ℕ) (m : Blocks) (a : IsArranged bases m) (key : List ℕ) (sought : Sought) (seeks : Seeks bases m db key sought) where
+  module _ (bases : Bases V) (db moment : ℕ) (m : Blocks) (a : IsArranged IsSound bases m) (key : List ℕ) (sought : Sought) (seeks : Seeks bases m db key sought) where
     -- no element has the key
     pub sees_none : sought.item ≡ None → Sees value_of bases m db key moment (record { sought = sought; timed = None; there = None; deadline = None })
     sees_none is =

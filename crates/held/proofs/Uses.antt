@@ -1,6 +1,7 @@
 -- For whoever calls a keyspace: what a command function needs to say that the keyspace is sound after it, and which
 -- world it leaves. Each lemma takes the clauses of the calls as they stand.
 use Rattle.std.proofs.Common.{◌≡◌, ℕ, ◌+◌, ◌≤◌, List, [], ◌++◌, Option, sym, ap, ◌∙◌, subst, arith}
+use Rattle.object_codec.specs.declared.limits.Limits.{Limits}
 use Rattle.blocks.specs.declared.BlockRef.{BlockRef}
 use Rattle.blocks.specs.Blocks.{Blocks, times, Changes}
 use Rattle.blocks.proofs.Times.{times-append}
@@ -8,24 +9,25 @@ use Rattle.blocks.proofs.Change.{Counts-changed}
 use Rattle.plain_world.specs.Worlds.{Value, Entry, put, stand}
 use Rattle.plain_world.specs.Worlds as model
 use Rattle.held.specs.declared.keyspace.Lifted.{Lifted}
-use Rattle.held.specs.Databases.{ReadsOwn, Bases, means}
-use Rattle.held.specs.Sound.{IsIntact, Sound, SoundBeside}
-use Rattle.held.specs.Calls.{HasOnly, IsPlace, IsVacant, Lifts, AreParts}
+use Rattle.held.specs.Databases.{Bases, SameSettings, means}
+use Rattle.stored.specs.Owning.{ReadsOwn}
+use Rattle.held.specs.Sound.{IsIntact, Sound, SoundBeside, IsIntactWith, IsArranged}
+use Rattle.held.specs.Calls.{HasValue, HasOnly, IsPlace, IsVacant, Lifts, AreParts}
 use Rattle.held.specs.Scopes.{Scope, one_key, Within}
 use Rattle.held.proofs.Within.{within_then, within_store}
 use Rattle.std.specs.FinMap.{get}
 use Rattle.plain_world.proofs.Lives.{live_put, live_put_in_time, was_in_time}
-use Rattle.held.proofs.Bases.{arranged_out, means_out, kept_inside, kept_timed, sound_intact}
+use Rattle.held.proofs.Bases.{arranged_out, owned_out, means_out, kept_inside, kept_timed, sound_intact}
 use Rattle.held.proofs.Tables.{key_itself}
 use Rattle.held.proofs.Calls.{item_owned}
 
-module _ {V : Type 0} (refs_of : V → List BlockRef) (value_of : Blocks → V → Value) (own : ReadsOwn refs_of value_of) where
+module _ {V : Type 0} {IsSound : Limits → ℕ → Blocks → V → Type 0} (refs_of : Blocks → V → List BlockRef) (value_of : Blocks → V → Value) (own : ReadsOwn refs_of value_of IsSound) where
   -- ---- what is out of the databases changes: a value is made, changed or released
 
-  module _ (bases : Bases V) (m after : Blocks) (out later xs ys : List BlockRef) (sound : SoundBeside refs_of bases m out) (p : Changes m after xs ys) (part : (r : BlockRef) → times r xs ≤ times r out) where
-    pub Changed-sound : ((r : BlockRef) → times r later + times r xs ≡ times r out + times r ys) → SoundBeside refs_of bases after later
+  module _ (bases : Bases V) (m after : Blocks) (out later xs ys : List BlockRef) (sound : SoundBeside refs_of IsSound bases m out) (p : Changes m after xs ys) (part : (r : BlockRef) → times r xs ≤ times r out) where
+    pub Changed-sound : ((r : BlockRef) → times r later + times r xs ≡ times r out + times r ys) → SoundBeside refs_of IsSound bases after later
     Changed-sound same = record {
-      owns = λ r. omega (arith, sound.owns r, same r, (Counts-changed m after xs ys (λ q. omega (arith, sound.owns q, part q)) p).balance r);
+      owns = λ r. omega (arith, sound.owns r, same r, ap (times r) (owned_out refs_of value_of own bases m after out xs ys (sound_intact refs_of value_of own bases m out sound) p part), (Counts-changed m after xs ys (λ q. omega (arith, sound.owns q, part q)) p).balance r);
       arranged = arranged_out refs_of value_of own bases m after out xs ys (sound_intact refs_of value_of own bases m out sound) p part;
     }
 
@@ -34,19 +36,19 @@ module _ {V : Type 0} (refs_of : V → List BlockRef) (value_of : Blocks → V �
 
   -- ---- a value is made and put in place of what stands at a key
 
-  module _ (bases : Bases V) (m after : Blocks) (value : V) (sound : Sound refs_of bases m) (p : Changes m after [] (refs_of value)) where
-    pub Made-sound : SoundBeside refs_of bases after (refs_of value)
-    Made-sound = Changed-sound bases m after [] (refs_of value) [] (refs_of value) sound p (λ r. omega arith) (λ r. omega arith)
+  module _ (bases : Bases V) (m after : Blocks) (value : V) (sound : Sound refs_of IsSound bases m) (p : Changes m after [] (refs_of after value)) where
+    pub Made-sound : SoundBeside refs_of IsSound bases after (refs_of after value)
+    Made-sound = Changed-sound bases m after [] (refs_of after value) [] (refs_of after value) sound p (λ r. omega arith) (λ r. omega arith)
 
     -- what `put` asks
-    pub Made-intact : IsIntact refs_of bases after (refs_of value)
-    Made-intact = sound_intact refs_of value_of own bases after (refs_of value) Made-sound
+    pub Made-intact : IsSound bases.limits bases.seed after value → IsIntactWith refs_of IsSound bases after value
+    Made-intact is_sound = record { owned = λ r. omega (arith, Made-sound.owns r); arranged = Made-sound.arranged; sound = is_sound }
 
     pub Made-means : (db : ℕ) → means value_of db bases after ≡ means value_of db bases m
-    Made-means db = Changed-means bases m after [] (refs_of value) [] (refs_of value) sound p (λ r. omega arith) db
+    Made-means db = Changed-means bases m after [] (refs_of after value) [] (refs_of after value) sound p (λ r. omega arith) db
 
     Made-within : (scope : Scope) → Within refs_of scope bases bases m after
-    Made-within scope = within_store refs_of value_of own scope bases m after [] [] (refs_of value) (sound_intact refs_of value_of own bases m [] sound) p (λ r. omega arith)
+    Made-within scope = within_store refs_of value_of own scope bases m after [] [] (refs_of after value) (sound_intact refs_of value_of own bases m [] sound) p (λ r. omega arith)
 
     module _ (new : Bases V) (later : Blocks) where
       -- from the clause `within` of `put`
@@ -54,8 +56,8 @@ module _ {V : Type 0} (refs_of : V → List BlockRef) (value_of : Blocks → V �
       Put-within scope clause = within_then refs_of scope bases bases new m after later (Made-within scope) clause
 
       -- from the clause `sound` of `put`
-      pub Put-sound : ((all out : List BlockRef) → SoundBeside refs_of bases after all → AreParts all (refs_of value) out → SoundBeside refs_of new later out) → Sound refs_of new later
-      Put-sound clause = clause (refs_of value) [] Made-sound (λ r. omega arith)
+      pub Put-sound : ((all out : List BlockRef) → SoundBeside refs_of IsSound bases after all → AreParts all (refs_of after value) out → SoundBeside refs_of IsSound new later out) → Sound refs_of IsSound new later
+      Put-sound clause = clause (refs_of after value) [] Made-sound (λ r. omega arith)
 
       -- from the clause `means` of `put`, or its clause `kept`: the world that the step speaks of
       pub Put-means : (db moment : ℕ) (key : List ℕ) (entry : Entry) → means value_of db new later ≡ put (means value_of db bases after) key entry → model.live (means value_of db new later) moment ≡ stand (model.live (means value_of db bases m) moment) moment key entry
@@ -66,18 +68,18 @@ module _ {V : Type 0} (refs_of : V → List BlockRef) (value_of : Blocks → V �
 
   -- ---- a value is lifted, changed and lowered again
 
-  module _ (old mid : Bases V) (m after : Blocks) (db moment : ℕ) (key : List ℕ) (lifted changed : Lifted V) (out : List BlockRef) (empty : V) (lifts : Lifts refs_of value_of empty old mid m db key moment lifted) (sound : SoundBeside refs_of mid m (refs_of lifted.value ++ out))
-      (p : Changes m after (refs_of lifted.value) (refs_of changed.value)) (same_db : changed.db ≡ lifted.db) (same_item : changed.item ≡ lifted.item) where
-    part : (r : BlockRef) → times r (refs_of lifted.value) ≤ times r (refs_of lifted.value ++ out)
-    part r = omega (arith, times-append r (refs_of lifted.value) out)
+  module _ (old mid : Bases V) (m after : Blocks) (db moment : ℕ) (key : List ℕ) (lifted changed : Lifted V) (out : List BlockRef) (empty : V) (lifts : Lifts refs_of value_of empty old mid m db key moment lifted) (sound : SoundBeside refs_of IsSound mid m (refs_of m lifted.value ++ out))
+      (p : Changes m after (refs_of m lifted.value) (refs_of after changed.value)) (same_db : changed.db ≡ lifted.db) (same_item : changed.item ≡ lifted.item) where
+    part : (r : BlockRef) → times r (refs_of m lifted.value) ≤ times r (refs_of m lifted.value ++ out)
+    part r = omega (arith, times-append r (refs_of m lifted.value) out)
 
-    changed_sound : SoundBeside refs_of mid after (refs_of changed.value ++ out)
-    changed_sound = Changed-sound mid m after (refs_of lifted.value ++ out) (refs_of changed.value ++ out) (refs_of lifted.value) (refs_of changed.value) sound p part
-        (λ r. omega (arith, times-append r (refs_of lifted.value) out, times-append r (refs_of changed.value) out))
+    changed_sound : SoundBeside refs_of IsSound mid after (refs_of after changed.value ++ out)
+    changed_sound = Changed-sound mid m after (refs_of m lifted.value ++ out) (refs_of after changed.value ++ out) (refs_of m lifted.value) (refs_of after changed.value) sound p part
+        (λ r. omega (arith, times-append r (refs_of m lifted.value) out, times-append r (refs_of after changed.value) out))
 
     -- what `lower` asks
-    pub Lower-intact : IsIntact refs_of mid after (refs_of changed.value)
-    Lower-intact = record { owned = λ r. omega (arith, changed_sound.owns r, times-append r (refs_of changed.value) out); arranged = changed_sound.arranged }
+    pub Lower-intact : IsSound mid.limits mid.seed after changed.value → IsIntactWith refs_of IsSound mid after changed.value
+    Lower-intact is_sound = record { owned = λ r. omega (arith, changed_sound.owns r, times-append r (refs_of after changed.value) out); arranged = changed_sound.arranged; sound = is_sound }
 
     pub Lower-vacant : IsVacant empty mid changed.db changed.item
     Lower-vacant = subst (λ d. IsVacant empty mid d changed.item) (sym (same_db ∙ lifts.same_db)) (subst (IsVacant empty mid db) (sym same_item) lifts.vacant)
@@ -88,15 +90,15 @@ module _ {V : Type 0} (refs_of : V → List BlockRef) (value_of : Blocks → V �
         subst (λ d. IsPlace mid after d changed.item key lifts.deadline) (sym (same_db ∙ lifts.same_db)) (subst (λ at. IsPlace mid after db at key lifts.deadline) (sym same_item) (record {
           element = lifts.place.element;
           found = lifts.place.found;
-          bytes = kept_inside refs_of value_of own mid m after (refs_of lifted.value ++ out) (refs_of lifted.value) (refs_of changed.value) (sound_intact refs_of value_of own mid m (refs_of lifted.value ++ out) sound) p part lifts.place.element.key
-              (omega (arith, key_itself lifts.place.element.key, item_owned refs_of value_of own mid db lifted.item lifts.place.element lifts.place.element.key lifts.place.found)) ∙ lifts.place.bytes;
-          lasts = ap (λ t. get t key) (kept_timed refs_of value_of own mid m after (refs_of lifted.value ++ out) (refs_of lifted.value) (refs_of changed.value) (sound_intact refs_of value_of own mid m (refs_of lifted.value ++ out) sound) p part db).1 ∙ lifts.place.lasts;
+          bytes = kept_inside refs_of value_of own mid m after (refs_of m lifted.value ++ out) (refs_of m lifted.value) (refs_of after changed.value) (sound_intact refs_of value_of own mid m (refs_of m lifted.value ++ out) sound) p part lifts.place.element.key
+              (omega (arith, key_itself lifts.place.element.key, item_owned (refs_of m) mid db lifted.item lifts.place.element lifts.place.element.key lifts.place.found)) ∙ lifts.place.bytes;
+          lasts = ap (λ t. get t key) (kept_timed refs_of value_of own mid m after (refs_of m lifted.value ++ out) (refs_of m lifted.value) (refs_of after changed.value) (sound_intact refs_of value_of own mid m (refs_of m lifted.value ++ out) sound) p part db).1 ∙ lifts.place.lasts;
         }))
 
     module _ (new : Bases V) where
       -- from the clause `sound` of `lower`
-      pub Lower-sound : ((all rest : List BlockRef) → SoundBeside refs_of mid after all → AreParts all (refs_of changed.value) rest → SoundBeside refs_of new after rest) → SoundBeside refs_of new after out
-      Lower-sound clause = clause (refs_of changed.value ++ out) out changed_sound (λ r. times-append r (refs_of changed.value) out)
+      pub Lower-sound : ((all rest : List BlockRef) → SoundBeside refs_of IsSound mid after all → AreParts all (refs_of after changed.value) rest → SoundBeside refs_of IsSound new after rest) → SoundBeside refs_of IsSound new after out
+      Lower-sound clause = clause (refs_of after changed.value ++ out) out changed_sound (λ r. times-append r (refs_of after changed.value) out)
 
       -- from the clause `has` of `lower`
       pub Lower-has : ((k : List ℕ) (deadline : Option ℕ) → IsPlace mid after changed.db changed.item k deadline → HasOnly new after changed.db k changed.value) → HasOnly new after db key changed.value
@@ -107,7 +109,7 @@ module _ {V : Type 0} (refs_of : V → List BlockRef) (value_of : Blocks → V �
       Lower-within taken clause =
           within_then refs_of (one_key db key) old mid new m m after taken
           (within_then refs_of (one_key db key) mid mid new m after after
-          (within_store refs_of value_of own (one_key db key) mid m after (refs_of lifted.value ++ out) (refs_of lifted.value) (refs_of changed.value) (sound_intact refs_of value_of own mid m (refs_of lifted.value ++ out) sound) p part)
+          (within_store refs_of value_of own (one_key db key) mid m after (refs_of m lifted.value ++ out) (refs_of m lifted.value) (refs_of after changed.value) (sound_intact refs_of value_of own mid m (refs_of m lifted.value ++ out) sound) p part)
           (subst (λ d. Within refs_of (one_key d key) mid new after after) (same_db ∙ lifts.same_db) (clause key lifts.deadline place)))
 
       -- from the clause `means` of `lower`: the value stands at the key, with the deadline that was there
@@ -117,6 +119,16 @@ module _ {V : Type 0} (refs_of : V → List BlockRef) (value_of : Blocks → V �
           let entry : Entry = record { value = value_of after changed.value; deadline = lifts.deadline } in
           ap (λ w. model.live w moment)
           (subst (λ d. means value_of d new after ≡ put (means value_of d mid after) key entry) (same_db ∙ lifts.same_db) (clause key lifts.deadline place)
-          ∙ ap (λ w. put w key entry) (means_out refs_of value_of own mid m after (refs_of lifted.value ++ out) (refs_of lifted.value) (refs_of changed.value) (sound_intact refs_of value_of own mid m (refs_of lifted.value ++ out) sound) p part db)
+          ∙ ap (λ w. put w key entry) (means_out refs_of value_of own mid m after (refs_of m lifted.value ++ out) (refs_of m lifted.value) (refs_of after changed.value) (sound_intact refs_of value_of own mid m (refs_of m lifted.value ++ out) sound) p part db)
           ∙ lifts.back entry)
           ∙ live_put_in_time (means value_of db old m) moment key entry (was_in_time (means value_of db old m) moment key _ lifts.stands).1
+
+  -- ---- what stands at a key is sound
+
+  pub has_sound : (bases : Bases V) (m : Blocks) (db : ℕ) (key : List ℕ) (value : V) → IsArranged IsSound bases m → HasValue bases m db key value → IsSound bases.limits bases.seed m value
+  has_sound bases m db key value a has = subst (IsSound bases.limits bases.seed m) has.is (a.values db has.at has.element has.found)
+
+  -- what was lifted is sound over the databases that are left
+  pub lifted_sound : (old mid : Bases V) (m : Blocks) (db moment : ℕ) (key : List ℕ) (lifted : Lifted V) (empty : V) → IsArranged IsSound old m → SameSettings old mid → Lifts refs_of value_of empty old mid m db key moment lifted → IsSound mid.limits mid.seed m lifted.value
+  lifted_sound old mid m db moment key lifted empty a settings lifts =
+      subst (λ limits. IsSound limits mid.seed m lifted.value) (sym settings.limits) (subst (λ seed. IsSound old.limits seed m lifted.value) (sym settings.seed) (has_sound old m db key lifted.value a lifts.had))

@@ -1,5 +1,6 @@
 -- How databases come from others within a scope, step by step.
 use Rattle.std.proofs.Common.{◌≡◌, inl, inr, ℕ, ◌≤◌, ◌<◌, List, [], ◌∷◌, Option, Some, None, unwrap_or, refl, sym, ap, ◌∙◌, subst, arith}
+use Rattle.object_codec.specs.declared.limits.Limits.{Limits}
 use Rattle.std.proofs.lemmas.Bool.{cases_eq, cond-true}
 use Rattle.blocks.specs.declared.BlockRef.{BlockRef}
 use Rattle.blocks.specs.Blocks.{Blocks, ref_eq, times, bytes_at, Changes, no_step}
@@ -14,7 +15,8 @@ use Rattle.expiry.specs.Timed.{Timed, KeepsCursor}
 use Rattle.held.specs.declared.databases.Base.{Base}
 use Rattle.rehash_dict.specs.Table.{at_item}
 use Rattle.held.specs.Table.{Table, Element, item, Swaps, Removes, TableGrows}
-use Rattle.held.specs.Databases.{ReadsOwn, Bases, no_base, base_at, table_at, deadlines_at, ChangesBase, ChangesTable, ChangesDeadlines}
+use Rattle.held.specs.Databases.{Bases, no_base, base_at, table_at, deadlines_at, ChangesBase, ChangesTable, ChangesDeadlines}
+use Rattle.stored.specs.Owning.{ReadsOwn}
 use Rattle.held.specs.Sound.{IsArranged, IsIntact}
 use Rattle.held.specs.Calls.{Joins}
 use Rattle.held.specs.Scopes.{Scope, keys_of, no_key, BaseGrows, AreGrown, Grew, Stayed, Within}
@@ -55,13 +57,13 @@ module _ {V : Type 0} where
     | inr anew ↦ grows_anew bases.seed (base_at new db) after m after anew.1
   ])
 
-module _ {V : Type 0} (refs_of : V → List BlockRef) where
+module _ {V : Type 0} (refs_of : Blocks → V → List BlockRef) where
   -- nothing changes
   pub within_none : (scope : Scope) (old : Bases V) (m : Blocks) → Within refs_of scope old old m m
   within_none scope old m = record {
     same = λ db apart. refl;
     grew = λ db. inl (grows_none old.seed (base_at old db) m);
-    stayed = λ db at e found apart. record { stood = found; bytes = λ r owns. refl };
+    stayed = λ db at e found apart. record { stood = found; bytes = λ r owns. refl; refs = refl };
     seed = refl;
   }
 
@@ -79,7 +81,7 @@ module _ {V : Type 0} (refs_of : V → List BlockRef) where
         let itself : one_if (ref_eq e.key e.key) ≡ 1 = cond-true _ _ _ (ref_eq-refl e.key) in
         let bytes : bytes_at after e.key ≡ bytes_at mid e.key = ap (λ (o : Option (List ℕ)). unwrap_or o []) (last.bytes e.key (omega (arith, itself))) in
         let first = p.stayed db at e last.stood (λ named. apart (subst (scope.writes db) (sym bytes) named)) in
-        record { stood = first.stood; bytes = λ r owns. last.bytes r owns ∙ first.bytes r owns });
+        record { stood = first.stood; bytes = λ r owns. last.bytes r (subst (λ list. 0 < times r (e.key ∷ list)) (sym first.refs) owns) ∙ first.bytes r owns; refs = last.refs ∙ first.refs });
     seed = q.seed ∙ p.seed;
   }
 
@@ -130,6 +132,7 @@ module _ {V : Type 0} (refs_of : V → List BlockRef) where
         | inr other ↦ ap (λ (b : Base V). item b.keys at) (sym (c.others number other)) ∙ found
       ];
       bytes = λ r owns. refl;
+      refs = refl;
     }
 
     -- a value takes the place of another, at a key that is written
@@ -162,7 +165,7 @@ module _ {V : Type 0} (refs_of : V → List BlockRef) where
       seed = c.settings.seed;
     }
 
-    module _ (a : IsArranged old m) (within : db < 16) where
+    module _ {IsSound : Limits → ℕ → Blocks → V → Type 0} (a : IsArranged IsSound old m) (within : db < 16) where
       -- a key table that comes from the old one, with no new element but written ones, is within the scope
       pub within_table : ChangesTable old new db → Grown (hash_of (table_at old db).seed) (key_tables m (table_at old db)) (key_tables m (table_at new db)) → FromOld → Within refs_of scope old new m m
       within_table c grown from = record {
@@ -220,9 +223,9 @@ module _ {V : Type 0} (refs_of : V → List BlockRef) where
 
 -- ---- the store changes outside the databases
 
-module _ {V : Type 0} (refs_of : V → List BlockRef) (value_of : Blocks → V → Value) (own : ReadsOwn refs_of value_of) where
+module _ {V : Type 0} {IsSound : Limits → ℕ → Blocks → V → Type 0} (refs_of : Blocks → V → List BlockRef) (value_of : Blocks → V → Value) (own : ReadsOwn refs_of value_of IsSound) where
   -- a store that changes only blocks that were out leaves the databases within any scope
-  pub within_store : (scope : Scope) (bases : Bases V) (m after : Blocks) (out xs ys : List BlockRef) → IsIntact refs_of bases m out → Changes m after xs ys → ((r : BlockRef) → times r xs ≤ times r out) → Within refs_of scope bases bases m after
+  pub within_store : (scope : Scope) (bases : Bases V) (m after : Blocks) (out xs ys : List BlockRef) → IsIntact refs_of IsSound bases m out → Changes m after xs ys → ((r : BlockRef) → times r xs ≤ times r out) → Within refs_of scope bases bases m after
   within_store scope bases m after out xs ys intact p part = record {
     same = λ db apart. refl;
     grew = λ db. inl (record {
@@ -231,12 +234,12 @@ module _ {V : Type 0} (refs_of : V → List BlockRef) (value_of : Blocks → V �
           (let n = (intact.arranged.timed db).names at e found in ap after (sym n.same) ∙ key_kept db n.at n.element n.found ∙ ap m n.same))).1;
       cursor = refl;
     });
-    stayed = λ db at e found apart. record { stood = found; bytes = λ r owns. kept db at e found r owns };
+    stayed = λ db at e found apart. record { stood = found; bytes = λ r owns. kept db at e found r owns; refs = own.refs m after e.value (λ r owns. kept db at e found r (omega (arith, owns))) };
     seed = refl;
   }
     where
-      kept : (db at : ℕ) (e : Element V) → item (table_at bases db) at ≡ Some e → (r : BlockRef) → 0 < times r (e.key ∷ refs_of e.value) → after r ≡ m r
-      kept db at e found r owns = kept_inside refs_of value_of own bases m after out xs ys intact p part r (omega (arith, owns, named_in refs_of (table_at bases db) at e r found, table_owned refs_of value_of own bases db r))
+      kept : (db at : ℕ) (e : Element V) → item (table_at bases db) at ≡ Some e → (r : BlockRef) → 0 < times r (e.key ∷ refs_of m e.value) → after r ≡ m r
+      kept db at e found r owns = kept_inside refs_of value_of own bases m after out xs ys intact p part r (omega (arith, owns, named_in (refs_of m) (table_at bases db) at e r found, table_owned (refs_of m) bases db r))
 
       key_kept : (db at : ℕ) (e : Element V) → item (table_at bases db) at ≡ Some e → after e.key ≡ m e.key
       key_kept db at e found = kept db at e found e.key (let itself : one_if (ref_eq e.key e.key) ≡ 1 = cond-true _ _ _ (ref_eq-refl e.key) in omega (arith, itself))

@@ -1,8 +1,9 @@
 -- What calls wrote, one after the other.
-use Rattle.std.proofs.Common.{◌≡◌, ◌⊎◌, inl, inr, ℕ, List, Some, Bool, true, false, refl, sym, ap, subst, ◌∙◌}
+use Rattle.std.proofs.Common.{◌≡◌, ◌⊎◌, inl, inr, ℕ, List, Some, Bool, true, false, refl, sym, ap, subst, ◌∙◌, ◌<◌, ◌∷◌}
+use Rattle.object_codec.specs.declared.limits.Limits.{Limits}
 use Rattle.std.proofs.lemmas.Bool.{cases_eq}
 use Rattle.blocks.specs.declared.BlockRef.{BlockRef}
-use Rattle.blocks.specs.Blocks.{Blocks, bytes_at}
+use Rattle.blocks.specs.Blocks.{Blocks, bytes_at, times}
 use Rattle.rehash_dict.specs.Keyed.{same_key}
 use Rattle.rehash_dict.proofs.Keys.{same_key-true, same_key-refl, live_bytes}
 use Rattle.held.specs.Table.{Element, item}
@@ -42,10 +43,10 @@ two_settled db key to_db to number other = elim (one_settled db key number other
   ]
 ]
 
-module _ {V : Type 0} (refs_of : V → List BlockRef) (Is : V → Type 0) where
+module _ {V : Type 0} (refs_of : Blocks → V → List BlockRef) (Is : V → Type 0) where
   -- nothing changes
   pub written_none : (bases : Bases V) (m : Blocks) → Written refs_of Is bases bases m m
-  written_none bases m db at e found = inl (record { stood = found; bytes = λ r owns. refl })
+  written_none bases m db at e found = inl (record { stood = found; bytes = λ r owns. refl; refs = refl })
 
   -- no key is written
   pub written_within : (scope : Scope) → ((db : ℕ) (key : List ℕ) → scope.writes db key → ⊥) → (old new : Bases V) (m after : Blocks) → Within refs_of scope old new m after → Written refs_of Is old new m after
@@ -57,12 +58,12 @@ module _ {V : Type 0} (refs_of : V → List BlockRef) (Is : V → Type 0) where
     | inr is ↦ inr is
     | inl last ↦ elim (p db at e last.stood) [
       | inr is ↦ inr is
-      | inl first ↦ inl (record { stood = first.stood; bytes = λ r owns. last.bytes r owns ∙ first.bytes r owns })
+      | inl first ↦ inl (record { stood = first.stood; bytes = λ r owns. last.bytes r (subst (λ list. 0 < times r (e.key ∷ list)) (sym first.refs) owns) ∙ first.bytes r owns; refs = last.refs ∙ first.refs })
     ]
   ]
 
   -- what is written within a scope has such values
-  pub written_named : (scope : Scope) → IsSettled scope → (old new : Bases V) (m after : Blocks) → Within refs_of scope old new m after → IsArranged new after
+  pub written_named : (scope : Scope) → IsSettled scope → (old new : Bases V) (m after : Blocks) → Within refs_of scope old new m after → {IsSound : Limits → ℕ → Blocks → V → Type 0} → IsArranged IsSound new after
       → ((db at : ℕ) (e : Element V) (key : List ℕ) → item (table_at new db) at ≡ Some e → after e.key ≡ Some key → scope.writes db key → Is e.value) → Written refs_of Is old new m after
   written_named scope settled old new m after p arranged is db at e found = elim (settled db (bytes_at after e.key)) [
     | inl named ↦ inr (is db at e (bytes_at after e.key) found (live_bytes after e.key ((arranged.keyed db).live at e found)) named)
@@ -70,7 +71,7 @@ module _ {V : Type 0} (refs_of : V → List BlockRef) (Is : V → Type 0) where
   ]
 
   -- a value stands at a key
-  pub written_key : (db : ℕ) (key : List ℕ) (value : V) → Is value → (old new : Bases V) (m after : Blocks) → Within refs_of (one_key db key) old new m after → IsArranged new after → HasOnly new after db key value → Written refs_of Is old new m after
+  pub written_key : (db : ℕ) (key : List ℕ) (value : V) → Is value → (old new : Bases V) (m after : Blocks) → Within refs_of (one_key db key) old new m after → {IsSound : Limits → ℕ → Blocks → V → Type 0} → IsArranged IsSound new after → HasOnly new after db key value → Written refs_of Is old new m after
   written_key db key value is old new m after p arranged only =
       written_named (one_key db key) (one_settled db key) old new m after p arranged
       (λ number at e other found bytes named. subst Is (sym (only at e (subst (λ n. item (table_at new n) at ≡ Some e) named.0 found) (bytes ∙ ap Some named.1))) is)

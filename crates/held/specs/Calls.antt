@@ -33,12 +33,12 @@ module _ {V : Type 0} where
   HasOnly bases blocks db key value = AllAt (λ is. is ≡ value) bases blocks db key
 
   -- The value is what stands at the key of the database at the moment, and its blocks are live.
-  pub record Found (refs_of : V → List BlockRef) (value_of : Blocks → V → Value) (bases : Bases V) (blocks : Blocks)
+  pub record Found (refs_of : Blocks → V → List BlockRef) (value_of : Blocks → V → Value) (bases : Bases V) (blocks : Blocks)
       (db : ℕ) (key : List ℕ) (moment : ℕ) (value : V) : Type 0 where
     pub deadline : Option ℕ
     pub stands : look (live (means value_of db bases blocks) moment) key
         ≡ Some (record { value = value_of blocks value; deadline = deadline })
-    pub owned : Owned (refs_of value) blocks
+    pub owned : Owned (refs_of blocks value) blocks
     pub has : HasValue bases blocks db key value
 
   -- the item number is the place of a key with these bytes and this deadline, or none
@@ -53,13 +53,13 @@ module _ {V : Type 0} where
   IsVacant vacant bases db at = value_at (item (table_at bases db) at) ≡ Some vacant
 
   -- The value was taken out of the place of the key, at which the world had it.
-  pub record Lifts (refs_of : V → List BlockRef) (value_of : Blocks → V → Value) (empty : V) (old new : Bases V)
+  pub record Lifts (refs_of : Blocks → V → List BlockRef) (value_of : Blocks → V → Value) (empty : V) (old new : Bases V)
       (blocks : Blocks) (db : ℕ) (key : List ℕ) (moment : ℕ) (lifted : Lifted V) : Type 0 where
     pub same_db : lifted.db ≡ db
     pub deadline : Option ℕ
     pub stands : look (live (means value_of db old blocks) moment) key
         ≡ Some (record { value = value_of blocks lifted.value; deadline = deadline })
-    pub owned : Owned (refs_of lifted.value) blocks
+    pub owned : Owned (refs_of blocks lifted.value) blocks
     pub had : HasValue old blocks db key lifted.value
     pub vacant : IsVacant empty new db lifted.item
     pub place : IsPlace new blocks db lifted.item key deadline

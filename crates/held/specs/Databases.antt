@@ -1,5 +1,5 @@
 -- What contracts see of the databases, the blocks that they own, and the world that they mean, whatever the values are.
-use Rattle.std.specs.Prelude.{◌≡◌, ◌≢◌, ◌<◌, ℕ, List, Option, None, Some, length, map, slice_index_or}
+use Rattle.std.specs.Prelude.{◌≡◌, ◌≢◌, ◌<◌, ℕ, List, [], Option, None, Some, length, map, slice_index_or}
 use Rattle.std.specs.List.{flat_map}
 use Rattle.std.specs.Ordering.{nat_cmp}
 use Rattle.std.specs.Cmp.Lexicographic.{slice_cmp}
@@ -19,11 +19,6 @@ pub record Bases (V : Type 0) : Type 0 where
   pub limits : Limits
   pub seed : ℕ
   pub turn : ℕ
-
--- what a value means is read out of the blocks that it owns, and out of no other
-abbrev pub ReadsOwn : {V : Type 0} → (V → List BlockRef) → (Blocks → V → Value) → Type 0
-ReadsOwn {V} refs_of value_of = (m after : Blocks) (value : V)
-    → ((r : BlockRef) → 0 < times r (refs_of value) → after r ≡ m r) → value_of after value ≡ value_of m value
 
 -- from each key to its value, and from each key that has a deadline to that
 abbrev pub Values : Type 0

@@ -42,7 +42,7 @@ module _ {V : Type 0} where
 
   -- The keys that these blocks name leave one database, each with its deadline. All other keys and their values keep
   -- their blocks and bytes.
-  pub record Thinned (refs_of : V → List BlockRef) (found : List BlockRef) (old new : Bases V) (m after : Blocks)
+  pub record Thinned (refs_of : Blocks → V → List BlockRef) (found : List BlockRef) (old new : Bases V) (m after : Blocks)
       (db : ℕ) : Type 0 where
     pub others : (number : ℕ) → number ≢ db → base_at new number ≡ base_at old number
     pub keys : Drops found (table_at old db) (table_at new db)
@@ -55,7 +55,7 @@ module _ {V : Type 0} where
 
   -- One expiry step at a moment: a cycle of the database whose turn it is, whose finds are dropped. The turn passes to
   -- the next database, and from the last one to database 0.
-  pub record Expires (refs_of : V → List BlockRef) (moment : ℕ) (old new : Bases V) (m after : Blocks) : Type 0 where
+  pub record Expires (refs_of : Blocks → V → List BlockRef) (moment : ℕ) (old new : Bases V) (m after : Blocks) : Type 0 where
     pub thinned : Thinned refs_of (found_at old moment) old new m after old.turn
     pub cursor : (deadlines_at new old.turn).cursor ≡ cursor_behind (deadlines_at old old.turn) moment
     pub turn : new.turn ≡ (old.turn + 1) % 16
@@ -63,7 +63,7 @@ module _ {V : Type 0} where
     pub seed : new.seed ≡ old.seed
 
   -- so many steps, one after the other, and how many keys they drop together
-  pub data Expired (refs_of : V → List BlockRef) (moment : ℕ) (old : Bases V) (m : Blocks)
+  pub data Expired (refs_of : Blocks → V → List BlockRef) (moment : ℕ) (old : Bases V) (m : Blocks)
       : ℕ → ℕ → Bases V → Blocks → Type 0 where
     start : Expired refs_of moment old m 0 0 old m
     more : (steps dropped : ℕ) (mid new : Bases V) (now after : Blocks)

@@ -9,3 +9,4 @@ pub mod Rehash
 pub mod Expiry
 pub mod Relocation
 pub mod Calls
+pub mod Shrinking

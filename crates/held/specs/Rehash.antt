@@ -1,5 +1,6 @@
 -- Rehash steps of the databases.
 use Rattle.std.specs.Prelude.{◌≡◌, ℕ, ◌+◌, ◌<◌, ◌≤◌, Bool, true, false, List}
+use Rattle.object_codec.specs.declared.limits.Limits.{Limits}
 use Rattle.blocks.specs.declared.BlockRef.{BlockRef}
 use Rattle.blocks.specs.Blocks.{Blocks}
 use Rattle.rehash_dict.specs.Tables.{is_rehashing, rehashed}
@@ -32,11 +33,11 @@ module _ {V : Type 0} where
   deadlines_move bases db = is_rehashing (tables (deadlines_at bases db).table)
 
   -- The databases stay in order, mean what they meant, and own what they owned.
-  pub record Preserves (refs_of : V → List BlockRef) (value_of : Blocks → V → Value) (m : Blocks) (old new : Bases V)
-      : Type 0 where
-    pub arranged : IsArranged new m
+  pub record Preserves (refs_of : Blocks → V → List BlockRef) (value_of : Blocks → V → Value)
+      (IsSound : Limits → ℕ → Blocks → V → Type 0) (m : Blocks) (old new : Bases V) : Type 0 where
+    pub arranged : IsArranged IsSound new m
     pub means : (number : ℕ) → means value_of number new m ≡ means value_of number old m
-    pub sound : (out : List BlockRef) → SoundBeside refs_of old m out → SoundBeside refs_of new m out
+    pub sound : (out : List BlockRef) → SoundBeside refs_of IsSound old m out → SoundBeside refs_of IsSound new m out
     pub settings : SameSettings old new
 
   -- A rehash step goes to the lowest database whose key table is in a rehash, or else to the lowest whose deadlines

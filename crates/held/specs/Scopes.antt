@@ -76,13 +76,14 @@ module _ {V : Type 0} where
   AreGrown bases blocks = (db : ℕ) → BaseGrows bases.seed (no_base bases.seed) (base_at bases db) blocks blocks
 
   -- an element stood there before, and its key and its value have the blocks and bytes that they had
-  pub record Stayed (refs_of : V → List BlockRef) (old : Bases V) (m after : Blocks) (db at : ℕ) (element : Element V)
+  pub record Stayed (refs_of : Blocks → V → List BlockRef) (old : Bases V) (m after : Blocks) (db at : ℕ) (element : Element V)
       : Type 0 where
     pub stood : item (table_at old db) at ≡ Some element
-    pub bytes : (r : BlockRef) → 0 < times r (element.key ∷ refs_of element.value) → after r ≡ m r
+    pub bytes : (r : BlockRef) → 0 < times r (element.key ∷ refs_of m element.value) → after r ≡ m r
+    pub refs : refs_of after element.value ≡ refs_of m element.value
 
   -- The databases come from those before within a scope.
-  pub record Within (refs_of : V → List BlockRef) (scope : Scope) (old new : Bases V) (m after : Blocks) : Type 0 where
+  pub record Within (refs_of : Blocks → V → List BlockRef) (scope : Scope) (old new : Bases V) (m after : Blocks) : Type 0 where
     pub same : (db : ℕ) → (scope.touches db → ⊥) → base_at new db ≡ base_at old db
     pub grew : (db : ℕ) → Grew (scope.empties db) old.seed (base_at old db) (base_at new db) m after
     pub stayed : (db at : ℕ) (element : Element V) → item (table_at new db) at ≡ Some element

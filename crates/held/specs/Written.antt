@@ -8,6 +8,6 @@ use Rattle.held.specs.Scopes.{Stayed}
 
 module _ {V : Type 0} where
   -- each element stood there before, with its key and its value as they were, or has such a value
-  abbrev pub Written : (V → List BlockRef) → (V → Type 0) → Bases V → Bases V → Blocks → Blocks → Type 0
+  abbrev pub Written : (Blocks → V → List BlockRef) → (V → Type 0) → Bases V → Bases V → Blocks → Blocks → Type 0
   Written refs_of Is old new m after = (db at : ℕ) (element : Element V) → item (table_at new db) at ≡ Some element
       → Stayed refs_of old m after db at element ⊎ Is element.value

@@ -1,7 +1,7 @@
 ghost use Rattle.std.specs.Prelude.{◌≡◌, ◌≢◌, ◌<◌, ◌≤◌, ◌+◌, ◌%◌, ◌⊎◌, ℕ, List, false, Ok, IfOk, IfErr, OnOk, OnErr, Some, IfSome, IfNone, IsSome, IsTrue, length, replicate};
 ghost use Rattle.std.specs.FinMap.{get, insert, remove};
 ghost use Rattle.blocks.specs.Blocks.{Blocks, bytes_at};
-ghost use Rattle.rehash_dict.specs.Tables.{removed, IsSettled};
+ghost use Rattle.rehash_dict.specs.Tables.{removed, shrunk, IsSettled};
 ghost use Rattle.rehash_dict.specs.Table.{table_len, tables};
 ghost use Rattle.rehash_dict.specs.Keyed.{hash_of, same_key, key_tables};
 ghost use Rattle.rehash_dict.specs.Steps.{Renames};
@@ -313,6 +313,8 @@ impl<V: Drop> Databases<V> {
         ensures keyed { (blocks : Blocks) → Keyed blocks (table_at self.old db) → Keyed blocks (table_at self.new db) }
         ensures grown { (blocks : Blocks) → TableGrows blocks (table_at self.old db) (table_at self.new db) }
         ensures settled { OnOk result (IsSettled (tables (table_at self.new db))) }
+        ensures tables { (blocks : Blocks) → OnOk result (key_tables blocks (table_at self.new db) ≡ shrunk (key_tables blocks (table_at self.old db))) }
+        ensures err { OnErr result (table_at self.new db ≡ table_at self.old db) }
     {
         let began = self.bases[db].keys.shrink();
         self.stirs = stirs_behind(self.stirs, &began);
@@ -329,6 +331,8 @@ impl<V: Drop> Databases<V> {
         ensures grown { (blocks : Blocks) → Grows blocks (deadlines_at self.old db) (deadlines_at self.new db) }
         ensures cursor { KeepsCursor (deadlines_at self.old db) (deadlines_at self.new db) }
         ensures settled { OnOk result (IsSettled (tables (deadlines_at self.new db).table)) }
+        ensures tables { (blocks : Blocks) → OnOk result (key_tables blocks (deadlines_at self.new db).table ≡ shrunk (key_tables blocks (deadlines_at self.old db).table)) }
+        ensures err { OnErr result (deadlines_at self.new db ≡ deadlines_at self.old db) }
     {
         let began = self.bases[db].deadlines.shrink();
         self.stirs = stirs_behind(self.stirs, &began);

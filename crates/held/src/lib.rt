@@ -4,7 +4,6 @@
 mod databases;
 mod expiring;
 mod gone;
-mod held;
 mod keyspace;
 mod moving;
 mod rehash;
@@ -12,6 +11,6 @@ mod relocate;
 mod seeking;
 
 pub use databases::{Base, Databases};
-pub use held::Held;
 pub use keyspace::{Keyspace, Lifted};
 pub use seeking::{Sought, SoughtAt};
+pub use stored::Stored;

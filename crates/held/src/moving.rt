@@ -9,11 +9,12 @@ ghost use Rattle.held.specs.Calls.{HasValue, HasOnly, IsDeadline, Seeks};
 ghost use Rattle.held.specs.Scopes.{one_key, two_keys, Within};
 ghost use Rattle.held.specs.Written.{Written};
 
-use crate::{Held, Keyspace, Sought, SoughtAt};
+use crate::{Keyspace, Sought, SoughtAt};
 use blocks::{BlockStore, Memory};
 use std::alloc::AllocError;
+use stored::Stored;
 
-impl<V: Held, B: BlockStore> Keyspace<V, B> {
+impl<V: Stored, B: BlockStore> Keyspace<V, B> {
     /// Moves what stands at a key, its deadline with it, to another key of this or another database, as `rename_sought` does.
     pub fn rename(
         &mut self,
@@ -24,15 +25,17 @@ impl<V: Held, B: BlockStore> Keyspace<V, B> {
     ) -> Result<bool, Memory>
         requires db { db < 16 }
         requires to_db { to_db < 16 }
-        requires intact { IsIntact V.refs_of self.old.bases (B.blocks self.old.store) [] }
+        requires intact { IsIntact V.refs_of V.IsSound self.old.bases (B.blocks self.old.store) [] }
         ensures answer { IfOk result (λ there. there ≡ is_some (look (means V.value_of db self.old.bases (B.blocks self.old.store)) from.now)) }
         ensures means { OnOk result (((db ≡ to_db) × (from.now ≡ to.now) → ⊥) → (entry : Entry) → look (means V.value_of db self.old.bases (B.blocks self.old.store)) from.now ≡ Some entry → means V.value_of db self.new.bases (B.blocks self.new.store) ≡ put_in (remove (means V.value_of db self.old.bases (B.blocks self.old.store)) from.now) to_db to.now entry) }
         ensures same { db ≡ to_db → from.now ≡ to.now → (self.new.bases ≡ self.old.bases) × (self.new.store ≡ self.old.store) }
-        ensures writes { OnOk result ((out : List BlockRef) → SoundBeside V.refs_of self.old.bases (B.blocks self.old.store) out → Written V.refs_of (HasValue self.old.bases (B.blocks self.old.store) db from.now) self.old.bases self.new.bases (B.blocks self.old.store) (B.blocks self.new.store)) }
+        ensures writes { OnOk result ((out : List BlockRef) → SoundBeside V.refs_of V.IsSound self.old.bases (B.blocks self.old.store) out → Written V.refs_of (HasValue self.old.bases (B.blocks self.old.store) db from.now) self.old.bases self.new.bases (B.blocks self.old.store) (B.blocks self.new.store)) }
         ensures absent { look (means V.value_of db self.old.bases (B.blocks self.old.store)) from.now ≡ None → (self.new.bases ≡ self.old.bases) × (self.new.store ≡ self.old.store) }
         ensures err { OnErr result (means V.value_of db self.new.bases (B.blocks self.new.store) ≡ means V.value_of db self.old.bases (B.blocks self.old.store)) }
-        ensures sound { (out : List BlockRef) → SoundBeside V.refs_of self.old.bases (B.blocks self.old.store) out → SoundBeside V.refs_of self.new.bases (B.blocks self.new.store) out }
-        ensures changes { Changes (B.blocks self.old.store) (B.blocks self.new.store) (owned V.refs_of self.old.bases) (owned V.refs_of self.new.bases) }
+        ensures err_blocks { OnErr result (B.blocks self.new.store ≡ B.blocks self.old.store) }
+        ensures err_owned { OnErr result ((r : BlockRef) → times r (owned (V.refs_of (B.blocks self.new.store)) self.new.bases) ≡ times r (owned (V.refs_of (B.blocks self.old.store)) self.old.bases)) }
+        ensures sound { (out : List BlockRef) → SoundBeside V.refs_of V.IsSound self.old.bases (B.blocks self.old.store) out → SoundBeside V.refs_of V.IsSound self.new.bases (B.blocks self.new.store) out }
+        ensures changes { Changes (B.blocks self.old.store) (B.blocks self.new.store) (owned (V.refs_of (B.blocks self.old.store)) self.old.bases) (owned (V.refs_of (B.blocks self.new.store)) self.new.bases) }
         ensures served { Served B.step self.old.store self.new.store }
         ensures settings { SameSettings self.old.bases self.new.bases }
         ensures within { Within V.refs_of (two_keys db from.now to_db to.now) self.old.bases self.new.bases (B.blocks self.old.store) (B.blocks self.new.store) }
@@ -46,7 +49,7 @@ impl<V: Held, B: BlockStore> Keyspace<V, B> {
     /// sought too. What stood there is released, and its deadline goes. A key that is gone moves too.
     ///
     /// The answer is whether the key is there; where it isn't, nothing changes. Where both are one key of one database nothing
-    /// changes either. `Memory` leaves the keys and their deadlines.
+    /// changes either. `Memory` leaves the keys, their deadlines, and the blocks that are owned.
     pub fn rename_sought(
         &mut self,
         db: usize,
@@ -58,18 +61,20 @@ impl<V: Held, B: BlockStore> Keyspace<V, B> {
     ) -> Result<bool, Memory>
         requires db { db < 16 }
         requires to_db { to_db < 16 }
-        requires intact { IsIntact V.refs_of self.old.bases (B.blocks self.old.store) [] }
+        requires intact { IsIntact V.refs_of V.IsSound self.old.bases (B.blocks self.old.store) [] }
         requires seeks { Seeks self.old.bases (B.blocks self.old.store) db from.now found.sought }
         requires place { Seeks self.old.bases (B.blocks self.old.store) to_db to.now place }
         requires lasts { found.deadline ≡ deadline_of (look (means V.value_of db self.old.bases (B.blocks self.old.store)) from.now) }
         ensures answer { IfOk result (λ there. there ≡ is_some (look (means V.value_of db self.old.bases (B.blocks self.old.store)) from.now)) }
         ensures means { OnOk result (((db ≡ to_db) × (from.now ≡ to.now) → ⊥) → (entry : Entry) → look (means V.value_of db self.old.bases (B.blocks self.old.store)) from.now ≡ Some entry → means V.value_of db self.new.bases (B.blocks self.new.store) ≡ put_in (remove (means V.value_of db self.old.bases (B.blocks self.old.store)) from.now) to_db to.now entry) }
         ensures same { db ≡ to_db → from.now ≡ to.now → (self.new.bases ≡ self.old.bases) × (self.new.store ≡ self.old.store) }
-        ensures writes { OnOk result ((out : List BlockRef) → SoundBeside V.refs_of self.old.bases (B.blocks self.old.store) out → Written V.refs_of (HasValue self.old.bases (B.blocks self.old.store) db from.now) self.old.bases self.new.bases (B.blocks self.old.store) (B.blocks self.new.store)) }
+        ensures writes { OnOk result ((out : List BlockRef) → SoundBeside V.refs_of V.IsSound self.old.bases (B.blocks self.old.store) out → Written V.refs_of (HasValue self.old.bases (B.blocks self.old.store) db from.now) self.old.bases self.new.bases (B.blocks self.old.store) (B.blocks self.new.store)) }
         ensures absent { look (means V.value_of db self.old.bases (B.blocks self.old.store)) from.now ≡ None → (self.new.bases ≡ self.old.bases) × (self.new.store ≡ self.old.store) }
         ensures err { OnErr result (means V.value_of db self.new.bases (B.blocks self.new.store) ≡ means V.value_of db self.old.bases (B.blocks self.old.store)) }
-        ensures sound { (out : List BlockRef) → SoundBeside V.refs_of self.old.bases (B.blocks self.old.store) out → SoundBeside V.refs_of self.new.bases (B.blocks self.new.store) out }
-        ensures changes { Changes (B.blocks self.old.store) (B.blocks self.new.store) (owned V.refs_of self.old.bases) (owned V.refs_of self.new.bases) }
+        ensures err_blocks { OnErr result (B.blocks self.new.store ≡ B.blocks self.old.store) }
+        ensures err_owned { OnErr result ((r : BlockRef) → times r (owned (V.refs_of (B.blocks self.new.store)) self.new.bases) ≡ times r (owned (V.refs_of (B.blocks self.old.store)) self.old.bases)) }
+        ensures sound { (out : List BlockRef) → SoundBeside V.refs_of V.IsSound self.old.bases (B.blocks self.old.store) out → SoundBeside V.refs_of V.IsSound self.new.bases (B.blocks self.new.store) out }
+        ensures changes { Changes (B.blocks self.old.store) (B.blocks self.new.store) (owned (V.refs_of (B.blocks self.old.store)) self.old.bases) (owned (V.refs_of (B.blocks self.new.store)) self.new.bases) }
         ensures served { Served B.step self.old.store self.new.store }
         ensures settings { SameSettings self.old.bases self.new.bases }
         ensures within { Within V.refs_of (two_keys db from.now to_db to.now) self.old.bases self.new.bases (B.blocks self.old.store) (B.blocks self.new.store) }

@@ -8,17 +8,18 @@ ghost use Rattle.held.specs.Sound.{IsIntact, SoundBeside};
 ghost use Rattle.held.specs.Table.{item};
 ghost use Rattle.held.specs.Relocation.{Relocates, PassesName, PassesElement};
 
-use crate::{Held, Keyspace};
+use crate::Keyspace;
 use blocks::{BlockStore, Moved, settle};
+use stored::Stored;
 
-impl<V: Held, B: BlockStore> Keyspace<V, B> {
+impl<V: Stored, B: BlockStore> Keyspace<V, B> {
     // Moves the block of a key, and lets both tables name it where it stands then.
     fn move_name(&mut self, db: usize, at: usize)
         requires db { db < 16 }
         requires element { IsSome (item (table_at self.old.bases db) at) }
-        requires intact { IsIntact V.refs_of self.old.bases (B.blocks self.old.store) [] }
-        ensures relocates { Relocates V.refs_of V.value_of self.old.bases self.new.bases (B.blocks self.old.store) (B.blocks self.new.store) }
-        ensures passes { PassesName (B.heap self.new.store) self.old.bases self.new.bases db at }
+        requires intact { IsIntact V.refs_of V.IsSound self.old.bases (B.blocks self.old.store) [] }
+        ensures relocates { Relocates V.refs_of V.value_of V.IsSound self.old.bases self.new.bases (B.blocks self.old.store) (B.blocks self.new.store) }
+        ensures passes { PassesName V.refs_of (B.blocks self.old.store) (B.blocks self.new.store) (B.heap self.new.store) self.old.bases self.new.bases db at }
         ensures calmer { Calmer (B.heap self.old.store) (B.heap self.new.store) }
     {
         let name = self.bases.key(db, at);
@@ -36,9 +37,9 @@ impl<V: Held, B: BlockStore> Keyspace<V, B> {
     fn pass_name(&mut self, db: usize, at: usize)
         requires db { db < 16 }
         requires element { IsSome (item (table_at self.old.bases db) at) }
-        requires intact { IsIntact V.refs_of self.old.bases (B.blocks self.old.store) [] }
-        ensures relocates { Relocates V.refs_of V.value_of self.old.bases self.new.bases (B.blocks self.old.store) (B.blocks self.new.store) }
-        ensures passes { PassesName (B.heap self.new.store) self.old.bases self.new.bases db at }
+        requires intact { IsIntact V.refs_of V.IsSound self.old.bases (B.blocks self.old.store) [] }
+        ensures relocates { Relocates V.refs_of V.value_of V.IsSound self.old.bases self.new.bases (B.blocks self.old.store) (B.blocks self.new.store) }
+        ensures passes { PassesName V.refs_of (B.blocks self.old.store) (B.blocks self.new.store) (B.heap self.new.store) self.old.bases self.new.bases db at }
         ensures calmer { Calmer (B.heap self.old.store) (B.heap self.new.store) }
     {
         let name = self.bases.key(db, at);
@@ -52,9 +53,9 @@ impl<V: Held, B: BlockStore> Keyspace<V, B> {
         requires db { db < 16 }
         requires element { IsSome (item (table_at self.old.bases db) at) }
         requires room { 32 ≤ room }
-        requires intact { IsIntact V.refs_of self.old.bases (B.blocks self.old.store) [] }
-        ensures relocates { Relocates V.refs_of V.value_of self.old.bases self.new.bases (B.blocks self.old.store) (B.blocks self.new.store) }
-        ensures passes { PassesElement V.refs_of V.marks V.encoding (B.heap self.new.store) self.old.bases self.new.bases db at (Some from) room result }
+        requires intact { IsIntact V.refs_of V.IsSound self.old.bases (B.blocks self.old.store) [] }
+        ensures relocates { Relocates V.refs_of V.value_of V.IsSound self.old.bases self.new.bases (B.blocks self.old.store) (B.blocks self.new.store) }
+        ensures passes { PassesElement V.refs_of V.marks V.tables V.encoding (B.blocks self.old.store) (B.blocks self.new.store) (B.heap self.new.store) self.old.bases self.new.bases db at (Some from) room result }
         ensures calmer { Calmer (B.heap self.old.store) (B.heap self.new.store) }
     {
         let mut value = self.bases.swap_value(db, at, V::zero());
@@ -77,10 +78,10 @@ impl<V: Held, B: BlockStore> Keyspace<V, B> {
         requires db { db < 16 }
         requires element { IsSome (item (table_at self.old.bases db) at) }
         requires room { 33 ≤ room }
-        requires intact { IsIntact V.refs_of self.old.bases (B.blocks self.old.store) [] }
-        ensures relocates { Relocates V.refs_of V.value_of self.old.bases self.new.bases (B.blocks self.old.store) (B.blocks self.new.store) }
-        ensures sound { (out : List BlockRef) → SoundBeside V.refs_of self.old.bases (B.blocks self.old.store) out → SoundBeside V.refs_of self.new.bases (B.blocks self.new.store) out }
-        ensures passes { PassesElement V.refs_of V.marks V.encoding (B.heap self.new.store) self.old.bases self.new.bases db at mark room result }
+        requires intact { IsIntact V.refs_of V.IsSound self.old.bases (B.blocks self.old.store) [] }
+        ensures relocates { Relocates V.refs_of V.value_of V.IsSound self.old.bases self.new.bases (B.blocks self.old.store) (B.blocks self.new.store) }
+        ensures sound { (out : List BlockRef) → SoundBeside V.refs_of V.IsSound self.old.bases (B.blocks self.old.store) out → SoundBeside V.refs_of V.IsSound self.new.bases (B.blocks self.new.store) out }
+        ensures passes { PassesElement V.refs_of V.marks V.tables V.encoding (B.blocks self.old.store) (B.blocks self.new.store) (B.heap self.new.store) self.old.bases self.new.bases db at mark room result }
         ensures calmer { Calmer (B.heap self.old.store) (B.heap self.new.store) }
     {
         let Some(from) = mark else {

@@ -5,15 +5,16 @@ ghost use Rattle.plain_world.specs.Worlds.{Entry, live, look, put};
 ghost use Rattle.rehash_dict.specs.Keyed.{hash_of};
 ghost use Rattle.expiry.specs.Timed.{moments};
 ghost use Rattle.held.specs.Databases.{means, owned, SameSettings, table_at, deadlines_at, with_deadline, ChangesDeadlines};
-ghost use Rattle.held.specs.Sound.{IsArranged, IsIntact, SoundBeside};
+ghost use Rattle.held.specs.Sound.{IsArranged, IsIntact, IsIntactWith, SoundBeside};
 ghost use Rattle.held.specs.Table.{item, Stands, Lacks};
 ghost use Rattle.held.specs.Scopes.{one_key, no_key, Within};
 ghost use Rattle.held.specs.Calls.{HasOnly, Found, StandsAt, Seeks, IsDeadline, Lifts, AreParts, Sees};
 
 use crate::keyspace::is_in_time;
-use crate::{Held, Keyspace, Lifted};
+use crate::{Keyspace, Lifted};
 use blocks::{BlockStore, Memory, put_block};
 use std::alloc::AllocError;
+use stored::Stored;
 
 /// What a search for a key found. It holds as long as no key joins its database or leaves it.
 #[derive(Clone, Copy)]
@@ -37,11 +38,11 @@ pub struct SoughtAt {
     pub deadline: Option<u64>,
 }
 
-impl<V: Held, B: BlockStore> Keyspace<V, B> {
+impl<V: Stored, B: BlockStore> Keyspace<V, B> {
     /// Seeks a key: it is hashed once, and searched for once in the table of the keys.
     pub fn seek(&self, db: usize, key: &[u8]) -> Sought
         requires db { db < 16 }
-        requires arranged { IsArranged self.now.bases (B.blocks self.now.store) }
+        requires arranged { IsArranged V.IsSound self.now.bases (B.blocks self.now.store) }
         ensures { Seeks self.now.bases (B.blocks self.now.store) db key.now result }
     {
         let hash = self.bases.hash(db, key);
@@ -52,7 +53,7 @@ impl<V: Held, B: BlockStore> Keyspace<V, B> {
     /// Seeks a key, and its deadline by the same hash, to say whether it is there at the moment, in milliseconds.
     pub fn seek_at(&self, db: usize, key: &[u8], moment: u64) -> SoughtAt
         requires db { db < 16 }
-        requires arranged { IsArranged self.now.bases (B.blocks self.now.store) }
+        requires arranged { IsArranged V.IsSound self.now.bases (B.blocks self.now.store) }
         ensures { Sees V.value_of self.now.bases (B.blocks self.now.store) db key.now moment result }
     {
         let sought = self.seek(db, key);
@@ -86,7 +87,7 @@ impl<V: Held, B: BlockStore> Keyspace<V, B> {
     /// The value of an item number.
     pub fn value_at(&self, db: usize, at: usize) -> &V
         requires db { db < 16 }
-        requires intact { IsIntact V.refs_of self.now.bases (B.blocks self.now.store) [] }
+        requires intact { IsIntact V.refs_of V.IsSound self.now.bases (B.blocks self.now.store) [] }
         requires item { IsSome (item (table_at self.now.bases db) at) }
         ensures { (key : List ℕ) (moment : ℕ) → StandsAt self.now.bases (B.blocks self.now.store) db key moment at → Found V.refs_of V.value_of self.now.bases (B.blocks self.now.store) db key moment result.now }
     {
@@ -96,10 +97,10 @@ impl<V: Held, B: BlockStore> Keyspace<V, B> {
     /// Takes out the value of an item number; `vacant`, which owns no block, then stands there.
     pub fn lift_at(&mut self, db: usize, at: usize) -> Lifted<V>
         requires db { db < 16 }
-        requires intact { IsIntact V.refs_of self.old.bases (B.blocks self.old.store) [] }
+        requires intact { IsIntact V.refs_of V.IsSound self.old.bases (B.blocks self.old.store) [] }
         requires item { IsSome (item (table_at self.old.bases db) at) }
         ensures lifts { (key : List ℕ) (moment : ℕ) → StandsAt self.old.bases (B.blocks self.old.store) db key moment at → Lifts V.refs_of V.value_of V.vacant self.old.bases self.new.bases (B.blocks self.old.store) db key moment result }
-        ensures sound { (key : List ℕ) (moment : ℕ) → StandsAt self.old.bases (B.blocks self.old.store) db key moment at → (out : List BlockRef) → SoundBeside V.refs_of self.old.bases (B.blocks self.old.store) out → SoundBeside V.refs_of self.new.bases (B.blocks self.old.store) (V.refs_of result.value ++ out) }
+        ensures sound { (key : List ℕ) (moment : ℕ) → StandsAt self.old.bases (B.blocks self.old.store) db key moment at → (out : List BlockRef) → SoundBeside V.refs_of V.IsSound self.old.bases (B.blocks self.old.store) out → SoundBeside V.refs_of V.IsSound self.new.bases (B.blocks self.old.store) (V.refs_of (B.blocks self.old.store) result.value ++ out) }
         ensures within { (key : List ℕ) (moment : ℕ) → StandsAt self.old.bases (B.blocks self.old.store) db key moment at → Within V.refs_of (one_key db key) self.old.bases self.new.bases (B.blocks self.old.store) (B.blocks self.old.store) }
         ensures store { self.new.store ≡ self.old.store }
         ensures settings { SameSettings self.old.bases self.new.bases }
@@ -115,13 +116,13 @@ impl<V: Held, B: BlockStore> Keyspace<V, B> {
     /// Gives a key another deadline, in milliseconds, or takes the one away that it has, as `set_sought` does.
     pub fn set_deadline(&mut self, db: usize, key: &[u8], to: Option<u64>) -> Result<bool, Memory>
         requires db { db < 16 }
-        requires intact { IsIntact V.refs_of self.old.bases (B.blocks self.old.store) [] }
+        requires intact { IsIntact V.refs_of V.IsSound self.old.bases (B.blocks self.old.store) [] }
         requires latest { IsDeadline to }
         ensures answer { IfOk result (λ there. there ≡ is_some (look (means V.value_of db self.old.bases (B.blocks self.old.store)) key.now)) }
         ensures means { OnOk result ((entry : Entry) → look (means V.value_of db self.old.bases (B.blocks self.old.store)) key.now ≡ Some entry → means V.value_of db self.new.bases (B.blocks self.old.store) ≡ put (means V.value_of db self.old.bases (B.blocks self.old.store)) key.now (record { value = entry.value; deadline = to })) }
         ensures absent { look (means V.value_of db self.old.bases (B.blocks self.old.store)) key.now ≡ None → self.new.bases ≡ self.old.bases }
         ensures err { OnErr result (self.new.bases ≡ self.old.bases) }
-        ensures sound { (out : List BlockRef) → SoundBeside V.refs_of self.old.bases (B.blocks self.old.store) out → SoundBeside V.refs_of self.new.bases (B.blocks self.old.store) out }
+        ensures sound { (out : List BlockRef) → SoundBeside V.refs_of V.IsSound self.old.bases (B.blocks self.old.store) out → SoundBeside V.refs_of V.IsSound self.new.bases (B.blocks self.old.store) out }
         ensures store { self.new.store ≡ self.old.store }
         ensures settings { SameSettings self.old.bases self.new.bases }
         ensures within { Within V.refs_of (no_key db) self.old.bases self.new.bases (B.blocks self.old.store) (B.blocks self.old.store) }
@@ -142,7 +143,7 @@ impl<V: Held, B: BlockStore> Keyspace<V, B> {
         to: Option<u64>,
     ) -> Result<bool, Memory>
         requires db { db < 16 }
-        requires intact { IsIntact V.refs_of self.old.bases (B.blocks self.old.store) [] }
+        requires intact { IsIntact V.refs_of V.IsSound self.old.bases (B.blocks self.old.store) [] }
         requires seeks { Seeks self.old.bases (B.blocks self.old.store) db key.now found.sought }
         requires timed { IfSome found.timed (λ at. Stands (B.blocks self.old.store) (deadlines_at self.old.bases db).table at key.now) }
         requires untimed { IfNone found.timed (Lacks (B.blocks self.old.store) (deadlines_at self.old.bases db).table key.now) }
@@ -151,7 +152,7 @@ impl<V: Held, B: BlockStore> Keyspace<V, B> {
         ensures means { OnOk result ((entry : Entry) → look (means V.value_of db self.old.bases (B.blocks self.old.store)) key.now ≡ Some entry → means V.value_of db self.new.bases (B.blocks self.old.store) ≡ put (means V.value_of db self.old.bases (B.blocks self.old.store)) key.now (record { value = entry.value; deadline = to })) }
         ensures absent { look (means V.value_of db self.old.bases (B.blocks self.old.store)) key.now ≡ None → self.new.bases ≡ self.old.bases }
         ensures err { OnErr result (self.new.bases ≡ self.old.bases) }
-        ensures sound { (out : List BlockRef) → SoundBeside V.refs_of self.old.bases (B.blocks self.old.store) out → SoundBeside V.refs_of self.new.bases (B.blocks self.old.store) out }
+        ensures sound { (out : List BlockRef) → SoundBeside V.refs_of V.IsSound self.old.bases (B.blocks self.old.store) out → SoundBeside V.refs_of V.IsSound self.new.bases (B.blocks self.old.store) out }
         ensures store { self.new.store ≡ self.old.store }
         ensures settings { SameSettings self.old.bases self.new.bases }
         ensures within { Within V.refs_of (no_key db) self.old.bases self.new.bases (B.blocks self.old.store) (B.blocks self.old.store) }
@@ -177,14 +178,14 @@ impl<V: Held, B: BlockStore> Keyspace<V, B> {
         deadline: Option<u64>,
     ) -> Result<(), Memory>
         requires db { db < 16 }
-        requires arranged { IsArranged self.old.bases (B.blocks self.old.store) }
+        requires arranged { IsArranged V.IsSound self.old.bases (B.blocks self.old.store) }
         requires stands { Stands (B.blocks self.old.store) (table_at self.old.bases db) at key.now }
         requires hashed { hash ≡ hash_of (table_at self.old.bases db).seed key.now }
         requires timed { IfSome timed (λ item. Stands (B.blocks self.old.store) (deadlines_at self.old.bases db).table item key.now) }
         requires untimed { IfNone timed (Lacks (B.blocks self.old.store) (deadlines_at self.old.bases db).table key.now) }
         requires latest { IsDeadline deadline }
         ensures changes { ChangesDeadlines self.old.bases self.new.bases db }
-        ensures arranged { IsArranged self.new.bases (B.blocks self.old.store) }
+        ensures arranged { IsArranged V.IsSound self.new.bases (B.blocks self.old.store) }
         ensures times { OnOk result (moments (B.blocks self.old.store) (deadlines_at self.new.bases db) ≡ with_deadline (moments (B.blocks self.old.store) (deadlines_at self.old.bases db)) key.now deadline) }
         ensures err { OnErr result (self.new.bases ≡ self.old.bases) }
         ensures store { self.new.store ≡ self.old.store }
@@ -218,16 +219,16 @@ impl<V: Held, B: BlockStore> Keyspace<V, B> {
     ) -> Result<(), V>
         requires db { db < 16 }
         requires latest { IsDeadline deadline }
-        requires intact { IsIntact V.refs_of self.old.bases (B.blocks self.old.store) (V.refs_of value) }
+        requires intact { IsIntactWith V.refs_of V.IsSound self.old.bases (B.blocks self.old.store) value }
         requires seeks { Seeks self.old.bases (B.blocks self.old.store) db key.now sought }
         ensures means { OnOk result (means V.value_of db self.new.bases (B.blocks self.new.store) ≡ put (means V.value_of db self.old.bases (B.blocks self.old.store)) key.now (record { value = V.value_of (B.blocks self.old.store) value; deadline = deadline })) }
         ensures has { OnOk result (HasOnly self.new.bases (B.blocks self.new.store) db key.now value) }
         ensures kept { OnErr result (means V.value_of db self.new.bases (B.blocks self.new.store) ≡ means V.value_of db self.old.bases (B.blocks self.old.store)) }
-        ensures arranged { IsArranged self.new.bases (B.blocks self.new.store) }
-        ensures changes { OnOk result (Changes (B.blocks self.old.store) (B.blocks self.new.store) (owned V.refs_of self.old.bases ++ V.refs_of value) (owned V.refs_of self.new.bases)) }
+        ensures arranged { IsArranged V.IsSound self.new.bases (B.blocks self.new.store) }
+        ensures changes { OnOk result (Changes (B.blocks self.old.store) (B.blocks self.new.store) (owned (V.refs_of (B.blocks self.old.store)) self.old.bases ++ V.refs_of (B.blocks self.old.store) value) (owned (V.refs_of (B.blocks self.new.store)) self.new.bases)) }
         ensures err_blocks { OnErr result (B.blocks self.new.store ≡ B.blocks self.old.store) }
         ensures err_keys { OnErr result ((number : ℕ) → table_at self.new.bases number ≡ table_at self.old.bases number) }
-        ensures err_owned { OnErr result ((r : BlockRef) → times r (owned V.refs_of self.new.bases) ≡ times r (owned V.refs_of self.old.bases)) }
+        ensures err_owned { OnErr result ((r : BlockRef) → times r (owned (V.refs_of (B.blocks self.new.store)) self.new.bases) ≡ times r (owned (V.refs_of (B.blocks self.old.store)) self.old.bases)) }
         ensures value_returned { IfErr result (λ refused. refused ≡ value) }
         ensures served { Served B.step self.old.store self.new.store }
         ensures settings { SameSettings self.old.bases self.new.bases }
@@ -257,17 +258,17 @@ impl<V: Held, B: BlockStore> Keyspace<V, B> {
     ) -> Result<(), V>
         requires db { db < 16 }
         requires latest { IsDeadline deadline }
-        requires intact { IsIntact V.refs_of self.old.bases (B.blocks self.old.store) (V.refs_of value) }
+        requires intact { IsIntactWith V.refs_of V.IsSound self.old.bases (B.blocks self.old.store) value }
         requires hashed { hash ≡ hash_of (table_at self.old.bases db).seed key.now }
         requires lacks { Lacks (B.blocks self.old.store) (table_at self.old.bases db) key.now }
         ensures means { OnOk result (means V.value_of db self.new.bases (B.blocks self.new.store) ≡ put (means V.value_of db self.old.bases (B.blocks self.old.store)) key.now (record { value = V.value_of (B.blocks self.old.store) value; deadline = deadline })) }
         ensures has { OnOk result (HasOnly self.new.bases (B.blocks self.new.store) db key.now value) }
         ensures kept { OnErr result (means V.value_of db self.new.bases (B.blocks self.new.store) ≡ means V.value_of db self.old.bases (B.blocks self.old.store)) }
-        ensures arranged { IsArranged self.new.bases (B.blocks self.new.store) }
-        ensures changes { OnOk result (Changes (B.blocks self.old.store) (B.blocks self.new.store) (owned V.refs_of self.old.bases ++ V.refs_of value) (owned V.refs_of self.new.bases)) }
+        ensures arranged { IsArranged V.IsSound self.new.bases (B.blocks self.new.store) }
+        ensures changes { OnOk result (Changes (B.blocks self.old.store) (B.blocks self.new.store) (owned (V.refs_of (B.blocks self.old.store)) self.old.bases ++ V.refs_of (B.blocks self.old.store) value) (owned (V.refs_of (B.blocks self.new.store)) self.new.bases)) }
         ensures err_blocks { OnErr result (B.blocks self.new.store ≡ B.blocks self.old.store) }
         ensures err_keys { OnErr result ((number : ℕ) → table_at self.new.bases number ≡ table_at self.old.bases number) }
-        ensures err_owned { OnErr result ((r : BlockRef) → times r (owned V.refs_of self.new.bases) ≡ times r (owned V.refs_of self.old.bases)) }
+        ensures err_owned { OnErr result ((r : BlockRef) → times r (owned (V.refs_of (B.blocks self.new.store)) self.new.bases) ≡ times r (owned (V.refs_of (B.blocks self.old.store)) self.old.bases)) }
         ensures value_returned { IfErr result (λ refused. refused ≡ value) }
         ensures served { Served B.step self.old.store self.new.store }
         ensures settings { SameSettings self.old.bases self.new.bases }
@@ -299,15 +300,15 @@ impl<V: Held, B: BlockStore> Keyspace<V, B> {
     ) -> Result<(), Memory>
         requires db { db < 16 }
         requires latest { IsDeadline deadline }
-        requires intact { IsIntact V.refs_of self.old.bases (B.blocks self.old.store) (V.refs_of value) }
+        requires intact { IsIntactWith V.refs_of V.IsSound self.old.bases (B.blocks self.old.store) value }
         requires seeks { Seeks self.old.bases (B.blocks self.old.store) db key.now sought }
         ensures means { OnOk result (means V.value_of db self.new.bases (B.blocks self.new.store) ≡ put (means V.value_of db self.old.bases (B.blocks self.old.store)) key.now (record { value = V.value_of (B.blocks self.old.store) value; deadline = deadline })) }
         ensures has { OnOk result (HasOnly self.new.bases (B.blocks self.new.store) db key.now value) }
         ensures kept { OnErr result (means V.value_of db self.new.bases (B.blocks self.new.store) ≡ means V.value_of db self.old.bases (B.blocks self.old.store)) }
-        ensures sound { (all out : List BlockRef) → SoundBeside V.refs_of self.old.bases (B.blocks self.old.store) all → AreParts all (V.refs_of value) out → SoundBeside V.refs_of self.new.bases (B.blocks self.new.store) out }
-        ensures changes { Changes (B.blocks self.old.store) (B.blocks self.new.store) (owned V.refs_of self.old.bases ++ V.refs_of value) (owned V.refs_of self.new.bases) }
+        ensures sound { (all out : List BlockRef) → SoundBeside V.refs_of V.IsSound self.old.bases (B.blocks self.old.store) all → AreParts all (V.refs_of (B.blocks self.old.store) value) out → SoundBeside V.refs_of V.IsSound self.new.bases (B.blocks self.new.store) out }
+        ensures changes { Changes (B.blocks self.old.store) (B.blocks self.new.store) (owned (V.refs_of (B.blocks self.old.store)) self.old.bases ++ V.refs_of (B.blocks self.old.store) value) (owned (V.refs_of (B.blocks self.new.store)) self.new.bases) }
         ensures err_keys { OnErr result ((number : ℕ) → table_at self.new.bases number ≡ table_at self.old.bases number) }
-        ensures err_blocks { OnErr result (Changes (B.blocks self.old.store) (B.blocks self.new.store) (V.refs_of value) []) }
+        ensures err_blocks { OnErr result (Changes (B.blocks self.old.store) (B.blocks self.new.store) (V.refs_of (B.blocks self.old.store) value) []) }
         ensures served { Served B.step self.old.store self.new.store }
         ensures settings { SameSettings self.old.bases self.new.bases }
         ensures within { Within V.refs_of (one_key db key.now) self.old.bases self.new.bases (B.blocks self.old.store) (B.blocks self.new.store) }

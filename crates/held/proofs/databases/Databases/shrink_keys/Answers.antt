@@ -1,3 +1,6 @@
+use Rattle.std.specs.Prelude.{◌≡◌, OnOk, OnErr}
+use Rattle.rehash_dict.specs.Tables.{shrunk}
+use Rattle.rehash_dict.specs.Keyed.{key_tables}
 use Rattle.std.proofs.Common.{◌<◌, length, refl, sym, ap, subst}
 use Rattle.blocks.specs.Blocks.{Blocks}
 use Rattle.held.specs.Databases.{Bases}
@@ -23,3 +26,13 @@ invariant_of-self g c none =
     still_set was _ c.args.db c.index_mut.result.now _ refl (subst (λ (b : Bases _). c.args.db < length b.bases) (sym c.self.view_is) c.requires.db) c.index_mut.ensures.value
     (going_shrunk c.index_mut.result.now.keys c.shrink-began.new.self c.shrink-began.result c.shrink-began.ensures.value c.shrink-began.ensures.tables calm.1)
     refl (c.self.invariant calm.0)
+
+pub returns-clause-tables : goal.returns-clause-tables
+returns-clause-tables g c =
+    in_place c.self.inside.bases.items c.args.self.now c.args.db c.index_mut.result.now _ (λ old new. (blocks : Blocks) → OnOk c.shrink-began.result (key_tables blocks new.keys ≡ shrunk (key_tables blocks old.keys)))
+    (ap (λ (b : Bases _). b.bases) c.self.view_is) c.requires.db c.index_mut.ensures.value c.shrink-began.ensures.tables
+
+pub returns-clause-err : goal.returns-clause-err
+returns-clause-err g c =
+    in_place c.self.inside.bases.items c.args.self.now c.args.db c.index_mut.result.now _ (λ old new. OnErr c.shrink-began.result (new.keys ≡ old.keys))
+    (ap (λ (b : Bases _). b.bases) c.self.view_is) c.requires.db c.index_mut.ensures.value c.shrink-began.ensures.err
