@@ -1,5 +1,5 @@
 -- A value is lifted, copied and lowered again.
-use Rattle.std.proofs.Common.{◌≡◌, inl, inr, ℕ, ◌≤◌, List, [], ◌++◌, ◌∷◌, Option, Some, true, false, Result, Ok, Err, IfOk, OnOk, OnErr, refl, sym, ap, ◌∙◌, subst, arith}
+use Rattle.std.proofs.Common.{◌≡◌, inl, inr, ℕ, ◌<◌, ◌≤◌, List, [], ◌++◌, ◌∷◌, Option, Some, true, false, Result, Ok, Err, IfOk, OnOk, OnErr, refl, sym, ap, ◌∙◌, subst, arith}
 use Rattle.std.specs.Prelude.{pos, is_some, not, ◌==◌, ◌&&◌, bytes_eq, if◌then◌else◌}
 use Rattle.std.specs.FinMap.{get}
 use Rattle.std.proofs.lemmas.Bool.{cond-true, cond-false}
@@ -21,9 +21,9 @@ use Rattle.held.proofs.Tables.{key_itself}
 use Rattle.held.proofs.Calls.{item_owned}
 use Rattle.held.proofs.Maps.{same_entry}
 use Rattle.keyspace.specs.declared.value.Value.{Value}
-use Rattle.keyspace.specs.Values.{value_of, value_refs, value_own}
+use Rattle.keyspace.specs.Values.{value_of, value_refs, value_own, IsSound}
 use Rattle.keyspace.specs.Databases.{Bases, means}
-use Rattle.keyspace.specs.Sound.{IsIntact, SoundBeside}
+use Rattle.keyspace.specs.Sound.{IsIntactWith, SoundBeside}
 use Rattle.held.specs.Calls.{HasOnly}
 use Rattle.keyspace.specs.Calls.{Lifted, IsPlace, Lifts, AreParts}
 use Rattle.held.proofs.Within.{within_store, within_wider}
@@ -39,41 +39,52 @@ use Rattle.cmd_keys.proofs.Moving.{live_put_in}
 put_same : (w : World) (key : List ℕ) (e : Entry) → look w key ≡ Some e → put w key e ≡ w
 put_same w key e is = ap (with_base w) (same_entry (w.bases w.selected) key e is) ∙ same_base w
 
-module _ (old mid : Bases) (m own after : Blocks) (db moment : ℕ) (key : List ℕ) (lifted : Lifted) (extra : List BlockRef) (stays : own ≡ m) (lifts : Lifts old mid m db key moment lifted) (sound : SoundBeside mid m (value_refs lifted.value ++ [])) (changes : Changes own after [] extra) where
+module _ (old mid : Bases) (m own after : Blocks) (db moment : ℕ) (key : List ℕ) (lifted : Lifted) (extra : List BlockRef) (stays : own ≡ m) (lifts : Lifts old mid m db key moment lifted) (sound : SoundBeside mid m (value_refs m lifted.value ++ [])) (changes : Changes own after [] extra) where
   p : Changes m after [] extra
   p = subst (λ b. Changes b after [] extra) stays changes
 
   out : List BlockRef
-  out = value_refs lifted.value ++ []
+  out = value_refs m lifted.value ++ []
 
-  nothing : (r : BlockRef) → times r [] ≤ times r (value_refs lifted.value ++ [])
+  nothing : (r : BlockRef) → times r [] ≤ times r (value_refs m lifted.value ++ [])
   nothing r = omega arith
 
-  beside : SoundBeside mid after (value_refs lifted.value ++ extra)
+  beside : SoundBeside mid after (value_refs m lifted.value ++ extra)
   beside =
-      Changed-sound mid m after (value_refs lifted.value ++ []) (value_refs lifted.value ++ extra) [] extra sound p nothing
-      (λ r. omega (arith, times-append r (value_refs lifted.value) [], times-append r (value_refs lifted.value) extra))
+      Changed-sound mid m after (value_refs m lifted.value ++ []) (value_refs m lifted.value ++ extra) [] extra sound p nothing
+      (λ r. omega (arith, times-append r (value_refs m lifted.value) [], times-append r (value_refs m lifted.value) extra))
 
-  pub copy_intact : IsIntact mid after (value_refs lifted.value)
-  copy_intact = record { owned = λ r. omega (arith, beside.owns r, times-append r (value_refs lifted.value) extra); arranged = beside.arranged }
+  -- the value's own blocks stay
+  own_kept : (r : BlockRef) → 0 < times r (value_refs m lifted.value) → after r ≡ m r
+  own_kept r within = Owned-others m after [] extra (value_refs m lifted.value) lifts.owned p r within refl
+
+  refs_kept : value_refs after lifted.value ≡ value_refs m lifted.value
+  refs_kept = value_own.refs m after lifted.value own_kept
+
+  pub copy_intact : IsSound mid.limits mid.seed m lifted.value → IsIntactWith mid after lifted.value
+  copy_intact is_sound = record {
+    owned = λ r. omega (arith, beside.owns r, times-append r (value_refs m lifted.value) extra, ap (times r) refs_kept);
+    arranged = beside.arranged;
+    sound = value_own.stays mid.limits mid.seed m after lifted.value own_kept is_sound;
+  }
 
   place : IsPlace mid after lifted.db lifted.item key lifts.deadline
   place =
-      let intact = sound_is_intact mid m (value_refs lifted.value ++ []) sound in
+      let intact = sound_is_intact mid m (value_refs m lifted.value ++ []) sound in
       subst (λ d. IsPlace mid after d lifted.item key lifts.deadline) (sym lifts.same_db) (record {
         element = lifts.place.element;
         found = lifts.place.found;
-        bytes = kept_inside value_refs value_of value_own mid m after (value_refs lifted.value ++ []) [] extra intact p nothing lifts.place.element.key
-            (omega (arith, key_itself lifts.place.element.key, item_owned value_refs value_of value_own mid db lifted.item lifts.place.element lifts.place.element.key lifts.place.found)) ∙ lifts.place.bytes;
-        lasts = ap (λ t. get t key) (kept_timed value_refs value_of value_own mid m after (value_refs lifted.value ++ []) [] extra intact p nothing db).1 ∙ lifts.place.lasts;
+        bytes = kept_inside value_refs value_of value_own mid m after (value_refs m lifted.value ++ []) [] extra intact p nothing lifts.place.element.key
+            (omega (arith, key_itself lifts.place.element.key, item_owned (value_refs m) mid db lifted.item lifts.place.element lifts.place.element.key lifts.place.found)) ∙ lifts.place.bytes;
+        lasts = ap (λ t. get t key) (kept_timed value_refs value_of value_own mid m after (value_refs m lifted.value ++ []) [] extra intact p nothing db).1 ∙ lifts.place.lasts;
       })
 
   value_kept : value_of after lifted.value ≡ value_of m lifted.value
-  value_kept = value_own m after lifted.value (λ r within. Owned-others m after [] extra (value_refs lifted.value) lifts.owned p r within refl)
+  value_kept = value_own.means m after lifted.value own_kept
 
   module _ (new : Bases) (later : Blocks) (same : later ≡ after) where
-    pub copy_sound : ((all rest : List BlockRef) → SoundBeside mid after all → AreParts all (value_refs lifted.value) rest → SoundBeside new after rest) → SoundBeside new later extra
-    copy_sound clause = subst (λ b. SoundBeside new b extra) (sym same) (clause (value_refs lifted.value ++ extra) extra beside (λ r. times-append r (value_refs lifted.value) extra))
+    pub copy_sound : ((all rest : List BlockRef) → SoundBeside mid after all → AreParts all (value_refs after lifted.value) rest → SoundBeside new after rest) → SoundBeside new later extra
+    copy_sound clause = subst (λ b. SoundBeside new b extra) (sym same) (clause (value_refs m lifted.value ++ extra) extra beside (λ r. omega (arith, times-append r (value_refs m lifted.value) extra, ap (times r) refs_kept)))
 
     -- from the clauses `within` of `lift` and `lower`
     pub copy_within : Within (one_key db key) old mid m m → ((k : List ℕ) (deadline : Option ℕ) → IsPlace mid after lifted.db lifted.item k deadline → Within (one_key lifted.db k) mid new after after) → Within (one_key db key) old new m later
@@ -81,7 +92,7 @@ module _ (old mid : Bases) (m own after : Blocks) (db moment : ℕ) (key : List 
         subst (Within (one_key db key) old new m) (sym same)
         (further (one_key db key) old mid new m m after taken
         (further (one_key db key) mid mid new m after after
-        (within_store value_refs value_of value_own (one_key db key) mid m after (value_refs lifted.value ++ []) [] extra (sound_is_intact mid m (value_refs lifted.value ++ []) sound) p nothing)
+        (within_store value_refs value_of value_own (one_key db key) mid m after (value_refs m lifted.value ++ []) [] extra (sound_is_intact mid m (value_refs m lifted.value ++ []) sound) p nothing)
         (subst (λ d. Within (one_key d key) mid new after after) lifts.same_db (clause key lifts.deadline place))))
 
     -- from the clause `has` of `lower`
@@ -95,7 +106,7 @@ module _ (old mid : Bases) (m own after : Blocks) (db moment : ℕ) (key : List 
         let there = (was_in_time (means db old m) moment key _ lifts.stands).0 ∙ ap (λ v. Some (record { value = v; deadline = lifts.deadline })) (sym value_kept) in
         ap (means db new) same
         ∙ subst (λ d. means d new after ≡ put (means d mid after) key entry) lifts.same_db (clause key lifts.deadline place)
-        ∙ ap (λ w. put w key entry) (means_out value_refs value_of value_own mid m after (value_refs lifted.value ++ []) [] extra (sound_is_intact mid m (value_refs lifted.value ++ []) sound) p nothing db)
+        ∙ ap (λ w. put w key entry) (means_out value_refs value_of value_own mid m after (value_refs m lifted.value ++ []) [] extra (sound_is_intact mid m (value_refs m lifted.value ++ []) sound) p nothing db)
         ∙ lifts.back entry ∙ put_same (means db old m) key entry there
 
   -- the copy means what stands at the key
@@ -116,8 +127,8 @@ copied_put at old mid new m own later number key from copy deadline entry stands
     ∙ live_put_in (means at.db old m) number at.moment key entry late
 
 -- blocks were placed for the copy, or none
-pub copy_changed : {E : Type 0} (own after : Blocks) (result : Result Value E) → IfOk result (λ value. Changes own after [] (value_refs value)) → OnErr result (after ≡ own) → (extra : List BlockRef) × Changes own after [] extra
-copy_changed own after (Ok value) changes same = (value_refs value, changes)
+pub copy_changed : {E : Type 0} (own after : Blocks) (result : Result Value E) → IfOk result (λ value. Changes own after [] (value_refs after value)) → OnErr result (after ≡ own) → (extra : List BlockRef) × Changes own after [] extra
+copy_changed own after (Ok value) changes same = (value_refs after value, changes)
 copy_changed own after (Err x) changes same = ([], same_changes own after same)
   where
     same_changes : (a b : Blocks) → b ≡ a → Changes a b [] []

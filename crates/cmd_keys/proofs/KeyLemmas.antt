@@ -97,23 +97,6 @@ asked_move command key number asked is = subst FitsKeys is (fits_keys command as
 pub asked_scan : (command : KeyCommand) (cursor : ℕ) (options : ScanOptions) → IsAsked (Keys command) → command ≡ keys.Scan cursor options → 0 < options.count
 asked_scan command cursor options asked is = (subst FitsKeys is (fits_keys command asked)).0
 
--- a common command on the connection or the server shows nothing of the tables
-connection_shows : {S E : Type 0} (blocks : S → Blocks) (old new : Keyspace S) (command : ConnectionCommand) → IsCommon command → (result : Result (List Part) E) → IfOk result (λ reply. connection_shown blocks old new command reply)
-connection_shows blocks old new command none (Err x) = tt
-connection_shows blocks old new command none (Ok reply) = one command none
-  where
-    one : (command : ConnectionCommand) → IsCommon command → connection_shown blocks old new command reply
-    one (connection.Ping text) none = tt
-    one (connection.Echo text) none = tt
-    one connection.Quit none = tt
-    one (connection.Select number) none = tt
-    one connection.DbSize none = tt
-    one connection.FlushDb none = tt
-    one connection.FlushAll none = tt
-    one connection.MemorySlabs none = absurd none
-    one (connection.DebugRehash n) none = absurd none
-    one (connection.DebugDefrag n) none = absurd none
-
 -- a command whose reply shows nothing of the tables
 key_shows : {E : Type 0} (P : List Part → Type 0) (result : Result (List Part) E) → ((reply : List Part) → P reply) → IfOk result P
 key_shows P (Ok reply) all = all reply
@@ -147,20 +130,20 @@ connection_writes db (connection.DebugDefrag n) number key named = named
 
 -- a command on the connection or the server ran
 pub served_connection : {S E : Type 0} (blocks : S → Blocks) (step : S → S → Type 0) (old new : Keyspace S) (at : Ctx) (command same : ConnectionCommand) (result : Result (List Part) E)
-    → command ≡ same → IsCommon command → Serves blocks old new at same result → Kept blocks step (connection_scope at.db same) old new result → Runs blocks step old new at (Connection command) result
-served_connection {E = E} blocks step old new at command same (Ok reply) is none given kept = record {
+    → command ≡ same → IsCommon command → Serves blocks old new at same result → Kept blocks step (connection_scope at.db same) old new result → ((reply : List Part) → connection_shown blocks old new at same reply) → Runs blocks step old new at (Connection command) result
+served_connection {E = E} blocks step old new at command same (Ok reply) is none given kept shown = record {
   answers = outcome_connection (sight blocks old at) at.moment command none reply (sight blocks new at) (subst (λ c. IsOutcome (connection_outcome at.moment (sight blocks old at) c) reply (sight blocks new at)) (sym is) (outcome_is (connection_outcome at.moment (sight blocks old at) same) reply (sight blocks new at) given));
   kept = subst (λ c. Kept {E = E} blocks step (connection_scope at.db c) old new (Ok reply)) (sym is) kept;
-  shows = connection_shows {E = E} blocks old new command none (Ok reply);
+  shows = subst (λ c. connection_shown blocks old new at c reply) (sym is) (shown reply);
   forms = formed_scope Unwritten (connection_scope at.db same) (connection_writes at.db same) old.bases new.bases (blocks old.store) (blocks new.store) kept.held.within;
 }
-served_connection {E = E} blocks step old new at command same (Err x) is none given kept = record { answers = tt; kept = subst (λ c. Kept {E = E} blocks step (connection_scope at.db c) old new (Err x)) (sym is) kept; shows = tt; forms = tt }
+served_connection {E = E} blocks step old new at command same (Err x) is none given kept shown = record { answers = tt; kept = subst (λ c. Kept {E = E} blocks step (connection_scope at.db c) old new (Err x)) (sym is) kept; shows = tt; forms = tt }
 
 -- one that tells the same in every world
 pub told_connection : {S E : Type 0} (blocks : S → Blocks) (step : S → S → Type 0) (keyspace : Keyspace S) (at : Ctx) (command same : ConnectionCommand) (result : Result (List Part) E)
-    → command ≡ same → IsCommon command → Tells same result → Ready blocks keyspace at → Runs blocks step keyspace keyspace at (Connection command) result
-told_connection blocks step keyspace at command same result is none told ready =
-    served_connection blocks step keyspace keyspace at command same result is none (told at.moment (sight blocks keyspace at)) (unchanged blocks step (connection_scope at.db same) keyspace result ready.sound)
+    → command ≡ same → IsCommon command → Tells same result → Ready blocks keyspace at → ((reply : List Part) → connection_shown blocks keyspace keyspace at same reply) → Runs blocks step keyspace keyspace at (Connection command) result
+told_connection blocks step keyspace at command same result is none told ready shown =
+    served_connection blocks step keyspace keyspace at command same result is none (told at.moment (sight blocks keyspace at)) (unchanged blocks step (connection_scope at.db same) keyspace result ready.sound) shown
 
 -- a command on keys ran that shows nothing of the tables
 pub ran_keys : {S E : Type 0} (blocks : S → Blocks) (step : S → S → Type 0) (old new : Keyspace S) (at : Ctx) (command same : KeyCommand) (result : Result (List Part) E)

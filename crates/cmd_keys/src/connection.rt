@@ -7,7 +7,7 @@ ghost use Rattle.plain_model.specs.declared.connection.ConnectionCommand.TheVari
 ghost use Rattle.keyspace.specs.Databases.{means, SameSettings};
 ghost use Rattle.keyspace.specs.Sound.{Sound};
 ghost use Rattle.keyspace.specs.Scopes.{no_key, all_keys, everything};
-ghost use Rattle.keyspace.specs.Shown.{IsRehashed};
+ghost use Rattle.keyspace.specs.Shown.{IsRehashed, IsPurged, IsEmptied, AreEmptied};
 ghost use Rattle.keyspace.specs.Commands.{Ready, Held, Kept, sight};
 ghost use Rattle.cmd_keys.specs.Found.{Serves, Tells};
 ghost use Rattle.cmd_keys.specs.Emptied.{IsEmpty};
@@ -41,6 +41,7 @@ pub fn echo(alloc: Global, text: &[u8]) -> Result<Reply, Memory>
 fn clear_selected<B: BlockStore>(keyspace: &mut Keyspace<B>, at: &Ctx)
     requires ready { Ready B.blocks keyspace.old at.now }
     ensures world { sight B.blocks keyspace.new at.now ≡ with_base (sight B.blocks keyspace.old at.now) no_keys }
+    ensures emptied { IsEmptied B.blocks keyspace.old keyspace.new at.now }
     ensures held { Held B.blocks B.step (all_keys at.now.db) keyspace.old keyspace.new }
 {
     keyspace.clear(at.db);
@@ -57,6 +58,7 @@ pub fn quit(alloc: Global) -> Result<Reply, Memory>
 pub fn flushdb<B: BlockStore>(keyspace: &mut Keyspace<B>, at: &Ctx) -> Result<Reply, Memory>
     requires ready { Ready B.blocks keyspace.old at.now }
     ensures gives { Serves B.blocks keyspace.old keyspace.new at.now commands.FlushDb result }
+    ensures emptied { IsEmptied B.blocks keyspace.old keyspace.new at.now }
     ensures kept { Kept B.blocks B.step (all_keys at.now.db) keyspace.old keyspace.new result }
 {
     clear_selected(keyspace, at);
@@ -67,6 +69,7 @@ pub fn flushdb<B: BlockStore>(keyspace: &mut Keyspace<B>, at: &Ctx) -> Result<Re
 fn clear_all<B: BlockStore>(keyspace: &mut Keyspace<B>, at: &Ctx)
     requires ready { Ready B.blocks keyspace.old at.now }
     ensures world { IsEmpty (sight B.blocks keyspace.new at.now) at.now.db }
+    ensures emptied { AreEmptied B.blocks keyspace.old keyspace.new at.now }
     ensures held { Held B.blocks B.step (everything) keyspace.old keyspace.new }
 {
     let _ = at;
@@ -79,6 +82,7 @@ fn clear_all<B: BlockStore>(keyspace: &mut Keyspace<B>, at: &Ctx)
 pub fn flushall<B: BlockStore>(keyspace: &mut Keyspace<B>, at: &Ctx) -> Result<Reply, Memory>
     requires ready { Ready B.blocks keyspace.old at.now }
     ensures gives { Serves B.blocks keyspace.old keyspace.new at.now commands.FlushAll result }
+    ensures emptied { AreEmptied B.blocks keyspace.old keyspace.new at.now }
     ensures kept { Kept B.blocks B.step (everything) keyspace.old keyspace.new result }
 {
     clear_all(keyspace, at);
@@ -90,6 +94,7 @@ fn count_live<B: BlockStore>(keyspace: &mut Keyspace<B>, at: &Ctx) -> u64
     requires ready { Ready B.blocks keyspace.old at.now }
     ensures count { result ≡ len ((sight B.blocks keyspace.old at.now).bases at.now.db) }
     ensures world { sight B.blocks keyspace.new at.now ≡ sight B.blocks keyspace.old at.now }
+    ensures purged { IsPurged B.blocks keyspace.old keyspace.new at.now }
     ensures held { Held B.blocks B.step (no_key at.now.db) keyspace.old keyspace.new }
 {
     let _ = keyspace.purge(at.db, at.moment);
@@ -100,6 +105,7 @@ fn count_live<B: BlockStore>(keyspace: &mut Keyspace<B>, at: &Ctx) -> u64
 pub fn dbsize<B: BlockStore>(keyspace: &mut Keyspace<B>, at: &Ctx) -> Result<Reply, Memory>
     requires ready { Ready B.blocks keyspace.old at.now }
     ensures gives { Serves B.blocks keyspace.old keyspace.new at.now commands.DbSize result }
+    ensures purged { IsPurged B.blocks keyspace.old keyspace.new at.now }
     ensures kept { Kept B.blocks B.step (no_key at.now.db) keyspace.old keyspace.new result }
 {
     let count = count_live(keyspace, at);

@@ -10,15 +10,15 @@ use Rattle.plain_model.specs.StringSteps.{change}
 use Rattle.plain_model.specs.declared.ctx.Ctx.{Ctx}
 use Rattle.keyspace.specs.declared.value.Value.TheVariants as values
 use Rattle.keyspace.specs.Calls.{Lifted}
-use Rattle.keyspace.specs.Values.{value_of, value_refs}
+use Rattle.keyspace.specs.Values.{value_of, value_refs, IsText}
 use Rattle.keyspace.specs.Databases.{Bases, means}
-use Rattle.keyspace.specs.Sound.{IsIntact, Sound, SoundBeside}
+use Rattle.keyspace.specs.Sound.{IsIntactWith, Sound, SoundBeside}
 use Rattle.held.specs.Calls.{HasOnly}
 use Rattle.keyspace.specs.Calls.{Lifts, IsPlace, AreParts}
 use Rattle.keyspace.specs.Commands.{seen}
 use Rattle.keyspace.specs.Scopes.{one_key, Within}
 use Rattle.keyspace.proofs.Uses.{Lower-intact, Lower-sound, Lower-has, Lower-within, Lower-means}
-use Rattle.cmd_values.specs.Found.{Becomes}
+use Rattle.cmd_values.specs.Found.{Becomes, IsThere, IsString}
 
 -- the string of a value, and of what stands at a key
 abbrev value_string : model.Value → List ℕ
@@ -30,15 +30,15 @@ string_of None = []
 string_of (Some entry) = value_string entry.value
 
 module _ (at : Ctx) (old mid : Bases) (m own after : Blocks) (key : List ℕ) (lifted : Lifted) (text changed : Text) (is : lifted.value ≡ values.Text text) (same : own ≡ m)
-    (lifts : Lifts old mid m at.db key at.moment lifted) (sound : SoundBeside mid m (value_refs lifted.value ++ [])) (p : Changes own after (text_refs text) (text_refs changed)) where
+    (lifts : Lifts old mid m at.db key at.moment lifted) (sound : SoundBeside mid m (value_refs m lifted.value ++ [])) (p : Changes own after (text_refs text) (text_refs changed)) where
   abbrev lowered : Lifted
   lowered = record { db = lifted.db; item = lifted.item; value = values.Text changed }
 
-  changes : Changes m after (value_refs lifted.value) (value_refs lowered.value)
-  changes = subst (λ b. Changes b after (value_refs lifted.value) (text_refs changed)) same (subst (λ v. Changes own after (value_refs v) (text_refs changed)) (sym is) p)
+  changes : Changes m after (value_refs m lifted.value) (value_refs after lowered.value)
+  changes = subst (λ b. Changes b after (value_refs m lifted.value) (text_refs changed)) same (subst (λ v. Changes own after (value_refs m v) (text_refs changed)) (sym is) p)
 
-  pub text_intact : IsIntact mid after (text_refs changed)
-  text_intact = Lower-intact old mid m after at.db at.moment key lifted lowered [] lifts sound changes refl refl
+  pub text_intact : IsIntactWith mid after (values.Text changed)
+  text_intact = Lower-intact old mid m after at.db at.moment key lifted lowered [] lifts sound changes refl refl tt
 
   module _ (new : Bases) (later : Blocks) (stays : later ≡ after) where
     pub text_sound : ((all out : List BlockRef) → SoundBeside mid after all → AreParts all (text_refs changed) out → SoundBeside new after out) → Sound new later
@@ -62,3 +62,28 @@ module _ (at : Ctx) (old mid : Bases) (m own after : Blocks) (key : List ℕ) (l
         ap (λ b. live (means at.db new b) at.moment) stays ∙ world
         ∙ ap (λ d. put (seen at old m) key (record { value = Str (text_bytes after changed); deadline = d })) deadline
         ∙ ap (λ b. change (seen at old m) key b) (e ∙ ap next was)
+
+-- ---- a value that means a string is one
+
+-- it is a string
+string_kind : (m : Blocks) (value : values.the_data) → IsString (value_of m value) → IsText value
+string_kind m (values.Text text) is = tt
+string_kind m (values.List b) is = absurd is
+string_kind m (values.Set b) is = absurd is
+string_kind m (values.Hash b) is = absurd is
+string_kind m (values.Zset b) is = absurd is
+
+-- the value that was lifted from a key where a string stands is one
+pub lifted_string : (old mid : Bases) (m : Blocks) (at : Ctx) (key : List ℕ) (lifted : Lifted) → Lifts old mid m at.db key at.moment lifted → ((entry : Entry) → look (seen at old m) key ≡ Some entry → IsString entry.value) → IsText lifted.value
+lifted_string old mid m at key lifted lifts is = string_kind m lifted.value (is (record { value = value_of m lifted.value; deadline = lifts.deadline }) lifts.stands)
+
+-- the value that was lifted from a key where these bytes stand is a string
+pub lifted_there : (old mid : Bases) (m : Blocks) (at : Ctx) (key bytes : List ℕ) (lifted : Lifted) → Lifts old mid m at.db key at.moment lifted → IsThere (seen at old m) key bytes → IsText lifted.value
+lifted_there old mid m at key bytes lifted lifts there = lifted_string old mid m at key lifted lifts (λ entry stands. subst IsString (sym (entry_of there.deadline entry (sym there.stands ∙ stands))) tt)
+  where
+    value_in : Option Entry → model.Value
+    value_in None = Str []
+    value_in (Some entry) = entry.value
+
+    entry_of : (deadline : Option ℕ) (entry : Entry) → Some (record { value = Str bytes; deadline = deadline }) ≡ Some entry → entry.value ≡ Str bytes
+    entry_of deadline entry same = sym (ap value_in same)

@@ -28,7 +28,7 @@ kept_seeks bases m after db key sought ys sound p s = record {
     same : (at : ℕ) (e : Element Value) → item (table_at bases db) at ≡ Some e → after e.key ≡ m e.key
     same at e found =
         kept_inside value_refs value_of value_own bases m after [] [] ys (sound_is_intact bases m [] sound) p (λ r. omega arith) e.key
-        (let itself : one_if (ref_eq e.key e.key) ≡ 1 = cond-true _ _ _ (ref_eq-refl e.key) in omega (arith, itself, named_in value_refs (table_at bases db) at e e.key found, table_owned value_refs value_of value_own bases db e.key))
+        (let itself : one_if (ref_eq e.key e.key) ≡ 1 = cond-true _ _ _ (ref_eq-refl e.key) in omega (arith, itself, named_in (value_refs m) (table_at bases db) at e e.key found, table_owned (value_refs m) bases db e.key))
 
     stands : (o : Option ℕ) → IfSome o (λ at. Stands m (table_at bases db) at key) → IfSome o (λ at. Stands after (table_at bases db) at key)
     stands None h = tt

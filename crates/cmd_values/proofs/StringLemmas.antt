@@ -52,7 +52,10 @@ use Rattle.cmd_values.proofs.Ranges.{written_length}
 use Rattle.plain_world.proofs.Lives.{live_put_in_time, live_remove}
 use Rattle.plain_world.proofs.Lives.{look_put, put_twice}
 use Rattle.keyspace.proofs.Uses.{Put-means}
-use Rattle.cmd_values.specs.Found.{GivesIn, Gives, FoundText, IsThere, Becomes, IsStringBefore, OldValue, NumberAt, IsSetReply, values_at}
+use Rattle.plain_model.specs.StringSteps.{with_string}
+use Rattle.plain_world.specs.declared.refusal.Refusal.TheVariants.{WrongType}
+use Rattle.keyspace.specs.Values.{value_of, IsText}
+use Rattle.cmd_values.specs.Found.{GivesIn, Gives, FoundText, FoundOther, IsNoString, IsString, IsThere, Becomes, IsStringBefore, OldValue, HasNumber, IsSetReply, value_at, values_at}
 
 -- what a command gives is a step of the model
 pub step_of : {E : Type 0} (seed moment : ℕ) (old new : World) (command : Command) (own same : StringCommand) (result : Result (List Part) E)
@@ -61,29 +64,62 @@ step_of seed moment old new command own same (Ok reply) e f given =
     subst (λ c. may seed old moment c reply new) (sym (e ∙ ap Strings f)) (outcome_is (string_outcome moment old same) reply new given)
 step_of seed moment old new command own same (Err x) e f given = tt
 
+-- what is so of a reply follows from what else is so of it
+pub given : {E : Type 0} {P Q : List Part → Type 0} (result : Result (List Part) E) → ((reply : List Part) → P reply → Q reply) → IfOk result P → IfOk result Q
+given (Ok reply) f p = f reply p
+given (Err x) f p = tt
+
 -- a string that stands at a key
 pub some_before : (world : World) (key bytes : List ℕ) (deadline : Option ℕ) → look world key ≡ Some (record { value = Str bytes; deadline = deadline }) → IsStringBefore world key (Some bytes)
 some_before world key bytes deadline e = λ answer. ap (λ o. on_string world o answer) e
 
+-- a value of another type is refused, whatever would be made of a string
+with_other : (old : World) (value : Value) (answer : List ℕ → Outcome) → IsNoString value → with_string old value answer ≡ refused WrongType old
+with_other old (Str bytes) answer is = absurd is
+with_other old other answer is = refl
+
+pub on_other : (old : World) (key : List ℕ) (answer : Option (List ℕ) → Outcome) → FoundOther old key → on_string old (look old key) answer ≡ refused WrongType old
+on_other old key answer found = ap (λ o. on_string old o answer) found.stands ∙ with_other old found.entry.value (λ bytes. answer (Some bytes)) found.other
+
+pub refused_other : {E : Type 0} (old : World) (key : List ℕ) (answer : Option (List ℕ) → Outcome) (result : Result (List Part) E) → FoundOther old key → IfOk result (λ reply. reply ≡ Refused WrongType ∷ []) → IfOk result (λ reply. on_string old (look old key) answer ≡ leaves reply old)
+refused_other old key answer (Ok reply) found is = on_other old key answer found ∙ ap (λ r. leaves r old) (sym is)
+refused_other old key answer (Err x) found is = tt
+
+-- MGET answers null for it
+null_for : (value : Value) → IsNoString value → string_part value ≡ Null
+null_for (Str bytes) is = absurd is
+null_for other is = refl
+
+pub null_other : (old : World) (key : List ℕ) → FoundOther old key → Null ≡ value_at old key
+null_other old key found = sym (ap string_or_null found.stands ∙ null_for found.entry.value found.other)
+
+-- a value that is no string means none
+pub other_found : (bases : Bases) (m : Blocks) (at : Ctx) (key : List ℕ) (value : kinds.Value) → (IsText value → ⊥) → Found bases m at.db key at.moment value → FoundOther (seen at bases m) key
+other_found bases m at key value off found = record { entry = record { value = value_of m value; deadline = found.deadline }; stands = found.stands; other = none value off }
+  where
+    none : (value : kinds.Value) → (IsText value → ⊥) → IsNoString (value_of m value)
+    none (kinds.TheVariants.Text text) off = absurd (off tt)
+    none (kinds.TheVariants.List b) off = tt
+    none (kinds.TheVariants.Set b) off = tt
+    none (kinds.TheVariants.Hash b) off = tt
+    none (kinds.TheVariants.Zset b) off = tt
+
 -- the old value as a reply
-pub old_some : {E : Type 0} (world : World) (blocks : Blocks) (key : List ℕ) (text : Text) (bytes : List ℕ) (result : Result (List Part) E)
-    → FoundText world blocks key text → bytes ≡ text_bytes blocks text → IfOk result (λ reply. reply ≡ Bulk bytes ∷ []) → IfOk result (λ reply. OldValue world key reply)
-old_some world blocks key text bytes (Ok reply) found same is = record {
+pub old_some : (world : World) (blocks : Blocks) (key : List ℕ) (text : Text) (bytes : List ℕ) (reply : List Part)
+    → FoundText world blocks key text → bytes ≡ text_bytes blocks text → reply ≡ Bulk bytes ∷ [] → OldValue world key reply
+old_some world blocks key text bytes reply found same is = record {
   before = Some (text_bytes blocks text);
   is = some_before world key (text_bytes blocks text) found.deadline found.stands;
   reply_is = is ∙ ap (λ b. Bulk b ∷ []) same;
 }
-old_some world blocks key text bytes (Err x) found same is = tt
+
+pub old_none : (world : World) (key : List ℕ) (reply : List Part) → look world key ≡ None → reply ≡ Null ∷ [] → OldValue world key reply
+old_none world key reply none is = record { before = None; is = λ answer. ap (λ o. on_string world o answer) none; reply_is = is }
 
 -- the old value is the reply, and this world is left
 pub old_value_then : (old new : World) (key : List ℕ) (reply : List Part) (left : World) → OldValue old key reply → new ≡ left → on_string old (look old key) (λ before. leaves (or_null before ∷ []) left) ≡ leaves reply new
 old_value_then old new key reply left o is =
     o.is (λ before. leaves (or_null before ∷ []) left) ∙ ap (λ r. leaves r left) (sym o.reply_is) ∙ ap (leaves reply) (sym is)
-
--- the old value is the reply, and the world stays
-pub old_value_told : {E : Type 0} (old : World) (key : List ℕ) (result : Result (List Part) E) → IfOk result (λ reply. OldValue old key reply) → IfOk result (λ reply. on_string old (look old key) (λ before. tells (or_null before ∷ []) old) ≡ leaves reply old)
-old_value_told old key (Ok reply) o = old_value_then old old key reply old o refl
-old_value_told old key (Err x) o = tt
 
 -- a deadline that 64 bits with a sign hold
 pub due_fits : (old : World) (moment : ℕ) (time : Time) (n : ℤ) (answer : ℤ → Outcome) → n ≡ due moment time → FitsSigned w64 n → with_due old moment time answer ≡ answer n
@@ -230,12 +266,21 @@ found_text bases m at key value text is found =
     record { deadline = own.deadline; stands = own.stands; owned = own.owned }
 
 -- the number at a key, from the text there
-pub number_read : (world : World) (blocks : Blocks) (key : List ℕ) (text : Text) (answer : Option ℤ) → FoundText world blocks key text → Reads (text_bytes blocks text) answer → NumberAt world key answer
+pub number_read : (world : World) (blocks : Blocks) (key : List ℕ) (text : Text) (answer : Option ℤ) → FoundText world blocks key text → Reads (text_bytes blocks text) answer → HasNumber world key answer
 number_read world blocks key text answer found reads = record {
   before = Some (text_bytes blocks text);
   is = some_before world key (text_bytes blocks text) found.deadline found.stands;
   number_is = reads_number_of (text_bytes blocks text) answer reads;
+  string = λ entry stands. subst IsString (ap value_in (sym found.stands ∙ stands)) tt;
 }
+  where
+    value_in : Option Entry → Value
+    value_in None = Str []
+    value_in (Some entry) = entry.value
+
+-- where nothing stands the number is 0
+pub number_none : (world : World) (key : List ℕ) → look world key ≡ None → HasNumber world key (Some (pos 0))
+number_none world key none = record { before = None; is = λ answer. ap (λ o. on_string world o answer) none; number_is = refl; string = λ entry stands. cc }
 
 -- a count that fits
 pub counted_on : (old : World) (key : List ℕ) (n : ℤ) → FitsSigned w64 n → count_to old key n ≡ leaves (Number n ∷ []) (change old key (canonical n))
@@ -246,29 +291,34 @@ pub not_counted : (old : World) (key : List ℕ) (n : ℤ) → ¬ (FitsSigned w6
 not_counted old key n large = ap (λ b. if b then leaves (Number n ∷ []) (change old key (canonical n)) else refused Overflow old) (no_fit n large)
 
 -- a number is counted on, and the new one is written
-pub counted : {E : Type 0} (old new : World) (key : List ℕ) (n m : ℤ) (next : ℤ → ℤ) (result : Result (List Part) E) → NumberAt old key (Some n) → FitsSigned w64 m → m ≡ next n → IfOk result (λ reply. reply ≡ Number m ∷ []) → OnOk result (new ≡ change old key (canonical m)) → IfOk result (λ reply. count old key next ≡ leaves reply new)
+pub counted : {E : Type 0} (old new : World) (key : List ℕ) (n m : ℤ) (next : ℤ → ℤ) (result : Result (List Part) E) → HasNumber old key (Some n) → FitsSigned w64 m → m ≡ next n → IfOk result (λ reply. reply ≡ Number m ∷ []) → OnOk result (new ≡ change old key (canonical m)) → IfOk result (λ reply. count old key next ≡ leaves reply new)
 counted old new key n m next (Ok reply) at fits is told world =
     at.is (λ before. count_on old key next (number_at before)) ∙ ap (count_on old key next) at.number_is ∙ ap (count_to old key) (sym is) ∙ counted_on old key m fits
     ∙ ap (λ r. leaves r (change old key (canonical m))) (sym told) ∙ ap (leaves reply) (sym world)
 counted old new key n m next (Err x) at fits is told world = tt
 
 -- what SET answers and leaves
-pub set_given : (old new : World) (moment : ℕ) (key : List ℕ) (entry : Entry) (condition : Condition) (get written : Bool) (reply : List Part) → written ≡ allows condition (is_some (look old key)) → IsSetReply old key get written reply
+pub set_given : (old new : World) (moment : ℕ) (key : List ℕ) (entry : Entry) (condition : Condition) (get written : Bool) (reply : List Part) → written ≡ allows condition (is_some (look old key)) → IsSetReply old key get written (Some reply)
     → new ≡ (if written then stand old moment key entry else old) → set_outcome old moment key entry condition get ≡ leaves reply new
 set_given old new moment key entry condition true written reply is told world =
     old_value_then old new key reply (set old moment key entry condition) told (world ∙ ap (λ b. if b then stand old moment key entry else old) is)
 set_given old new moment key entry condition false written reply is told world =
     sym (ap (λ b. leaves ((if b then ok else Null) ∷ []) (if b then stand old moment key entry else old)) is) ∙ ap (λ r. leaves r (if written then stand old moment key entry else old)) (sym told) ∙ ap (leaves reply) (sym world)
 
+-- SET with GET of a value of another type is refused
+pub set_other : (old : World) (moment : ℕ) (key : List ℕ) (entry : Entry) (condition : Condition) (get written : Bool) → IsSetReply old key get written None → set_outcome old moment key entry condition get ≡ refused WrongType old
+set_other old moment key entry condition true written told = on_other old key (λ before. leaves (or_null before ∷ []) (set old moment key entry condition)) told
+set_other old moment key entry condition false written told = absurd told
+
 -- no number stands at the key
-pub not_number : {E : Type 0} (old : World) (key : List ℕ) (next : ℤ → ℤ) (result : Result (List Part) E) → NumberAt old key None → IfOk result (λ reply. reply ≡ Refused NotAnInteger ∷ [])
+pub not_number : {E : Type 0} (old : World) (key : List ℕ) (next : ℤ → ℤ) (result : Result (List Part) E) → HasNumber old key None → IfOk result (λ reply. reply ≡ Refused NotAnInteger ∷ [])
     → IfOk result (λ reply. count old key next ≡ leaves reply old)
 not_number old key next (Ok reply) at is =
     at.is (λ before. count_on old key next (number_at before)) ∙ ap (count_on old key next) at.number_is ∙ ap (λ r. leaves r old) (sym is)
 not_number old key next (Err x) at is = tt
 
 -- the new number doesn't fit
-pub overflowed : {E : Type 0} (old : World) (key : List ℕ) (n : ℤ) (next : ℤ → ℤ) (result : Result (List Part) E) → NumberAt old key (Some n) → ¬ (FitsSigned w64 (next n)) → IfOk result (λ reply. reply ≡ Refused Overflow ∷ [])
+pub overflowed : {E : Type 0} (old : World) (key : List ℕ) (n : ℤ) (next : ℤ → ℤ) (result : Result (List Part) E) → HasNumber old key (Some n) → ¬ (FitsSigned w64 (next n)) → IfOk result (λ reply. reply ≡ Refused Overflow ∷ [])
     → IfOk result (λ reply. count old key next ≡ leaves reply old)
 overflowed old key n next (Ok reply) at large is =
     at.is (λ before. count_on old key next (number_at before)) ∙ ap (count_on old key next) at.number_is ∙ not_counted old key (next n) large ∙ ap (λ r. leaves r old) (sym is)
@@ -299,8 +349,8 @@ looked_strings blocks step keyspace at command own same result e f given ready =
     ran_strings blocks step keyspace keyspace at command own same result e f given (unchanged blocks step (string_scope at.db same) keyspace result ready.sound) (unformed blocks (string_form (sight blocks keyspace at) same) keyspace result)
 
 -- what was put stands there
-pub put_there : (old mid : World) (key bytes : List ℕ) → mid ≡ replace old key bytes → is_some (look mid key) ≡ true
-put_there old mid key bytes e = ap is_some (ap (λ w. look w key) e ∙ look_put old key (plain bytes))
+pub put_there : (old mid : World) (key bytes : List ℕ) → mid ≡ replace old key bytes → IsThere mid key bytes
+put_there old mid key bytes e = record { deadline = None; stands = ap (λ w. look w key) e ∙ look_put old key (plain bytes) }
 
 -- the piece of a request's SETRANGE ends at the greatest length at most
 pub asked_fits : (command : Command) (own : StringCommand) (key piece : List ℕ) (at : ℕ) → IsAsked command → command ≡ Strings own → own ≡ strings.SetRange key at piece → 0 < length piece → at + length piece ≤ 536870912

@@ -95,7 +95,7 @@ formed_copied form db key value old mid new m own after is made within arranged 
 
 -- the elements stay over the same store, whatever the tables do
 pub formed_items : {S : Type 0} (blocks : S → Blocks) (old new : Keyspace S) → ((db : ℕ) → (table_at new.bases db).items ≡ (table_at old.bases db).items) → new.store ≡ old.store → Formed blocks Unwritten old new
-formed_items blocks old new items same db at e found = inl (record { stood = ap (λ list. at_item list at) (sym (items db)) ∙ found; bytes = λ r owns. ap (λ s. blocks s r) same })
+formed_items blocks old new items same db at e found = inl (record { stood = ap (λ list. at_item list at) (sym (items db)) ∙ found; bytes = λ r owns. ap (λ s. blocks s r) same; refs = ap (λ s. value_refs (blocks s) e.value) same })
 
 -- and then no key is written
 pub formed_on : {S : Type 0} (blocks : S → Blocks) (form : Form) (scope : Scope) (old mid new : Keyspace S) → ((db : ℕ) (key : List ℕ) → scope.writes db key → ⊥) → Formed blocks form old mid → Within scope mid.bases new.bases (blocks mid.store) (blocks new.store) → Formed blocks form old new

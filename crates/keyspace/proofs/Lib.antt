@@ -6,3 +6,4 @@ pub mod Tables
 pub mod Calls
 pub mod Moving
 pub mod Forming
+pub mod Editing

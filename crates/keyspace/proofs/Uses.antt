@@ -1,6 +1,6 @@
 -- For whoever calls a keyspace: what a command function needs to say that the keyspace is sound after it, and which
 -- world it leaves. Each lemma takes the clauses of the calls as they stand.
-use Rattle.std.proofs.Common.{◌≡◌, ℕ, ◌+◌, ◌≤◌, List, [], ◌++◌, Option, refl, sym, ap, ◌∙◌, subst, lit<}
+use Rattle.std.proofs.Common.{◌≡◌, ℕ, ◌+◌, ◌≤◌, List, [], ◌++◌, map, Option, refl, sym, ap, ◌∙◌, subst, lit<}
 use Rattle.blocks.specs.declared.BlockRef.{BlockRef}
 use Rattle.blocks.specs.Blocks.{Blocks, times, Changes, Owned}
 use Rattle.plain_world.specs.Worlds.{Entry, put, stand}
@@ -10,15 +10,35 @@ use Rattle.object_codec.specs.declared.name.Name.{Name}
 use Rattle.object_codec.specs.declared.name.Name.TheVariants.{Int, Embstr, Raw}
 use Rattle.object_codec.specs.Names.{name_text}
 use Rattle.plain_model.specs.KeySteps.{encodings}
+use Rattle.object_codec.specs.declared.limits.Limits.{Limits}
+use Rattle.object_codec.specs.declared.form.Form.{Form}
+use Rattle.object_codec.specs.declared.form.Form.TheVariants.{Intset, Listpack, Hashtable, Skiplist, Quicklist, Stream}
+use Rattle.object_codec.specs.Forms.{form_text}
+use Rattle.quicklist.specs.declared.node.Container.{Container}
+use Rattle.quicklist.specs.Nodes.{container_of}
+use Rattle.quicklist.specs.Chain.{IsFormed, elements}
+use Rattle.set_object.specs.Strings.{Strings}
+use Rattle.set_object.specs.Members as set
+use Rattle.set_object.specs.declared.members.Body as set_body
+use Rattle.set_object.specs.declared.members.Body.TheVariants as set_bodies
+use Rattle.hash_object.specs.Maps.{FieldMap}
+use Rattle.hash_object.specs.Fields as hash
+use Rattle.hash_object.specs.declared.fields.Body as hash_body
+use Rattle.hash_object.specs.declared.fields.Body.TheVariants as hash_bodies
+use Rattle.score_table.specs.Ranking.{ScoreMap}
+use Rattle.zset_object.specs.Scored as zset
+use Rattle.zset_object.specs.declared.scored.Body as zset_body
+use Rattle.zset_object.specs.declared.scored.Body.TheVariants as zset_bodies
+use Rattle.keyspace.specs.declared.value.Value.TheVariants as kinds
 use Rattle.string_object.specs.declared.text.Text as texts
 use Rattle.string_object.specs.Text.{text_bytes, text_refs}
 use Rattle.keyspace.specs.declared.value.Value.{Value}
-use Rattle.keyspace.specs.declared.value.Value.TheVariants.{Text}
-use Rattle.keyspace.specs.Values.{value_of, value_refs, value_own, vacant, IsEncodedAs}
-use Rattle.keyspace.specs.Databases.{Bases, means}
-use Rattle.keyspace.specs.Sound.{IsIntact, Sound, SoundBeside}
+use Rattle.keyspace.specs.declared.value.Value.TheVariants.{Text, Set, Hash, Zset}
+use Rattle.keyspace.specs.Values.{value_of, value_refs, IsSound, value_own, vacant, IsEncodedAs}
+use Rattle.keyspace.specs.Databases.{Bases, SameSettings, means}
+use Rattle.keyspace.specs.Sound.{IsArranged, IsIntact, IsIntactWith, Sound, SoundBeside}
 use Rattle.keyspace.specs.Scopes.{Scope, one_key, Within}
-use Rattle.held.specs.Calls.{HasOnly}
+use Rattle.held.specs.Calls.{HasValue, HasOnly}
 use Rattle.keyspace.specs.Calls.{Lifted, IsPlace, IsVacant, Lifts, AreParts}
 use Rattle.held.proofs.Bases.{sound_intact}
 use Rattle.held.proofs.Uses as held
@@ -38,12 +58,12 @@ module _ (bases : Bases) (m after : Blocks) (out later xs ys : List BlockRef) (s
 
 -- ---- a value is made and put in place of what stands at a key
 
-module _ (bases : Bases) (m after : Blocks) (value : Value) (sound : Sound bases m) (p : Changes m after [] (value_refs value)) where
-  pub Made-sound : SoundBeside bases after (value_refs value)
+module _ (bases : Bases) (m after : Blocks) (value : Value) (sound : Sound bases m) (p : Changes m after [] (value_refs after value)) where
+  pub Made-sound : SoundBeside bases after (value_refs after value)
   Made-sound = held.Made-sound value_refs value_of value_own bases m after value sound p
 
   -- what `put` asks
-  pub Made-intact : IsIntact bases after (value_refs value)
+  pub Made-intact : IsSound bases.limits bases.seed after value → IsIntactWith bases after value
   Made-intact = held.Made-intact value_refs value_of value_own bases m after value sound p
 
   pub Made-means : (db : ℕ) → means db bases after ≡ means db bases m
@@ -55,7 +75,7 @@ module _ (bases : Bases) (m after : Blocks) (value : Value) (sound : Sound bases
     Put-within = held.Put-within value_refs value_of value_own bases m after value sound p new later
 
     -- from the clause `sound` of `put`
-    pub Put-sound : ((all out : List BlockRef) → SoundBeside bases after all → AreParts all (value_refs value) out → SoundBeside new later out) → Sound new later
+    pub Put-sound : ((all out : List BlockRef) → SoundBeside bases after all → AreParts all (value_refs after value) out → SoundBeside new later out) → Sound new later
     Put-sound = held.Put-sound value_refs value_of value_own bases m after value sound p new later
 
     -- from the clause `means` of `put`, or its clause `kept`: the world that the step speaks of
@@ -67,9 +87,9 @@ module _ (bases : Bases) (m after : Blocks) (value : Value) (sound : Sound bases
 
 -- ---- a value is lifted, changed and lowered again
 
-module _ (old mid : Bases) (m after : Blocks) (db moment : ℕ) (key : List ℕ) (lifted changed : Lifted) (out : List BlockRef) (lifts : Lifts old mid m db key moment lifted) (sound : SoundBeside mid m (value_refs lifted.value ++ out)) (p : Changes m after (value_refs lifted.value) (value_refs changed.value)) (same_db : changed.db ≡ lifted.db) (same_item : changed.item ≡ lifted.item) where
+module _ (old mid : Bases) (m after : Blocks) (db moment : ℕ) (key : List ℕ) (lifted changed : Lifted) (out : List BlockRef) (lifts : Lifts old mid m db key moment lifted) (sound : SoundBeside mid m (value_refs m lifted.value ++ out)) (p : Changes m after (value_refs m lifted.value) (value_refs after changed.value)) (same_db : changed.db ≡ lifted.db) (same_item : changed.item ≡ lifted.item) where
   -- what `lower` asks
-  pub Lower-intact : IsIntact mid after (value_refs changed.value)
+  pub Lower-intact : IsSound mid.limits mid.seed after changed.value → IsIntactWith mid after changed.value
   Lower-intact = held.Lower-intact value_refs value_of value_own old mid m after db moment key lifted changed out vacant lifts sound p same_db same_item
 
   pub Lower-vacant : IsVacant mid changed.db changed.item
@@ -77,7 +97,7 @@ module _ (old mid : Bases) (m after : Blocks) (db moment : ℕ) (key : List ℕ)
 
   module _ (new : Bases) where
     -- from the clause `sound` of `lower`
-    pub Lower-sound : ((all rest : List BlockRef) → SoundBeside mid after all → AreParts all (value_refs changed.value) rest → SoundBeside new after rest) → SoundBeside new after out
+    pub Lower-sound : ((all rest : List BlockRef) → SoundBeside mid after all → AreParts all (value_refs after changed.value) rest → SoundBeside new after rest) → SoundBeside new after out
     Lower-sound = held.Lower-sound value_refs value_of value_own old mid m after db moment key lifted changed out vacant lifts sound p same_db same_item new
 
     -- from the clause `has` of `lower`
@@ -96,22 +116,59 @@ module _ (old mid : Bases) (m after : Blocks) (db moment : ℕ) (key : List ℕ)
 -- ---- strings: from what a call on the text of a lifted value asks and says
 
 module _ (m mid : Blocks) (value : Value) (text : texts.Text) (same : mid ≡ m) (is : value ≡ Text text) where
-  pub Text-owned : Owned (value_refs value) m → Owned (text_refs text) mid
-  Text-owned own = subst (Owned (text_refs text)) (sym same) (subst (λ v. Owned (value_refs v) m) is own)
+  pub Text-owned : Owned (value_refs m value) m → Owned (text_refs text) mid
+  Text-owned own = subst (Owned (text_refs text)) (sym same) (subst (λ v. Owned (value_refs m v) m) is own)
 
-  pub Text-changes : (after : Blocks) (changed : texts.Text) → Changes mid after (text_refs text) (text_refs changed) → Changes m after (value_refs value) (value_refs (Text changed))
-  Text-changes after changed p = subst (λ v. Changes m after (value_refs v) (text_refs changed)) (sym is) (subst (λ b. Changes b after (text_refs text) (text_refs changed)) same p)
+  pub Text-changes : (after : Blocks) (changed : texts.Text) → Changes mid after (text_refs text) (text_refs changed) → Changes m after (value_refs m value) (value_refs after (Text changed))
+  Text-changes after changed p = subst (λ v. Changes m after (value_refs m v) (text_refs changed)) (sym is) (subst (λ b. Changes b after (text_refs text) (text_refs changed)) same p)
 
   pub Text-bytes : value_of m value ≡ model.Str (text_bytes mid text)
   Text-bytes = ap (value_of m) is ∙ ap (λ b. model.Str (text_bytes b text)) (sym same)
 
+-- ---- what stands at a key is sound
+
+pub has_sound : (bases : Bases) (m : Blocks) (db : ℕ) (key : List ℕ) (value : Value) → IsArranged bases m → HasValue bases m db key value → IsSound bases.limits bases.seed m value
+has_sound = held.has_sound value_refs value_of value_own
+
+pub lifted_sound : (old mid : Bases) (m : Blocks) (db moment : ℕ) (key : List ℕ) (lifted : Lifted) → IsArranged old m → SameSettings old mid → Lifts old mid m db key moment lifted → IsSound mid.limits mid.seed m lifted.value
+lifted_sound old mid m db moment key lifted = held.lifted_sound value_refs value_of value_own old mid m db moment key lifted vacant
+
 -- ---- encodings
+
+-- a list of a sound form has one of two names
+form_known : (form : Form) (containers : List Container) (list : List (List ℕ)) → IsFormed form containers → Contains (encodings (model.ListOf list)) (form_text form)
+form_known Intset containers list is = absurd is
+form_known Listpack containers list is = (0, lit< tt, refl)
+form_known Hashtable containers list is = absurd is
+form_known Skiplist containers list is = absurd is
+form_known Quicklist containers list is = (1, lit< tt, refl)
+form_known Stream containers list is = absurd is
 
 name_known : (bytes : List ℕ) (own : Name) → Contains (encodings (model.Str bytes)) (name_text own)
 name_known bytes Int = (0, lit< tt, refl)
 name_known bytes Embstr = (1, lit< tt, refl)
 name_known bytes Raw = (2, lit< tt, refl)
 
+set_known : (members : Strings) (body : set_body.Body) → Contains (encodings (model.SetOf members)) (form_text (set.form_of_body body))
+set_known members set_bodies.Empty = (0, lit< tt, refl)
+set_known members (set_bodies.Numbers packed) = (0, lit< tt, refl)
+set_known members (set_bodies.Pack packed) = (1, lit< tt, refl)
+set_known members (set_bodies.Table t) = (2, lit< tt, refl)
+
+hash_known : (fields : FieldMap) (body : hash_body.Body) → Contains (encodings (model.HashOf fields)) (form_text (hash.form_of_body body))
+hash_known fields hash_bodies.Empty = (0, lit< tt, refl)
+hash_known fields (hash_bodies.Pack packed) = (0, lit< tt, refl)
+hash_known fields (hash_bodies.Table t) = (1, lit< tt, refl)
+
+zset_known : (scores : ScoreMap) (body : zset_body.Body) → Contains (encodings (model.SortedOf scores)) (form_text (zset.form_of_body body))
+zset_known scores zset_bodies.Empty = (0, lit< tt, refl)
+zset_known scores (zset_bodies.Pack packed) = (0, lit< tt, refl)
+zset_known scores (zset_bodies.Table t) = (1, lit< tt, refl)
+
 -- the name of a value's encoding is one of those of its type
-pub encoding_known : (m : Blocks) (value : Value) (name : List ℕ) → IsEncodedAs m value name → Contains (encodings (value_of m value)) name
-encoding_known m (Text text) name is = subst (Contains (encodings (model.Str (text_bytes m text)))) (sym is.2) (name_known (text_bytes m text) is.0)
+pub encoding_known : (limits : Limits) (seed : ℕ) (m : Blocks) (value : Value) (name : List ℕ) → IsSound limits seed m value → IsEncodedAs m value name → Contains (encodings (value_of m value)) name
+encoding_known limits seed m (Text text) name sound is = subst (Contains (encodings (model.Str (text_bytes m text)))) (sym is.2) (name_known (text_bytes m text) is.0)
+encoding_known limits seed m (kinds.List b) name sound is = subst (Contains (encodings (model.ListOf (elements m b.value)))) (sym is) (form_known b.value.form (map container_of b.value.nodes) (elements m b.value) sound.formed)
+encoding_known limits seed m (Set b) name sound is = subst (Contains (encodings (model.SetOf (set.members m b.value)))) (sym is) (set_known (set.members m b.value) b.value.body)
+encoding_known limits seed m (Hash b) name sound is = subst (Contains (encodings (model.HashOf (hash.fields m b.value)))) (sym is) (hash_known (hash.fields m b.value) b.value.body)
+encoding_known limits seed m (Zset b) name sound is = subst (Contains (encodings (model.SortedOf (zset.scores m b.value)))) (sym is) (zset_known (zset.scores m b.value) b.value.body)

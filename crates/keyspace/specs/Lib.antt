@@ -9,3 +9,5 @@ pub mod Forms
 pub mod Shown
 pub mod Commands
 pub mod Seeking
+pub mod Edits
+pub mod Looks

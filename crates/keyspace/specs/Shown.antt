@@ -1,12 +1,13 @@
 -- What a reply shows of the tables and values that stand, beside what the world fixes.
-use Rattle.std.specs.Prelude.{◌≡◌, ℕ, List, [], ◌∷◌, map, Bool, nat_lt, pos, None}
+use Rattle.std.specs.Prelude.{◌≡◌, ◌<◌, ℕ, List, [], ◌∷◌, map, Bool, nat_lt, pos, None}
 use Rattle.std.specs.List.{filter, range_with_len}
 use Rattle.blocks.specs.Blocks.{Blocks}
 use Rattle.blocks.specs.Slabs.{Heap, size_of, slabs_of, used_of}
 use Rattle.rehash_dict.specs.Table.{Table}
 use Rattle.rehash_dict.specs.Scan.{scanned}
 use Rattle.scan_cursor.specs.Page.{scan_list}
-use Rattle.plain_world.specs.Worlds.{live, look}
+use Rattle.plain_world.specs.Worlds.{live, live_keys, look, with_base, no_keys}
+use Rattle.keyspace.specs.Worlds.{emptied}
 use Rattle.plain_world.specs.declared.reply.Part.{Part}
 use Rattle.plain_world.specs.declared.reply.Part.TheVariants.{Number, Bulk, Null}
 use Rattle.plain_model.specs.ConnectionSteps.{ClassSlabs, slab_table}
@@ -77,6 +78,23 @@ pub record IsRehashed {S : Type 0} (blocks : S → Blocks) (steps : ℕ) (old ne
   pub store : new.store ≡ old.store
   pub is : reply ≡ Number (pos found) ∷ []
 
+-- ---- DBSIZE, FLUSHDB, FLUSHALL
+
+module _ {S : Type 0} (blocks : S → Blocks) (old new : Keyspace S) (at : Ctx) where
+  -- just the keys of the selected database that are gone have left it
+  abbrev pub IsPurged : Type 0
+  IsPurged =
+      let was = means at.db old.bases (blocks old.store) in
+      means at.db new.bases (blocks new.store) ≡ with_base was (live_keys (was.bases at.db) at.moment)
+
+  -- the selected database has no key, gone or not
+  abbrev pub IsEmptied : Type 0
+  IsEmptied = means at.db new.bases (blocks new.store) ≡ emptied (means at.db old.bases (blocks old.store))
+
+  -- no database has a key, gone or not
+  abbrev pub AreEmptied : Type 0
+  AreEmptied = (number : ℕ) → number < 16 → (means at.db new.bases (blocks new.store)).bases number ≡ no_keys
+
 -- ---- MEMORY SLABS
 
 -- what stands in the slabs of a class
@@ -101,13 +119,16 @@ key_shown bases m at (keys.ObjectEncoding key) reply = IsActual bases m at key r
 key_shown bases m at (keys.Scan cursor options) reply = IsTablePage bases m at cursor options reply
 key_shown bases m at other reply = Unit {0}
 
-abbrev pub connection_shown : {S : Type 0} → (S → Blocks) → Keyspace S → Keyspace S → ConnectionCommand → List Part
+abbrev pub connection_shown : {S : Type 0} → (S → Blocks) → Keyspace S → Keyspace S → Ctx → ConnectionCommand → List Part
     → Type 0
-connection_shown blocks old new (connection.DebugRehash steps) reply = IsRehashed blocks steps old new reply
-connection_shown blocks old new other reply = Unit {0}
+connection_shown blocks old new at (connection.DebugRehash steps) reply = IsRehashed blocks steps old new reply
+connection_shown blocks old new at connection.DbSize reply = IsPurged blocks old new at
+connection_shown blocks old new at connection.FlushDb reply = IsEmptied blocks old new at
+connection_shown blocks old new at connection.FlushAll reply = AreEmptied blocks old new at
+connection_shown blocks old new at other reply = Unit {0}
 
--- what the reply to a command shows
+-- what the reply to a command shows of tables and values as they stand, and which keys it leaves, gone or not
 abbrev pub Shows : {S : Type 0} → (S → Blocks) → Keyspace S → Keyspace S → Ctx → Command → List Part → Type 0
 Shows blocks old new at (Strings command) reply = Unit {0}
 Shows blocks old new at (Keys command) reply = key_shown old.bases (blocks old.store) at command reply
-Shows blocks old new at (Connection command) reply = connection_shown blocks old new command reply
+Shows blocks old new at (Connection command) reply = connection_shown blocks old new at command reply

@@ -1,6 +1,6 @@
 //! The deadlines of keys that are there at a moment.
 
-ghost use Rattle.std.specs.Prelude.{◌≡◌, ◌<◌, Some, true, IfOk, OnOk, is_some};
+ghost use Rattle.std.specs.Prelude.{◌≡◌, ◌<◌, Some, true, IfOk, OnOk, is_some, OnErr};
 ghost use Rattle.held.specs.Calls.{IsDeadline};
 ghost use Rattle.plain_world.specs.Worlds.{Entry, look, put, in_time, deadline_of};
 ghost use Rattle.plain_model.specs.Deadlines as model;
@@ -52,6 +52,7 @@ fn retime<B: BlockStore>(
     requires late { in_time at.now.moment to ≡ true }
     ensures world { OnOk result ((entry : Entry) → look (sight B.blocks keyspace.old at.now) key.now ≡ Some entry → sight B.blocks keyspace.new at.now ≡ put (sight B.blocks keyspace.old at.now) key.now (record { value = entry.value; deadline = to })) }
     ensures held { Held B.blocks B.step (no_key at.now.db) keyspace.old keyspace.new }
+    ensures err { OnErr result ((keyspace.new.bases ≡ keyspace.old.bases) × (keyspace.new.store ≡ keyspace.old.store)) }
 {
     match keyspace.set_sought(at.db, key, found, to) {
         Ok(_) => Ok(()),
@@ -60,7 +61,8 @@ fn retime<B: BlockStore>(
 }
 
 /// What stands at a key that was sought for the command gets this deadline, in milliseconds; by one that is not after the
-/// moment the key is removed. Where nothing stands there, nothing changes.
+/// moment the key is removed. Where nothing stands there, nothing changes. `Memory` leaves
+/// all.
 pub fn expire_sought<B: BlockStore>(
     keyspace: &mut Keyspace<B>,
     at: &Ctx,
@@ -72,6 +74,7 @@ pub fn expire_sought<B: BlockStore>(
     requires sees { Sees B.blocks keyspace.old at.now key.now found }
     ensures world { OnOk result (sight B.blocks keyspace.new at.now ≡ model.expire (sight B.blocks keyspace.old at.now) at.now.moment key.now due (look (sight B.blocks keyspace.old at.now) key.now)) }
     ensures held { Held B.blocks B.step (no_key at.now.db) keyspace.old keyspace.new }
+    ensures err { OnErr result ((keyspace.new.bases ≡ keyspace.old.bases) × (keyspace.new.store ≡ keyspace.old.store)) }
 {
     match found.there {
         None => Ok(()),
@@ -85,7 +88,8 @@ pub fn expire_sought<B: BlockStore>(
     }
 }
 
-/// What stands at a key that was sought for the command has no deadline any more. The answer is whether it had one.
+/// What stands at a key that was sought for the command has no deadline any more. The answer is whether it had one. `Memory`
+/// leaves all.
 pub fn persist_sought<B: BlockStore>(
     keyspace: &mut Keyspace<B>,
     at: &Ctx,
@@ -97,6 +101,7 @@ pub fn persist_sought<B: BlockStore>(
     ensures answer { IfOk result (λ had. had ≡ is_some (deadline_of (look (sight B.blocks keyspace.old at.now) key.now))) }
     ensures world { OnOk result (sight B.blocks keyspace.new at.now ≡ model.persist (sight B.blocks keyspace.old at.now) key.now (look (sight B.blocks keyspace.old at.now) key.now)) }
     ensures held { Held B.blocks B.step (no_key at.now.db) keyspace.old keyspace.new }
+    ensures err { OnErr result ((keyspace.new.bases ≡ keyspace.old.bases) × (keyspace.new.store ≡ keyspace.old.store)) }
 {
     match found.there {
         None => Ok(false),

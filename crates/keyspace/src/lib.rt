@@ -1,14 +1,19 @@
 //! The sixteen databases of a server over a block store: every key and value stands in its blocks.
 #![tactic(auto)]
 
+mod copying;
 mod deadlines;
+mod edit;
 mod kind;
+mod look;
 #[cfg(test)]
 mod tests;
 mod value;
 
 pub use deadlines::{deadline_at, expire_sought, persist_sought, seek};
+pub use edit::{Edit, edit_there};
 pub use held::{Sought, SoughtAt};
+pub use look::Look;
 pub use value::Value;
 
 /// A store, and the databases over it.

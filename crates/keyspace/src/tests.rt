@@ -28,6 +28,13 @@ impl Model for Held {
     ghost invariant = { λ held. Sound held.keyspace.bases (plain_blocks held.keyspace.store) };
 }
 
+// Lets a string be a number.
+fn renumber_text<B: BlockStore>(value: &mut Value, store: &mut B, n: i64) {
+    if let Value::Text(text) = value {
+        text.set_number(store, n);
+    }
+}
+
 impl Held {
     fn new(alloc: Global) -> Result<Held, Memory> {
         let keyspace = Keyspace::new(alloc, PlainStore::new(alloc), Limits::default(), 7)?;
@@ -61,7 +68,10 @@ impl Held {
         let mut room = [0; 20];
         match self.keyspace.look(db, key, 0) {
             None => false,
-            Some(value) => value.as_text().bytes(&self.keyspace.store, &mut room) == bytes,
+            Some(value) => match value.as_text() {
+                None => false,
+                Some(text) => text.bytes(&self.keyspace.store, &mut room) == bytes,
+            },
         }
     }
 
@@ -72,9 +82,8 @@ impl Held {
         let Some(Lifted { db, item, value }) = self.keyspace.lift(db, key, 0) else {
             return false;
         };
-        let mut text = value.into_text();
-        text.set_number(&mut self.keyspace.store, n);
-        let value = Value::Text(text);
+        let mut value = value;
+        renumber_text(&mut value, &mut self.keyspace.store, n);
         self.keyspace.lower(Lifted { db, item, value });
         true
     }

@@ -1,17 +1,26 @@
-ghost use Rattle.std.specs.Prelude.{◌≡◌, [], IfOk, OnErr};
+ghost use Rattle.std.specs.Prelude.{◌≡◌, ℕ, [], IfOk, OnErr, IfSome, IfNone};
 ghost use Rattle.std.specs.List.{Contains};
 ghost use Rattle.blocks.specs.Blocks.{Blocks, Changes, Owned, Served};
+ghost use Rattle.object_codec.specs.declared.limits.Limits.{Limits};
 ghost use Rattle.plain_model.specs.KeySteps.{type_name, encodings};
-ghost use Rattle.keyspace.specs.Values.{value_of, value_refs, IsEncodedAs, IsLike};
+ghost use Rattle.keyspace.specs.Values.{value_of, value_refs, IsSound, IsText, IsEncodedAs, IsLike};
 
 use blocks::{BlockStore, Memory};
+use hash_object::Fields;
 use plain_model::Line;
+use quicklist::Quick;
+use set_object::Members;
 use string_object::Text;
+use zset_object::Scored;
 
 /// A value. It owns its blocks in the store that each call is lent, and no other block.
-#[derive(Debug, Drop)]
+#[derive(Drop)]
 pub enum Value {
     Text(Text),
+    List(Box<Quick>),
+    Set(Box<Members>),
+    Hash(Box<Fields>),
+    Zset(Box<Scored>),
 }
 
 // A million keys each carry one.
@@ -19,20 +28,24 @@ const _: () = prove!(size_of::<Value>() <= 24);
 
 impl Value {
     /// The string that it is.
-    pub fn as_text(&self) -> &Text
-        ensures { self.now ≡ Value.Text result.now }
+    pub fn as_text(&self) -> Option<&Text>
+        ensures some { IfSome result (λ text. self.now ≡ Value.Text text.now) }
+        ensures none { IfNone result (¬ (IsText self.now)) }
     {
         match self {
-            Value::Text(text) => text,
+            Value::Text(text) => Some(text),
+            Value::List(_) | Value::Set(_) | Value::Hash(_) | Value::Zset(_) => None,
         }
     }
 
-    /// The string that it is, by itself.
+    /// The string that it is. It asks for one.
     pub fn into_text(self) -> Text
+        requires { IsText self }
         ensures { self ≡ Value.Text result }
     {
         match self {
             Value::Text(text) => text,
+            Value::List(_) | Value::Set(_) | Value::Hash(_) | Value::Zset(_) => unreachable!(),
         }
     }
 
@@ -42,28 +55,27 @@ impl Value {
     {
         match self {
             Value::Text(_) => Line::string(),
+            Value::List(_) => Line::list(),
+            Value::Set(_) => Line::set(),
+            Value::Hash(_) => Line::hash(),
+            Value::Zset(_) => Line::zset(),
         }
     }
 
     /// The name of its encoding.
+    #[tactic(auto, using(crate::proofs::Uses::encoding_known))]
     pub fn encoding<B: BlockStore>(&self, store: &B) -> &'static str
-        requires { Owned (value_refs self.now) (B.blocks store.now) }
+        requires owned { Owned (value_refs (B.blocks store.now) self.now) (B.blocks store.now) }
+        requires sound { (limits : Limits) × (seed : ℕ) × IsSound limits seed (B.blocks store.now) self.now }
         ensures is { IsEncodedAs (B.blocks store.now) self.now result.now }
         ensures known { Contains (encodings (value_of (B.blocks store.now) self.now)) result.now }
     {
-        self.as_text().name(store).text()
-    }
-
-    /// Another value that means the same, with the same encoding, in blocks of its own. `Memory` leaves all blocks.
-    pub fn copy<B: BlockStore>(&self, store: &mut B) -> Result<Value, Memory>
-        requires { Owned (value_refs self.now) (B.blocks store.old) }
-        ensures same { IfOk result (λ value. value_of (B.blocks store.new) value ≡ value_of (B.blocks store.old) self.now) }
-        ensures encoding { IfOk result (λ value. IsLike self.now value) }
-        ensures changes { IfOk result (λ value. Changes (B.blocks store.old) (B.blocks store.new) [] (value_refs value)) }
-        ensures served { Served B.step store.old store.new }
-        ensures err { OnErr result (B.blocks store.new ≡ B.blocks store.old) }
-    {
-        let text = self.as_text().copy(store)?;
-        Ok(Value::Text(text))
+        match self {
+            Value::Text(text) => text.name(store).text(),
+            Value::List(list) => list.form().text(),
+            Value::Set(members) => members.form().text(),
+            Value::Hash(fields) => fields.form().text(),
+            Value::Zset(scored) => scored.form().text(),
+        }
     }
 }

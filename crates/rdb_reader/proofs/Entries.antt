@@ -41,7 +41,7 @@ pub one_of_any : (db : ℕ) (key : List ℕ) (old new : Bases) (m after : Blocks
 one_of_any db key old new m after p = within_wider values.value_refs (one_key db key) any_key (λ number touched. tt) (λ number other named. tt) (λ number no. no) old new m after p
 
 -- a value that was made is put
-pub value_put : {E : Type 0} (db : ℕ) (bases : Bases) (m after : Blocks) (made : code.Value) (sound : Sound bases m) (p : Changes m after [] (values.value_refs made)) (new : Bases) (later : Blocks) (key : List ℕ) (value : Value) (deadline : Option ℕ)
+pub value_put : {E : Type 0} (db : ℕ) (bases : Bases) (m after : Blocks) (made : code.Value) (sound : Sound bases m) (p : Changes m after [] (values.value_refs after made)) (new : Bases) (later : Blocks) (key : List ℕ) (value : Value) (deadline : Option ℕ)
     → values.value_of after made ≡ value → (result : Result (Unit {0}) E)
     → OnOk result (means db new later ≡ put (means db bases after) key (record { value = values.value_of after made; deadline = deadline }))
     → OnOk result (means db new later ≡ put (means db bases m) key (record { value = value; deadline = deadline }))

@@ -1,6 +1,7 @@
 //! Keys of a file, put into a keyspace.
 
-ghost use Rattle.std.specs.Prelude.{◌≡◌, ◌<◌, [], OnOk, OnErr, IfOk, is_some, true};
+ghost use Rattle.object_codec.specs.declared.limits.Limits.{Limits};
+ghost use Rattle.std.specs.Prelude.{◌≡◌, ◌<◌, ℕ, [], OnOk, OnErr, IfOk, is_some, true};
 ghost use Rattle.blocks.specs.Blocks.{Changes, Served};
 ghost use Rattle.plain_world.specs.Worlds.{in_time, look, put};
 ghost use Rattle.keyspace.specs.Databases.{means, SameSettings};
@@ -32,7 +33,8 @@ fn text<'a>(chunk: &'a Chunk<'a>, buffer: &'a mut Buffer) -> &'a [u8]
 fn make_value<B: BlockStore>(store: &mut B, value: &FileValue<'_>) -> Result<Value, Memory>
     ensures means { IfOk result (λ made. values.value_of (B.blocks store.new) made ≡ value_of value.now) }
     ensures whole { IfOk result (λ made. values.IsWhole made) }
-    ensures changes { IfOk result (λ made. Changes (B.blocks store.old) (B.blocks store.new) [] (values.value_refs made)) }
+    ensures changes { IfOk result (λ made. Changes (B.blocks store.old) (B.blocks store.new) [] (values.value_refs (B.blocks store.new) made)) }
+    ensures sound { IfOk result (λ made. (limits : Limits) (seed : ℕ) → values.IsSound limits seed (B.blocks store.new) made) }
     ensures served { Served B.step store.old store.new }
     ensures err { OnErr result (B.blocks store.new ≡ B.blocks store.old) }
 {

@@ -10,11 +10,11 @@ use Rattle.rehash_dict.proofs.MapOf.{map_of-stands}
 use Rattle.held.specs.declared.databases.Base.{Base}
 use Rattle.held.specs.Table.{Element, item}
 use Rattle.held.specs.Databases.{no_base, base_at, table_at, deadlines_at}
-use Rattle.held.specs.Sound.{IsArranged}
+use Rattle.keyspace.specs.Sound.{IsArranged}
 use Rattle.held.proofs.Calls.{look_stands, look_lacks, deadline_seen}
 use Rattle.held.proofs.Timing.{moments_lack}
 use Rattle.held.proofs.Within.{within_wider}
-use Rattle.plain_world.specs.Worlds.{live, look, deadline_of}
+use Rattle.plain_world.specs.Worlds.{World, live, look, deadline_of}
 use Rattle.plain_world.specs.declared.reply.Part.{Part}
 use Rattle.plain_model.specs.Outcomes.{IsRefusal}
 use Rattle.plain_model.specs.Steps.{may}
@@ -103,23 +103,23 @@ module _ (scope : Scope) (touched : Touched) (fits : Fits scope touched) (old ne
   }
 
 -- what a reply shows of the tables before it, it shows whatever follows
-connection_shows_on : {S : Type 0} (blocks : S → Blocks) (old mid new : Keyspace S) (command : ConnectionCommand) → found.IsCommon command → (reply : List Part) → connection_shown blocks old mid command reply → connection_shown blocks old new command reply
-connection_shows_on blocks old mid new (connection.Ping text) none reply s = tt
-connection_shows_on blocks old mid new (connection.Echo text) none reply s = tt
-connection_shows_on blocks old mid new connection.Quit none reply s = tt
-connection_shows_on blocks old mid new (connection.Select number) none reply s = tt
-connection_shows_on blocks old mid new connection.DbSize none reply s = tt
-connection_shows_on blocks old mid new connection.FlushDb none reply s = tt
-connection_shows_on blocks old mid new connection.FlushAll none reply s = tt
-connection_shows_on blocks old mid new connection.MemorySlabs none reply s = absurd none
-connection_shows_on blocks old mid new (connection.DebugRehash n) none reply s = absurd none
-connection_shows_on blocks old mid new (connection.DebugDefrag n) none reply s = absurd none
+connection_shows_on : {S : Type 0} (blocks : S → Blocks) (old mid new : Keyspace S) (at : Ctx) (same : means at.db new.bases (blocks new.store) ≡ means at.db mid.bases (blocks mid.store)) (command : ConnectionCommand) → found.IsCommon command → (reply : List Part) → connection_shown blocks old mid at command reply → connection_shown blocks old new at command reply
+connection_shows_on blocks old mid new at same (connection.Ping text) none reply s = tt
+connection_shows_on blocks old mid new at same (connection.Echo text) none reply s = tt
+connection_shows_on blocks old mid new at same connection.Quit none reply s = tt
+connection_shows_on blocks old mid new at same (connection.Select number) none reply s = tt
+connection_shows_on blocks old mid new at same connection.DbSize none reply s = same ∙ s
+connection_shows_on blocks old mid new at same connection.FlushDb none reply s = same ∙ s
+connection_shows_on blocks old mid new at same connection.FlushAll none reply s = λ number below. ap (λ (w : World). w.bases number) same ∙ s number below
+connection_shows_on blocks old mid new at same connection.MemorySlabs none reply s = absurd none
+connection_shows_on blocks old mid new at same (connection.DebugRehash n) none reply s = absurd none
+connection_shows_on blocks old mid new at same (connection.DebugDefrag n) none reply s = absurd none
 
 -- what the reply of a common command shows of the tables before it, it shows whatever follows
-shows_on : {S : Type 0} (blocks : S → Blocks) (old mid new : Keyspace S) (at : Ctx) (command : Command) → IsCommon command → (reply : List Part) → Shows blocks old mid at command reply → Shows blocks old new at command reply
-shows_on blocks old mid new at (Strings command) none reply s = tt
-shows_on blocks old mid new at (Keys command) none reply s = s
-shows_on blocks old mid new at (Connection command) none reply s = connection_shows_on blocks old mid new command none reply s
+shows_on : {S : Type 0} (blocks : S → Blocks) (old mid new : Keyspace S) (at : Ctx) (same : means at.db new.bases (blocks new.store) ≡ means at.db mid.bases (blocks mid.store)) (command : Command) → IsCommon command → (reply : List Part) → Shows blocks old mid at command reply → Shows blocks old new at command reply
+shows_on blocks old mid new at same (Strings command) none reply s = tt
+shows_on blocks old mid new at same (Keys command) none reply s = s
+shows_on blocks old mid new at same (Connection command) none reply s = connection_shows_on blocks old mid new at same command none reply s
 
 -- ---- a command ran, and then its tables were settled
 
@@ -143,7 +143,7 @@ module _ {S E : Type 0} (blocks : S → Blocks) (step : S → S → Type 0) (old
   -- a common command with its tables settled behind it runs as it did, where the settling leaves the world
   pub settled_runs : IsCommon command → ((number : ℕ) → means number new.bases (blocks new.store) ≡ means number mid.bases (blocks mid.store)) → Runs {E = E} blocks step old new at command (Ok reply)
   settled_runs none world = record {
-    shows = shows_on blocks old mid new at command none reply ran.shows;
+    shows = shows_on blocks old mid new at (world at.db) command none reply ran.shows;
     forms = formed_on blocks (form_of at.db (sight blocks old at) command) (shrinking (touched_of at.db command)) old mid new (λ db key no. no) ran.forms settled.within;
     answers = subst (λ w. may old.bases.seed (sight blocks old at) at.moment command reply (live w at.moment)) (sym (world at.db)) ran.answers;
     kept = record { refusals = λ refused. absurd (calm refused); held = held_both };

@@ -22,16 +22,16 @@ use Rattle.redis_core.specs.Engines.{State, keyspace_of}
 use Rattle.redis_core.specs.declared.background.StepsDone.{StepsDone}
 
 -- what a walk has passed depends on the elements alone
-passed_same : (old new : Bases) (walk : Walk) (r : BlockRef) → ((db : ℕ) → (table_at new db).items ≡ (table_at old db).items) → HasPassed value_refs value_marks new walk r → HasPassed value_refs value_marks old walk r
-passed_same old new walk r same (of_database number at e below found isin) = of_database number at e below (sym (at_same number at) ∙ found) isin
+passed_same : (m : Blocks) (old new : Bases) (walk : Walk) (r : BlockRef) → ((db : ℕ) → (table_at new db).items ≡ (table_at old db).items) → HasPassed (value_refs m) (value_marks m) new walk r → HasPassed (value_refs m) (value_marks m) old walk r
+passed_same m old new walk r same (of_database number at e below found isin) = of_database number at e below (sym (at_same number at) ∙ found) isin
   where
     at_same : (number at : ℕ) → item (table_at new number) at ≡ item (table_at old number) at
     at_same number at = ap (λ items. item (record (table_at new number) { items = items }) at) (same number)
-passed_same old new walk r same (of_item at e below found isin) = of_item at e below (sym (at_same walk.database at) ∙ found) isin
+passed_same m old new walk r same (of_item at e below found isin) = of_item at e below (sym (at_same walk.database at) ∙ found) isin
   where
     at_same : (number at : ℕ) → item (table_at new number) at ≡ item (table_at old number) at
     at_same number at = ap (λ items. item (record (table_at new number) { items = items }) at) (same number)
-passed_same old new walk r same (of_mark e found before) = of_mark e (sym (at_same walk.database walk.item) ∙ found) before
+passed_same m old new walk r same (of_mark e found before) = of_mark e (sym (at_same walk.database walk.item) ∙ found) before
   where
     at_same : (number at : ℕ) → item (table_at new number) at ≡ item (table_at old number) at
     at_same number at = ap (λ items. item (record (table_at new number) { items = items }) at) (same number)
@@ -40,8 +40,8 @@ module _ {S : Type 0} (blocks : S → Blocks) (heap : S → Heap) where
   -- rehash steps leave it
   swept_same : (old new : Keyspace S) (walk : Walk) → new.store ≡ old.store → ((db : ℕ) → (table_at new.bases db).items ≡ (table_at old.bases db).items) → IsSweptTo blocks heap old walk → IsSweptTo blocks heap new walk
   swept_same old new walk store same s =
-      subst (λ (x : S). Swept (heap x) (HasPassed value_refs value_marks new.bases walk)) (sym store)
-      (record { passing = s.passing; kept = s.kept; calm = λ r passed. s.calm r (passed_same old.bases new.bases walk r same passed) })
+      subst (λ (x : S). Swept (heap x) (HasPassed (value_refs (blocks x)) (value_marks (blocks x)) new.bases walk)) (sym store)
+      (record { passing = s.passing; kept = s.kept; calm = λ r passed. s.calm r (passed_same (blocks old.store) old.bases new.bases walk r same passed) })
 
   tidy_same : (old new : Keyspace S) (walk : Option Walk) → new.store ≡ old.store → ((db : ℕ) → (table_at new.bases db).items ≡ (table_at old.bases db).items) → IsTidy blocks heap old walk → IsTidy blocks heap new walk
   tidy_same old new None store same t = tt

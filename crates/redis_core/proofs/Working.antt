@@ -4,7 +4,7 @@ use Rattle.outside.specs.declared.pacing.Plan.{Plan}
 use Rattle.blocks.specs.Blocks.{Blocks, Served}
 use Rattle.blocks.specs.Slabs.{Heap}
 use Rattle.std.specs.Prelude.{◌↔◌}
-use Rattle.defrag.specs.Ways.{shape, SameShapes, Goes}
+use Rattle.defrag.specs.Ways.{shapes, SameShapes, Goes}
 use Rattle.defrag.specs.declared.walk.Visit.{Visit}
 use Rattle.defrag.specs.declared.walk.Visit.TheVariants.{More, Done}
 use Rattle.defrag.specs.declared.walk.Walk.{Walk}
@@ -14,7 +14,7 @@ use Rattle.held.specs.Rehash.{Rehashed}
 use Rattle.plain_world.specs.Worlds.{live}
 use Rattle.keyspace.specs.Databases.{Bases, Keyspace, SameSettings, means}
 use Rattle.keyspace.specs.Sound.{Sound}
-use Rattle.keyspace.specs.Values.{value_of, value_refs, value_marks, encoding_of}
+use Rattle.keyspace.specs.Values.{value_tables, IsSound, value_of, value_refs, value_marks, encoding_of}
 use Rattle.keyspace.proofs.Calls.{settings_then}
 use Rattle.redis_core.specs.Walking.{left_open, IsSweptTo, HasLeastSlabs, Opens, WalksOn, Packs}
 use Rattle.redis_core.specs.Background.{DoesPlan, EngineRests}
@@ -27,17 +27,17 @@ module _ {S : Type 0} (blocks : S → Blocks) (heap : S → Heap) (old mid new :
   pub opened_sound : Sound old.bases (blocks old.store) → Sound mid.bases (blocks mid.store)
   opened_sound sound = subst (λ (b : Bases). Sound b (blocks mid.store)) (sym bases) (subst (Sound old.bases) (sym same) sound)
 
-  pub walked_means : Relocates value_refs value_of mid.bases new.bases (blocks mid.store) (blocks new.store) → (number : ℕ) → means number new.bases (blocks new.store) ≡ means number old.bases (blocks old.store)
+  pub walked_means : Relocates value_refs value_of IsSound mid.bases new.bases (blocks mid.store) (blocks new.store) → (number : ℕ) → means number new.bases (blocks new.store) ≡ means number old.bases (blocks old.store)
   walked_means r number = r.means number ∙ ap (λ (b : Bases). means number b (blocks mid.store)) bases ∙ ap (means number old.bases) same
 
-  pub walked_settings : Relocates value_refs value_of mid.bases new.bases (blocks mid.store) (blocks new.store) → SameSettings old.bases new.bases
+  pub walked_settings : Relocates value_refs value_of IsSound mid.bases new.bases (blocks mid.store) (blocks new.store) → SameSettings old.bases new.bases
   walked_settings r = subst (λ (b : Bases). SameSettings b new.bases) bases r.settings
 
   -- one step of the walk
-  pub walked : Sound old.bases (blocks old.store) → Relocates value_refs value_of mid.bases new.bases (blocks mid.store) (blocks new.store) → SameShapes encoding_of mid.bases new.bases → Goes (shape value_marks mid.bases) from to visit → (visit ≡ Done) ↔ (to.database ≡ 16)
+  pub walked : Sound old.bases (blocks old.store) → Relocates value_refs value_of IsSound mid.bases new.bases (blocks mid.store) (blocks new.store) → SameShapes encoding_of encoding_of mid.bases new.bases → SameShapes (value_tables (blocks mid.store)) (value_tables (blocks new.store)) mid.bases new.bases → Goes (shapes (value_marks (blocks mid.store)) mid.bases) from to visit → (visit ≡ Done) ↔ (to.database ≡ 16)
       → (visit ≡ More → IsSweptTo blocks heap mid from → IsSweptTo blocks heap new to) → (visit ≡ Done → Sound mid.bases (blocks mid.store) → IsSweptTo blocks heap mid from → HasLeastSlabs blocks heap new)
       → (after : Option Walk) → after ≡ left_open visit to → WalksOn blocks heap old new before after
-  walked sound r encodings goes ended swept least after left = record {
+  walked sound r encodings tables goes ended swept least after left = record {
     mid = mid;
     from = from;
     to = to;
@@ -45,6 +45,7 @@ module _ {S : Type 0} (blocks : S → Blocks) (heap : S → Heap) (old mid new :
     opens = opens;
     relocates = r;
     encodings = encodings;
+    tables = tables;
     goes = goes;
     ended = ended;
     left = left;

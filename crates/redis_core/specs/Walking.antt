@@ -3,7 +3,7 @@ use Rattle.std.specs.Prelude.{◌≡◌, ◌↔◌, ℕ, ◌+◌, ◌<◌, Bool,
 use Rattle.blocks.specs.Blocks.{Blocks}
 use Rattle.blocks.specs.Slabs.{Heap, Begun, slabs_of, needed}
 use Rattle.defrag.specs.Swept.{IsSwept}
-use Rattle.defrag.specs.Ways.{shape, SameShapes, Goes}
+use Rattle.defrag.specs.Ways.{shapes, SameShapes, Goes}
 use Rattle.defrag.specs.declared.walk.Visit.{Visit}
 use Rattle.defrag.specs.declared.walk.Visit.TheVariants.{More, Done}
 use Rattle.defrag.specs.declared.walk.Walk.{Walk}
@@ -17,7 +17,7 @@ use Rattle.plain_model.specs.declared.connection.ConnectionCommand.{ConnectionCo
 use Rattle.plain_model.specs.declared.connection.ConnectionCommand.TheVariants as connection
 use Rattle.keyspace.specs.Databases.{Keyspace}
 use Rattle.keyspace.specs.Shown.{ListsSlabs}
-use Rattle.keyspace.specs.Values.{value_of, value_refs, value_marks, encoding_of}
+use Rattle.keyspace.specs.Values.{value_of, value_refs, value_marks, value_tables, IsSound, encoding_of}
 
 -- a walk that is open stands in a database
 abbrev pub IsOpen : Option Walk → Type 0
@@ -40,7 +40,8 @@ left_open Done walk = None
 module _ {S : Type 0} (blocks : S → Blocks) (heap : S → Heap) where
   -- no block that the walk has passed wants to move, and as many slabs are kept as are needed
   abbrev pub IsSweptTo : Keyspace S → Walk → Type 0
-  IsSweptTo keyspace walk = IsSwept value_refs value_marks keyspace.bases (heap keyspace.store) walk
+  IsSweptTo keyspace walk =
+      IsSwept (value_refs (blocks keyspace.store)) (value_marks (blocks keyspace.store)) keyspace.bases (heap keyspace.store) walk
 
   -- each class has as many slabs as its blocks need, and no more
   abbrev pub HasLeastSlabs : Keyspace S → Type 0
@@ -57,17 +58,18 @@ module _ {S : Type 0} (blocks : S → Blocks) (heap : S → Heap) where
     new_walk : mid.bases ≡ old.bases → blocks mid.store ≡ blocks old.store → Begun (heap old.store) (heap mid.store)
         → IsSweptTo mid first_place → Opens old mid None first_place
 
-  -- One step of the walk moves blocks, which leaves how values are encoded, and leaves the walk further on, or none
-  -- where it came through all databases.
+  -- One step of the walk moves blocks, which leaves how values are encoded and their tables, and leaves the walk further
+  -- on, or none where it came through all databases.
   pub record WalksOn (old new : Keyspace S) (before after : Option Walk) : Type 0 where
     pub mid : Keyspace S
     pub from : Walk
     pub to : Walk
     pub visit : Visit
     pub opens : Opens old mid before from
-    pub relocates : Relocates value_refs value_of mid.bases new.bases (blocks mid.store) (blocks new.store)
-    pub encodings : SameShapes encoding_of mid.bases new.bases
-    pub goes : Goes (shape value_marks mid.bases) from to visit
+    pub relocates : Relocates value_refs value_of IsSound mid.bases new.bases (blocks mid.store) (blocks new.store)
+    pub encodings : SameShapes encoding_of encoding_of mid.bases new.bases
+    pub tables : SameShapes (value_tables (blocks mid.store)) (value_tables (blocks new.store)) mid.bases new.bases
+    pub goes : Goes (shapes (value_marks (blocks mid.store)) mid.bases) from to visit
     pub ended : (visit ≡ Done) ↔ (to.database ≡ 16)
     pub left : after ≡ left_open visit to
     pub swept : visit ≡ More → IsSweptTo mid from → IsSweptTo new to

@@ -5,7 +5,7 @@ ghost use Rattle.plain_world.specs.Worlds.{Entry, World, look, put_in};
 ghost use Rattle.plain_model.specs.KeySteps.{or_selected};
 ghost use Rattle.plain_model.specs.declared.keys.KeyCommand.TheVariants as commands;
 ghost use Rattle.blocks.specs.Blocks.{Served};
-ghost use Rattle.keyspace.specs.Values.{value_of, value_refs};
+ghost use Rattle.keyspace.specs.Values.{value_of, value_refs, IsSound};
 ghost use Rattle.keyspace.specs.Databases.{means, SameSettings};
 ghost use Rattle.keyspace.specs.Sound.{Sound, SoundBeside};
 ghost use Rattle.keyspace.specs.Scopes.{one_key, two_keys, number_or, Within};
@@ -30,7 +30,8 @@ fn copy_value<B: BlockStore>(
     requires there { StandsAt keyspace.old.bases (B.blocks keyspace.old.store) at.now.db key.now at.now.moment item }
     ensures world { means at.now.db keyspace.new.bases (B.blocks keyspace.new.store) ≡ means at.now.db keyspace.old.bases (B.blocks keyspace.old.store) }
     ensures value { IfOk result (λ value. (entry : Entry) → look (sight B.blocks keyspace.old at.now) key.now ≡ Some entry → value_of (B.blocks keyspace.new.store) value ≡ entry.value) }
-    ensures sound { IfOk result (λ value. SoundBeside keyspace.new.bases (B.blocks keyspace.new.store) (value_refs value)) }
+    ensures sound { IfOk result (λ value. SoundBeside keyspace.new.bases (B.blocks keyspace.new.store) (value_refs (B.blocks keyspace.new.store) value)) }
+    ensures kind { IfOk result (λ value. IsSound keyspace.new.bases.limits keyspace.new.bases.seed (B.blocks keyspace.new.store) value) }
     ensures err { OnErr result (Sound keyspace.new.bases (B.blocks keyspace.new.store)) }
     ensures served { Served B.step keyspace.old.store keyspace.new.store }
     ensures within { Within (one_key at.now.db key.now) keyspace.old.bases keyspace.new.bases (B.blocks keyspace.old.store) (B.blocks keyspace.new.store) }
@@ -40,7 +41,9 @@ fn copy_value<B: BlockStore>(
 {
     let _ = key;
     let lifted = keyspace.lift_at(at.db, item);
-    let copied = lifted.value.copy(&mut keyspace.store);
+    let alloc = keyspace.alloc();
+    let limits = keyspace.limits();
+    let copied = lifted.value.copy(alloc, limits, &mut keyspace.store);
     keyspace.lower(lifted);
     match copied {
         Ok(value) => Ok(value),

@@ -17,7 +17,7 @@ ghost use Rattle.cmd_values.specs.Changed.{changed, HasRoom};
 use crate::strings::look::{length_at, length_reply, length_sought};
 use crate::strings::writing::put_string;
 use blocks::BlockStore;
-use keyspace::{Keyspace, Lifted, Value, seek};
+use keyspace::{Keyspace, Lifted, Look, Value, seek};
 use plain_model::{Ctx, LONGEST, Memory, Refusal, Reply};
 use string_object::Text;
 
@@ -57,7 +57,7 @@ fn change_there<B: BlockStore>(
     change: Change<'_>,
 ) -> Result<(), Memory>
     requires ready { Ready B.blocks keyspace.old at.now }
-    requires there { is_some (look (sight B.blocks keyspace.old at.now) key.now) ≡ true }
+    requires there { (bytes : List ℕ) × IsThere (sight B.blocks keyspace.old at.now) key.now bytes }
     requires room { (bytes : List ℕ) → IsThere (sight B.blocks keyspace.old at.now) key.now bytes → HasRoom change bytes }
     ensures becomes { OnOk result (Becomes (sight B.blocks keyspace.old at.now) key.now (changed change.entry) (sight B.blocks keyspace.new at.now)) }
     ensures held { Held B.blocks B.step (one_key at.now.db key.now) keyspace.old keyspace.new }
@@ -91,14 +91,15 @@ pub fn append<B: BlockStore>(
 {
     let alloc = keyspace.alloc();
     match length_at(keyspace, at, key) {
-        None => {
+        Look::Other => Reply::refused(alloc, Refusal::WrongType),
+        Look::Missing => {
             if tail.len() > LONGEST {
                 return Reply::refused(alloc, Refusal::ValueOutOfRange);
             }
             put_string(keyspace, at, key, None, tail)?;
             length_reply(alloc, tail.len())
         }
-        Some(length) => {
+        Look::There(length) => {
             let length = length + tail.len();
             if length > LONGEST {
                 return Reply::refused(alloc, Refusal::ValueOutOfRange);
@@ -126,7 +127,8 @@ pub fn setrange<B: BlockStore>(
     let alloc = keyspace.alloc();
     let found = seek(keyspace, at, key);
     match length_sought(keyspace, at, key, found) {
-        None => {
+        Look::Other => Reply::refused(alloc, Refusal::WrongType),
+        Look::Missing => {
             if piece.is_empty() {
                 return length_reply(alloc, 0);
             }
@@ -134,7 +136,7 @@ pub fn setrange<B: BlockStore>(
             change_there(keyspace, at, key, Change::Write(place, piece))?;
             length_reply(alloc, place as usize + piece.len())
         }
-        Some(length) => {
+        Look::There(length) => {
             if piece.is_empty() {
                 return length_reply(alloc, length);
             }

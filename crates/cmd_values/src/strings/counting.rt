@@ -1,7 +1,7 @@
 //! Commands that count on a string that is a number.
 
-ghost use Rattle.std.specs.Prelude.{◌≡◌, ◌<◌, List, ℕ, ℤ, [], ◌∷◌, None, IfOk, IfSome, IfNone, OnOk};
-ghost use Rattle.plain_world.specs.Worlds.{look};
+ghost use Rattle.std.specs.Prelude.{◌≡◌, ◌<◌, List, Option, ℕ, ℤ, pos, [], ◌∷◌, None, Some, IfOk, OnOk};
+ghost use Rattle.plain_world.specs.Worlds.{Entry, look};
 ghost use Rattle.int_text.specs.Decimal.{canonical};
 ghost use Rattle.plain_model.specs.StringSteps.{change};
 ghost use Rattle.plain_world.specs.declared.reply.Part.TheVariants as parts;
@@ -11,28 +11,43 @@ ghost use Rattle.keyspace.specs.Forms.{Whole, Formed};
 ghost use Rattle.keyspace.specs.Commands.{Ready, Held, Kept, sight};
 ghost use Rattle.keyspace.specs.Seeking.{Sees};
 ghost use Rattle.held.specs.Calls.{Seeks, StandsAt};
-ghost use Rattle.cmd_values.specs.Found.{Gives, NumberAt};
+ghost use Rattle.cmd_values.specs.Found.{Gives, IsString};
+ghost use Rattle.cmd_values.specs.Counted.{IsCounted};
 
+use crate::strings::look::sought_text;
 use blocks::BlockStore;
-use keyspace::{Keyspace, Lifted, Sought, SoughtAt, Value, seek};
+use keyspace::{Keyspace, Lifted, Look, Sought, SoughtAt, Value, seek};
 use plain_model::{Ctx, Memory, Refusal, Reply};
 use string_object::Text;
 
-// The number that the string of an item number is, 0 where there is none.
-fn number_at<B: BlockStore>(keyspace: &Keyspace<B>, at: &Ctx, there: Option<usize>) -> Option<i64>
+// What a command that counts finds at a key.
+enum Counted {
+    // A number; where nothing stands it is 0.
+    Number(i64),
+    // A string that is none.
+    NoNumber,
+    // A value of another type.
+    Other,
+}
+
+// The number at a key.
+fn number_at<B: BlockStore>(
+    keyspace: &Keyspace<B>,
+    at: &Ctx,
+    key: &[u8],
+    found: SoughtAt,
+) -> Counted
     requires ready { Ready B.blocks keyspace.now at.now }
-    requires there { IfSome there (λ item. (key : List ℕ) × StandsAt keyspace.now.bases (B.blocks keyspace.now.store) at.now.db key at.now.moment item) }
-    ensures { (key : List ℕ) → IfSome there (λ item. StandsAt keyspace.now.bases (B.blocks keyspace.now.store) at.now.db key at.now.moment item) → IfNone there (look (sight B.blocks keyspace.now at.now) key ≡ None) → NumberAt (sight B.blocks keyspace.now at.now) key result }
+    requires sees { Sees B.blocks keyspace.now at.now key.now found }
+    ensures { IsCounted (sight B.blocks keyspace.now at.now) key.now result }
 {
-    match there {
-        None => Some(0),
-        Some(item) => {
-            let text = keyspace.value_at(at.db, item).as_text();
-            match text.number(&keyspace.store) {
-                Some(n) => Some(n),
-                None => None,
-            }
-        }
+    match sought_text(keyspace, at, key, found) {
+        Look::Missing => Counted::Number(0),
+        Look::Other => Counted::Other,
+        Look::There(text) => match text.number(&keyspace.store) {
+            Some(n) => Counted::Number(n),
+            None => Counted::NoNumber,
+        },
     }
 }
 
@@ -64,6 +79,7 @@ fn write_number<B: BlockStore>(
 ) -> Result<Reply, Memory>
     requires ready { Ready B.blocks keyspace.old at.now }
     requires sees { Sees B.blocks keyspace.old at.now key.now found }
+    requires string { (entry : Entry) → look (sight B.blocks keyspace.old at.now) key.now ≡ Some entry → IsString entry.value }
     ensures reply { IfOk result (λ reply. reply ≡ parts.Number n ∷ []) }
     ensures world { OnOk result (sight B.blocks keyspace.new at.now ≡ change (sight B.blocks keyspace.old at.now) key.now (canonical n)) }
     ensures held { Held B.blocks B.step (one_key at.now.db key.now) keyspace.old keyspace.new }
@@ -101,9 +117,10 @@ pub fn incrby<B: BlockStore>(
     ensures forms { IfOk result (λ reply. Formed B.blocks Whole keyspace.old keyspace.new) }
 {
     let found = seek(keyspace, at, key);
-    match number_at(keyspace, at, found.there) {
-        None => Reply::refused(keyspace.alloc(), Refusal::NotAnInteger),
-        Some(n) => match n.checked_add(by) {
+    match number_at(keyspace, at, key, found) {
+        Counted::Other => Reply::refused(keyspace.alloc(), Refusal::WrongType),
+        Counted::NoNumber => Reply::refused(keyspace.alloc(), Refusal::NotAnInteger),
+        Counted::Number(n) => match n.checked_add(by) {
             None => Reply::refused(keyspace.alloc(), Refusal::Overflow),
             Some(next) => write_number(keyspace, at, key, found, next),
         },
@@ -124,9 +141,10 @@ pub fn decrby<B: BlockStore>(
     ensures forms { IfOk result (λ reply. Formed B.blocks Whole keyspace.old keyspace.new) }
 {
     let found = seek(keyspace, at, key);
-    match number_at(keyspace, at, found.there) {
-        None => Reply::refused(keyspace.alloc(), Refusal::NotAnInteger),
-        Some(n) => match n.checked_sub(by) {
+    match number_at(keyspace, at, key, found) {
+        Counted::Other => Reply::refused(keyspace.alloc(), Refusal::WrongType),
+        Counted::NoNumber => Reply::refused(keyspace.alloc(), Refusal::NotAnInteger),
+        Counted::Number(n) => match n.checked_sub(by) {
             None => Reply::refused(keyspace.alloc(), Refusal::Overflow),
             Some(next) => write_number(keyspace, at, key, found, next),
         },

@@ -1,8 +1,9 @@
 //! Commands that write or read a string with a deadline.
 
-ghost use Rattle.std.specs.Prelude.{◌≡◌, ◌<◌, ◌^◌, IfOk};
+ghost use Rattle.std.specs.Prelude.{◌≡◌, ◌<◌, ◌^◌, [], ◌∷◌, IfOk};
 ghost use Rattle.plain_model.specs.Deadlines as deadlines;
-ghost use Rattle.plain_model.specs.StringSteps.{set_for, getex_outcome};
+ghost use Rattle.plain_world.specs.Worlds.{look};
+ghost use Rattle.plain_model.specs.StringSteps.{set_for, getex_outcome, on_string, or_null};
 ghost use Rattle.plain_model.specs.Outcomes.{leaves};
 ghost use Rattle.plain_model.specs.declared.times.TimeUnit.TheVariants.{Seconds, Milliseconds};
 ghost use Rattle.plain_model.specs.declared.times.Renewal.TheVariants as renewals;
@@ -12,7 +13,8 @@ ghost use Rattle.keyspace.specs.Forms.{Whole, Formed};
 ghost use Rattle.keyspace.specs.Commands.{Ready, Kept, sight};
 ghost use Rattle.cmd_values.specs.Found.{Gives};
 
-use crate::strings::look::{old_value, sought_value};
+use crate::strings::look::sought_value;
+use crate::strings::reading::get;
 use crate::strings::writing::put_lasting;
 use blocks::BlockStore;
 use keyspace::{Keyspace, expire_sought, persist_sought, seek};
@@ -97,6 +99,27 @@ pub fn psetex<B: BlockStore>(
     )
 }
 
+// The value is answered, and its deadline is set to a moment in milliseconds.
+fn get_expiring<B: BlockStore>(
+    keyspace: &mut Keyspace<B>,
+    at: &Ctx,
+    key: &[u8],
+    due: i64,
+) -> Result<Reply, Memory>
+    requires ready { Ready B.blocks keyspace.old at.now }
+    ensures gives { IfOk result (λ reply. on_string (sight B.blocks keyspace.old at.now) (look (sight B.blocks keyspace.old at.now) key.now) (λ before. leaves (or_null before ∷ []) (deadlines.expire (sight B.blocks keyspace.old at.now) at.now.moment key.now due (look (sight B.blocks keyspace.old at.now) key.now))) ≡ leaves reply (sight B.blocks keyspace.new at.now)) }
+    ensures kept { Kept B.blocks B.step (no_key at.now.db) keyspace.old keyspace.new result }
+{
+    let found = seek(keyspace, at, key);
+    match sought_value(keyspace, at, key, found)? {
+        None => Reply::refused(keyspace.alloc(), Refusal::WrongType),
+        Some(reply) => {
+            expire_sought(keyspace, at, key, found, due)?;
+            Ok(reply)
+        }
+    }
+}
+
 // The value is answered, and its deadline is set.
 fn get_until<B: BlockStore>(
     keyspace: &mut Keyspace<B>,
@@ -110,12 +133,7 @@ fn get_until<B: BlockStore>(
 {
     match time.due(at.moment) {
         None => Reply::refused(keyspace.alloc(), Refusal::InvalidExpireTime),
-        Some(due) => {
-            let found = seek(keyspace, at, key);
-            let reply = sought_value(keyspace, at, key, found)?;
-            expire_sought(keyspace, at, key, found, due)?;
-            Ok(reply)
-        }
+        Some(due) => get_expiring(keyspace, at, key, due),
     }
 }
 
@@ -130,9 +148,13 @@ fn get_persisting<B: BlockStore>(
     ensures kept { Kept B.blocks B.step (no_key at.now.db) keyspace.old keyspace.new result }
 {
     let found = seek(keyspace, at, key);
-    let reply = sought_value(keyspace, at, key, found)?;
-    let _had = persist_sought(keyspace, at, key, found)?;
-    Ok(reply)
+    match sought_value(keyspace, at, key, found)? {
+        None => Reply::refused(keyspace.alloc(), Refusal::WrongType),
+        Some(reply) => {
+            let _had = persist_sought(keyspace, at, key, found)?;
+            Ok(reply)
+        }
+    }
 }
 
 /// `GETEX key [EX s, PX ms, EXAT s, PXAT ms or PERSIST]`: the value, or null; its deadline is set, goes, or stays.
@@ -147,7 +169,7 @@ pub fn getex<B: BlockStore>(
     ensures kept { Kept B.blocks B.step (no_key at.now.db) keyspace.old keyspace.new result }
 {
     match renewal {
-        Renewal::Unchanged => old_value(keyspace, at, key),
+        Renewal::Unchanged => get(keyspace, at, key),
         Renewal::Persist => get_persisting(keyspace, at, key),
         Renewal::Until(time) => get_until(keyspace, at, key, time),
     }

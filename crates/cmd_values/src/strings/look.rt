@@ -1,33 +1,32 @@
 //! The string at a key.
 
-ghost use Rattle.std.specs.Prelude.{◌≡◌, ◌<◌, ◌^◌, [], ◌∷◌, pos, None, IfOk, IfSome, IfNone, length};
+ghost use Rattle.std.specs.Prelude.{◌≡◌, ◌<◌, ◌^◌, [], ◌∷◌, pos, None, IfOk, length};
 ghost use Rattle.plain_world.specs.Worlds.{look};
 ghost use Rattle.plain_world.specs.declared.reply.Part.TheVariants as parts;
 ghost use Rattle.string_object.specs.Text.{text_bytes, text_refs};
 ghost use Rattle.blocks.specs.Blocks.{Owned};
 ghost use Rattle.keyspace.specs.Commands.{Ready, sight};
 ghost use Rattle.keyspace.specs.Seeking.{Sees};
-ghost use Rattle.cmd_values.specs.Found.{FoundText, HasLength, OldValue};
+ghost use Rattle.keyspace.specs.Looks.{IsLook};
+ghost use Rattle.cmd_values.specs.Found.{FoundText, FoundOther, HasLength, IsOldValue};
 
 use blocks::BlockStore;
-use keyspace::{Keyspace, SoughtAt, Value};
+use keyspace::{Keyspace, Look, SoughtAt};
 use plain_model::{Bytes, Ctx, Memory, Reply};
 use std::alloc::Global;
 use string_object::Text;
 
-/// The string at a key, where there is one.
-pub fn text_at<'a, B: BlockStore>(
-    keyspace: &'a Keyspace<B>,
-    at: &Ctx,
-    key: &[u8],
-) -> Option<&'a Text>
+/// The string at a key.
+pub fn text_at<'a, B: BlockStore>(keyspace: &'a Keyspace<B>, at: &Ctx, key: &[u8]) -> Look<&'a Text>
     requires ready { Ready B.blocks keyspace.now at.now }
-    ensures found { IfSome result (λ text. FoundText (sight B.blocks keyspace.now at.now) (B.blocks keyspace.now.store) key.now text.now) }
-    ensures none { IfNone result (look (sight B.blocks keyspace.now at.now) key.now ≡ None) }
+    ensures { IsLook (look (sight B.blocks keyspace.now at.now) key.now ≡ None) (FoundOther (sight B.blocks keyspace.now at.now) key.now) (λ text. FoundText (sight B.blocks keyspace.now at.now) (B.blocks keyspace.now.store) key.now text.now) result }
 {
     match keyspace.look(at.db, key, at.moment) {
-        None => None,
-        Some(Value::Text(text)) => Some(text),
+        None => Look::Missing,
+        Some(value) => match value.as_text() {
+            None => Look::Other,
+            Some(text) => Look::There(text),
+        },
     }
 }
 
@@ -50,36 +49,55 @@ pub fn length_of<B: BlockStore>(store: &B, text: &Text) -> usize
     text.bytes(store, &mut room).len()
 }
 
-/// The length in bytes of the string at a key, where there is one.
-pub fn length_at<B: BlockStore>(keyspace: &Keyspace<B>, at: &Ctx, key: &[u8]) -> Option<usize>
+/// The string at a key that was sought.
+pub fn sought_text<'a, B: BlockStore>(
+    keyspace: &'a Keyspace<B>,
+    at: &Ctx,
+    key: &[u8],
+    found: SoughtAt,
+) -> Look<&'a Text>
     requires ready { Ready B.blocks keyspace.now at.now }
-    ensures { HasLength (sight B.blocks keyspace.now at.now) key.now result }
+    requires sees { Sees B.blocks keyspace.now at.now key.now found }
+    ensures { IsLook (look (sight B.blocks keyspace.now at.now) key.now ≡ None) (FoundOther (sight B.blocks keyspace.now at.now) key.now) (λ text. FoundText (sight B.blocks keyspace.now at.now) (B.blocks keyspace.now.store) key.now text.now) result }
 {
-    match text_at(keyspace, at, key) {
-        None => None,
-        Some(text) => Some(length_of(&keyspace.store, text)),
+    // what was found tells the key
+    let _ = key;
+    match found.there {
+        None => Look::Missing,
+        Some(item) => match keyspace.value_at(at.db, item).as_text() {
+            None => Look::Other,
+            Some(text) => Look::There(text),
+        },
     }
 }
 
-/// The length in bytes of the string at a key that was sought, where there is one.
+/// The length in bytes of the string at a key.
+pub fn length_at<B: BlockStore>(keyspace: &Keyspace<B>, at: &Ctx, key: &[u8]) -> Look<usize>
+    requires ready { Ready B.blocks keyspace.now at.now }
+    ensures { IsLook (look (sight B.blocks keyspace.now at.now) key.now ≡ None) (FoundOther (sight B.blocks keyspace.now at.now) key.now) (HasLength (sight B.blocks keyspace.now at.now) key.now) result }
+{
+    match text_at(keyspace, at, key) {
+        Look::Missing => Look::Missing,
+        Look::Other => Look::Other,
+        Look::There(text) => Look::There(length_of(&keyspace.store, text)),
+    }
+}
+
+/// The length in bytes of the string at a key that was sought.
 pub fn length_sought<B: BlockStore>(
     keyspace: &Keyspace<B>,
     at: &Ctx,
     key: &[u8],
     found: SoughtAt,
-) -> Option<usize>
+) -> Look<usize>
     requires ready { Ready B.blocks keyspace.now at.now }
     requires sees { Sees B.blocks keyspace.now at.now key.now found }
-    ensures { HasLength (sight B.blocks keyspace.now at.now) key.now result }
+    ensures { IsLook (look (sight B.blocks keyspace.now at.now) key.now ≡ None) (FoundOther (sight B.blocks keyspace.now at.now) key.now) (HasLength (sight B.blocks keyspace.now at.now) key.now) result }
 {
-    // what was found tells the key
-    let _ = key;
-    match found.there {
-        None => None,
-        Some(item) => {
-            let text = keyspace.value_at(at.db, item).as_text();
-            Some(length_of(&keyspace.store, text))
-        }
+    match sought_text(keyspace, at, key, found) {
+        Look::Missing => Look::Missing,
+        Look::Other => Look::Other,
+        Look::There(text) => Look::There(length_of(&keyspace.store, text)),
     }
 }
 
@@ -91,41 +109,44 @@ pub fn length_reply(alloc: Global, length: usize) -> Result<Reply, Memory>
     Reply::number(alloc, length as i64)
 }
 
-/// The string at a key as a reply, or null where there is none.
+/// The string at a key as a reply, or null where there is none. `None` comes exactly where a value of another type stands there.
 pub fn old_value<B: BlockStore>(
     keyspace: &Keyspace<B>,
     at: &Ctx,
     key: &[u8],
-) -> Result<Reply, Memory>
+) -> Result<Option<Reply>, Memory>
     requires ready { Ready B.blocks keyspace.now at.now }
-    ensures { IfOk result (λ reply. OldValue (sight B.blocks keyspace.now at.now) key.now reply) }
+    ensures { IfOk result (λ reply. IsOldValue (sight B.blocks keyspace.now at.now) key.now reply) }
 {
     let alloc = keyspace.alloc();
     match text_at(keyspace, at, key) {
-        None => Reply::null(alloc),
-        Some(text) => Reply::bulk(alloc, bytes_of(alloc, &keyspace.store, text)?),
+        Look::Missing => Ok(Some(Reply::null(alloc)?)),
+        Look::Other => Ok(None),
+        Look::There(text) => {
+            let bytes = bytes_of(alloc, &keyspace.store, text)?;
+            Ok(Some(Reply::bulk(alloc, bytes)?))
+        }
     }
 }
 
-/// The string at a key that was sought as a reply, or null where there is none.
+/// The string at a key that was sought, as `old_value` tells it.
 pub fn sought_value<B: BlockStore>(
     keyspace: &Keyspace<B>,
     at: &Ctx,
     key: &[u8],
     found: SoughtAt,
-) -> Result<Reply, Memory>
+) -> Result<Option<Reply>, Memory>
     requires ready { Ready B.blocks keyspace.now at.now }
     requires sees { Sees B.blocks keyspace.now at.now key.now found }
-    ensures { IfOk result (λ reply. OldValue (sight B.blocks keyspace.now at.now) key.now reply) }
+    ensures { IfOk result (λ reply. IsOldValue (sight B.blocks keyspace.now at.now) key.now reply) }
 {
-    // what was found tells the key
-    let _ = key;
     let alloc = keyspace.alloc();
-    match found.there {
-        None => Reply::null(alloc),
-        Some(item) => {
-            let text = keyspace.value_at(at.db, item).as_text();
-            Reply::bulk(alloc, bytes_of(alloc, &keyspace.store, text)?)
+    match sought_text(keyspace, at, key, found) {
+        Look::Missing => Ok(Some(Reply::null(alloc)?)),
+        Look::Other => Ok(None),
+        Look::There(text) => {
+            let bytes = bytes_of(alloc, &keyspace.store, text)?;
+            Ok(Some(Reply::bulk(alloc, bytes)?))
         }
     }
 }

@@ -8,26 +8,32 @@ ghost use Rattle.cmd_values.specs.Found.{Gives, value_at, values_at};
 
 use crate::strings::look::{bytes_of, length_of, length_reply, old_value, text_at};
 use blocks::BlockStore;
-use keyspace::Keyspace;
-use plain_model::{Bytes, Ctx, Memory, Part, Parts, Reply};
+use keyspace::{Keyspace, Look};
+use plain_model::{Bytes, Ctx, Memory, Part, Parts, Refusal, Reply};
 
 /// `GET key`: the value, or null.
+#[tactic(auto, using(crate::proofs::StringLemmas::refused_other))]
 pub fn get<B: BlockStore>(keyspace: &Keyspace<B>, at: &Ctx, key: &[u8]) -> Result<Reply, Memory>
     requires ready { Ready B.blocks keyspace.now at.now }
     ensures { Gives B.blocks keyspace.now keyspace.now at.now (strings.Get key.now) result }
 {
-    old_value(keyspace, at, key)
+    match old_value(keyspace, at, key)? {
+        None => Reply::refused(keyspace.alloc(), Refusal::WrongType),
+        Some(reply) => Ok(reply),
+    }
 }
 
 /// `STRLEN key`: the length of the value in bytes, 0 where there is none.
+#[tactic(auto, using(crate::proofs::StringLemmas::refused_other))]
 pub fn strlen<B: BlockStore>(keyspace: &Keyspace<B>, at: &Ctx, key: &[u8]) -> Result<Reply, Memory>
     requires ready { Ready B.blocks keyspace.now at.now }
     ensures { Gives B.blocks keyspace.now keyspace.now at.now (strings.StrLen key.now) result }
 {
     let alloc = keyspace.alloc();
     match text_at(keyspace, at, key) {
-        None => length_reply(alloc, 0),
-        Some(text) => length_reply(alloc, length_of(&keyspace.store, text)),
+        Look::Missing => length_reply(alloc, 0),
+        Look::Other => Reply::refused(alloc, Refusal::WrongType),
+        Look::There(text) => length_reply(alloc, length_of(&keyspace.store, text)),
     }
 }
 
@@ -62,6 +68,7 @@ fn part_of(bytes: &[u8], a: i64, b: i64) -> &[u8]
 }
 
 /// `GETRANGE key a b`: the bytes of the value from index a to index b, where a negative index counts from the end.
+#[tactic(auto, using(crate::proofs::StringLemmas::refused_other))]
 pub fn getrange<B: BlockStore>(
     keyspace: &Keyspace<B>,
     at: &Ctx,
@@ -75,8 +82,9 @@ pub fn getrange<B: BlockStore>(
     let alloc = keyspace.alloc();
     let mut room = [0; 20];
     match text_at(keyspace, at, key) {
-        None => Reply::bulk(alloc, Bytes::new(alloc, part_of(&[], a, b))?),
-        Some(text) => {
+        Look::Missing => Reply::bulk(alloc, Bytes::new(alloc, part_of(&[], a, b))?),
+        Look::Other => Reply::refused(alloc, Refusal::WrongType),
+        Look::There(text) => {
             let part = part_of(text.bytes(&keyspace.store, &mut room), a, b);
             Reply::bulk(alloc, Bytes::new(alloc, part)?)
         }
@@ -84,13 +92,14 @@ pub fn getrange<B: BlockStore>(
 }
 
 // The string at a key as a part of a reply, or null where none stands.
+#[tactic(auto, using(crate::proofs::StringLemmas::null_other))]
 fn value_part<B: BlockStore>(keyspace: &Keyspace<B>, at: &Ctx, key: &[u8]) -> Result<Part, Memory>
     requires ready { Ready B.blocks keyspace.now at.now }
     ensures { IfOk result (λ part. part ≡ value_at (sight B.blocks keyspace.now at.now) key.now) }
 {
     match text_at(keyspace, at, key) {
-        None => Ok(Part::Null),
-        Some(text) => Ok(Part::Bulk(bytes_of(keyspace.alloc(), &keyspace.store, text)?)),
+        Look::Missing | Look::Other => Ok(Part::Null),
+        Look::There(text) => Ok(Part::Bulk(bytes_of(keyspace.alloc(), &keyspace.store, text)?)),
     }
 }
 

@@ -1,6 +1,6 @@
 //! Commands that write strings whole.
 
-ghost use Rattle.std.specs.Prelude.{◌≡◌, ◌<◌, ◌≤◌, List, ℕ, Bool, IfOk, OnOk, IfSome, is_some};
+ghost use Rattle.std.specs.Prelude.{◌≡◌, ◌<◌, ◌≤◌, List, ℕ, Bool, IfOk, OnOk, IfSome, is_some, if◌then◌else◌};
 ghost use Rattle.plain_world.specs.Worlds.{Str, deadline_of, look, stand};
 ghost use Rattle.held.specs.Calls.{IsDeadline, Seeks};
 ghost use Rattle.keyspace.specs.Seeking.{Sees};
@@ -11,7 +11,7 @@ ghost use Rattle.plain_model.specs.declared.command.StringCommand.TheVariants as
 ghost use Rattle.keyspace.specs.Scopes.{one_key, no_key, some_keys, first_words};
 ghost use Rattle.keyspace.specs.Forms.{Whole, Formed};
 ghost use Rattle.keyspace.specs.Commands.{Ready, Held, Kept, sight};
-ghost use Rattle.cmd_values.specs.Found.{Gives, IsSetReply, IsLifetime, OldValue};
+ghost use Rattle.cmd_values.specs.Found.{Gives, IsSetReply, IsLifetime, IsOldValue};
 
 use crate::strings::lasting::from_zero;
 use crate::strings::look::{old_value, sought_value};
@@ -120,16 +120,17 @@ fn writes<B: BlockStore>(
     }
 }
 
-// The string at a key as a reply, by what was found of the key, where it was sought before.
+// The string at a key as a reply, by what was found of the key, where it was sought before. `None` comes exactly where a value of
+// another type stands there.
 fn seen_value<B: BlockStore>(
     keyspace: &Keyspace<B>,
     at: &Ctx,
     key: &[u8],
     found: Option<SoughtAt>,
-) -> Result<Reply, Memory>
+) -> Result<Option<Reply>, Memory>
     requires ready { Ready B.blocks keyspace.now at.now }
     requires sees { IfSome found (λ found. Sees B.blocks keyspace.now at.now key.now found) }
-    ensures { IfOk result (λ reply. OldValue (sight B.blocks keyspace.now at.now) key.now reply) }
+    ensures { IfOk result (λ reply. IsOldValue (sight B.blocks keyspace.now at.now) key.now reply) }
 {
     match found {
         None => old_value(keyspace, at, key),
@@ -145,7 +146,7 @@ fn set_reply<B: BlockStore>(
     found: Option<SoughtAt>,
     get: bool,
     written: bool,
-) -> Result<Reply, Memory>
+) -> Result<Option<Reply>, Memory>
     requires ready { Ready B.blocks keyspace.now at.now }
     requires sees { IfSome found (λ found. Sees B.blocks keyspace.now at.now key.now found) }
     ensures { IfOk result (λ reply. IsSetReply (sight B.blocks keyspace.now at.now) key.now get written reply) }
@@ -154,9 +155,9 @@ fn set_reply<B: BlockStore>(
         return seen_value(keyspace, at, key, found);
     }
     if written {
-        return Reply::simple(keyspace.alloc(), Line::ok());
+        return Ok(Some(Reply::simple(keyspace.alloc(), Line::ok())?));
     }
-    Reply::null(keyspace.alloc())
+    Ok(Some(Reply::null(keyspace.alloc())?))
 }
 
 // The deadline of a key that is there, by what was found of it, where it was sought before.
@@ -203,6 +204,29 @@ fn lifetime_at<B: BlockStore>(
     }
 }
 
+// Lets a string stand at a key where SET writes.
+fn put_if<B: BlockStore>(
+    keyspace: &mut Keyspace<B>,
+    at: &Ctx,
+    key: &[u8],
+    found: Option<SoughtAt>,
+    value: &[u8],
+    deadline: Option<u64>,
+    written: bool,
+) -> Result<(), Memory>
+    requires ready { Ready B.blocks keyspace.old at.now }
+    requires sees { IfSome found (λ found. Sees B.blocks keyspace.old at.now key.now found) }
+    requires latest { IsDeadline deadline }
+    ensures world { OnOk result (sight B.blocks keyspace.new at.now ≡ (if written then stand (sight B.blocks keyspace.old at.now) at.now.moment key.now (record { value = Str value.now; deadline = deadline }) else sight B.blocks keyspace.old at.now)) }
+    ensures held { Held B.blocks B.step (one_key at.now.db key.now) keyspace.old keyspace.new }
+    ensures forms { OnOk result (Formed B.blocks Whole keyspace.old keyspace.new) }
+{
+    if written {
+        return put_lasting(keyspace, at, key, found, value, deadline);
+    }
+    Ok(())
+}
+
 // SET with the deadline that it gives.
 fn set_lasting<B: BlockStore>(
     keyspace: &mut Keyspace<B>,
@@ -221,11 +245,13 @@ fn set_lasting<B: BlockStore>(
     ensures forms { IfOk result (λ reply. Formed B.blocks Whole keyspace.old keyspace.new) }
 {
     let written = writes(keyspace, at, key, found, options.condition);
-    let reply = set_reply(keyspace, at, key, found, options.get, written)?;
-    if written {
-        put_lasting(keyspace, at, key, found, value, deadline)?;
+    match set_reply(keyspace, at, key, found, options.get, written)? {
+        None => Reply::refused(keyspace.alloc(), Refusal::WrongType),
+        Some(reply) => {
+            put_if(keyspace, at, key, found, value, deadline, written)?;
+            Ok(reply)
+        }
     }
-    Ok(reply)
 }
 
 // What is found of the key of SET where its options ask for what stands there, so that it is sought once. Without them the key is
@@ -299,9 +325,13 @@ pub fn getset<B: BlockStore>(
     ensures forms { IfOk result (λ reply. Formed B.blocks Whole keyspace.old keyspace.new) }
 {
     let found = Some(seek(keyspace, at, key));
-    let reply = seen_value(keyspace, at, key, found)?;
-    put_string(keyspace, at, key, found, value)?;
-    Ok(reply)
+    match seen_value(keyspace, at, key, found)? {
+        None => Reply::refused(keyspace.alloc(), Refusal::WrongType),
+        Some(reply) => {
+            put_string(keyspace, at, key, found, value)?;
+            Ok(reply)
+        }
+    }
 }
 
 /// `GETDEL key`: the value, or null; the key is removed.
@@ -315,9 +345,13 @@ pub fn getdel<B: BlockStore>(
     ensures kept { Kept B.blocks B.step (no_key at.now.db) keyspace.old keyspace.new result }
 {
     let found = seek(keyspace, at, key);
-    let reply = sought_value(keyspace, at, key, found)?;
-    let _ = keyspace.drop_hashed(at.db, found.sought.hash, key);
-    Ok(reply)
+    match sought_value(keyspace, at, key, found)? {
+        None => Reply::refused(keyspace.alloc(), Refusal::WrongType),
+        Some(reply) => {
+            let _ = keyspace.drop_hashed(at.db, found.sought.hash, key);
+            Ok(reply)
+        }
+    }
 }
 
 // Whether something stands at one of the keys.

@@ -24,3 +24,6 @@ returns-clause-world g c = all_emptied c.args.at.now c.loop-db.keyspace.bases _ 
 pub loop-db-init : goal.loop-db-init
 loop-db-init g c =
     record { empty = λ number below. absurd (omega (arith, below)); sound = c.requires.ready.sound; served = no_step; within = unmoved everything c.args.keyspace.now.bases (g.B.BlockStore.blocks c.args.keyspace.now.store); settings = same_settings c.args.keyspace.now.bases }
+
+pub returns-clause-emptied : goal.returns-clause-emptied
+returns-clause-emptied g c number below = c.loop-db.invariant.empty number (omega (arith, below))

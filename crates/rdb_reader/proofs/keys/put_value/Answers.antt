@@ -8,7 +8,7 @@ use Rattle.rdb_reader.proofs.Entries.{value_put, one_of_any}
 use Rattle.rdb_reader.proofs.keys.put_value.Goals as goal
 
 pub put-requires-clause-intact : goal.put-requires-clause-intact
-put-requires-clause-intact g c = Made-intact _ _ _ c.in_ok-made.made c.requires.sound c.in_ok-made.ensures.changes
+put-requires-clause-intact g c = Made-intact _ _ _ c.in_ok-made.made c.requires.sound c.in_ok-made.ensures.changes (c.in_ok-made.ensures.sound c.args.keyspace.now.bases.limits c.args.keyspace.now.bases.seed)
 
 pub returns-clause-sound : goal.returns-clause-sound
 returns-clause-sound g c = Put-sound _ _ _ c.in_ok-made.made c.requires.sound c.in_ok-made.ensures.changes _ _ c.put.ensures.sound

@@ -18,7 +18,7 @@ returns-in-Ok-clause-world g c =
 
 pub returns-in-Ok-clause-held : goal.returns-in-Ok-clause-held
 returns-in-Ok-clause-held g c = record {
-  sound = c.put.ensures.sound (value_refs c.in-Ok.value) [] c.in-Ok.ensures.sound (λ r. omega arith);
+  sound = c.put.ensures.sound (value_refs (g.B.BlockStore.blocks c.copy_value.new.keyspace.store) c.in-Ok.value) [] c.in-Ok.ensures.sound (λ r. omega arith);
   served = Served-then _ _ _ c.copy_value.ensures.served c.put.ensures.served;
   settings = settings_then c.args.keyspace.now.bases c.copy_value.new.keyspace.bases c.put.new.self.bases c.copy_value.ensures.settings c.put.ensures.settings;
   within = copied_within c.args.at.now.db c.args.from.now c.args.number c.args.to.now c.args.keyspace.now.bases c.copy_value.new.keyspace.bases c.put.new.self.bases (g.B.BlockStore.blocks c.args.keyspace.now.store) (g.B.BlockStore.blocks c.copy_value.new.keyspace.store) (g.B.BlockStore.blocks c.put.new.self.store) c.copy_value.ensures.within c.put.ensures.within;
@@ -35,4 +35,7 @@ returns-in-Err-clause-held g c = record {
 pub returns-in-Ok-clause-forms : goal.returns-in-Ok-clause-forms
 returns-in-Ok-clause-forms g c =
     formed_copied (AsAt c.args.at.now.db c.args.from.now) c.args.number c.args.to.now c.in-Ok.value c.args.keyspace.now.bases c.copy_value.new.keyspace.bases c.put.new.self.bases _ _ _ c.in-Ok.ensures.form c.in-Ok.ensures.forms c.put.ensures.within
-    (c.put.ensures.sound (value_refs c.in-Ok.value) [] c.in-Ok.ensures.sound (λ r. omega arith)).arranged c.put.result c.put.ensures.has
+    (c.put.ensures.sound (value_refs (g.B.BlockStore.blocks c.copy_value.new.keyspace.store) c.in-Ok.value) [] c.in-Ok.ensures.sound (λ r. omega arith)).arranged c.put.result c.put.ensures.has
+
+pub put-requires-clause-intact : goal.put-requires-clause-intact
+put-requires-clause-intact g c = record { owned = λ r. omega (arith, c.in-Ok.ensures.sound.owns r); arranged = c.in-Ok.ensures.sound.arranged; sound = c.in-Ok.ensures.kind }

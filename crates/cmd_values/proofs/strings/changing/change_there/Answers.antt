@@ -1,3 +1,5 @@
+use Rattle.keyspace.specs.Values.{OfText}
+use Rattle.cmd_values.proofs.Lowering.{lifted_there}
 use Rattle.std.proofs.Common.{rules, [], ap}
 use Rattle.cmd_values.proofs.Lowering.{text_intact, text_sound, text_within, text_has, text_becomes}
 use Rattle.std.proofs.Common.{sym, subst}
@@ -39,4 +41,7 @@ returns-in-Ok-clause-becomes g c =
 pub returns-in-Ok-clause-raw : goal.returns-in-Ok-clause-raw
 returns-in-Ok-clause-raw g c i e found bytes =
     let has = text_has c.args.at.now c.args.keyspace.now.bases c.lift.new.self.bases _ _ _ c.args.key.now c.in-Some.lifted c.into_text-text.result c.change_text-done.new.text c.into_text-text.ensures (ap g.B.BlockStore.blocks c.in-Some.ensures.store) c.in-Some.ensures.lifts (c.in-Some.ensures.sound [] c.requires.ready.sound) c.change_text-done.ensures.changes c.lower.new.self.bases _ (ap g.B.BlockStore.blocks c.lower.ensures.store) c.lower.ensures.has in
-    subst IsRaw (sym (has i e found bytes)) c.in-Ok.ensures.raw
+    subst IsRaw (sym (has i e found bytes)) (ap OfText c.in-Ok.ensures.raw)
+
+pub into_text-text-requires : goal.into_text-text-requires
+into_text-text-requires g c = lifted_there c.args.keyspace.now.bases c.lift.new.self.bases (g.B.BlockStore.blocks c.args.keyspace.now.store) c.args.at.now c.args.key.now c.requires.there.0 c.in-Some.lifted c.in-Some.ensures.lifts c.requires.there.1

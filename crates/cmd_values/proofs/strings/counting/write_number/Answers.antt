@@ -1,3 +1,5 @@
+use Rattle.keyspace.specs.Values.{OfText}
+use Rattle.cmd_values.proofs.Lowering.{lifted_string}
 use Rattle.std.proofs.Common.{rules, [], Some, ap, subst, ◌∙◌}
 use Rattle.keyspace.specs.Values.{value_of}
 use Rattle.std.specs.Int.{w64}
@@ -46,4 +48,7 @@ returns-in-Some-clause-forms g c =
     let held = returns-in-Some-clause-held g c in
     let has = text_has c.args.at.now c.args.keyspace.now.bases c.lift_at-lifted.new.self.bases _ _ _ c.args.key.now c.lift_at-lifted.result c.into_text-text.result c.set_number.new.self c.into_text-text.ensures (ap g.B.BlockStore.blocks c.lift_at-lifted.ensures.store) (c.lift_at-lifted.ensures.lifts c.args.key.now c.args.at.now.moment (rw c.in-Some.is at c.requires.sees.there)) (c.lift_at-lifted.ensures.sound c.args.key.now c.args.at.now.moment (rw c.in-Some.is at c.requires.sees.there) [] c.requires.ready.sound) c.set_number.ensures.changes c.lower.new.self.bases _ (ap g.B.BlockStore.blocks c.lower.ensures.store) c.lower.ensures.has in
     formed_ok g.B.BlockStore.blocks Whole c.args.keyspace.now c.lower.new.self _
-    (formed_key Whole c.args.at.now.db c.args.key.now c.args.keyspace.now.bases c.lower.new.self.bases _ _ held.within held.sound.arranged (λ i e found bytes. subst IsWhole (sym (has i e found bytes)) c.set_number.ensures.whole))
+    (formed_key Whole c.args.at.now.db c.args.key.now c.args.keyspace.now.bases c.lower.new.self.bases _ _ held.within held.sound.arranged (λ i e found bytes. subst IsWhole (sym (has i e found bytes)) (ap OfText c.set_number.ensures.whole)))
+
+pub into_text-text-requires : goal.into_text-text-requires
+into_text-text-requires g c = lifted_string c.args.keyspace.now.bases c.lift_at-lifted.new.self.bases (g.B.BlockStore.blocks c.args.keyspace.now.store) c.args.at.now c.args.key.now c.lift_at-lifted.result (c.lift_at-lifted.ensures.lifts c.args.key.now c.args.at.now.moment (rw c.in-Some.is at c.requires.sees.there)) c.requires.string

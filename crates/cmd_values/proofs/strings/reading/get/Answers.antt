@@ -1,6 +1,7 @@
+use Rattle.std.proofs.Common.{refl}
 use Rattle.keyspace.specs.Commands.{sight}
-use Rattle.cmd_values.proofs.StringLemmas.{old_value_told}
+use Rattle.cmd_values.proofs.StringLemmas.{old_value_then}
 use Rattle.cmd_values.proofs.strings.reading.get.Goals as goal
 
-pub returns : goal.returns
-returns g c = old_value_told (sight g.B.BlockStore.blocks c.args.keyspace.now c.args.at.now) c.args.key.now c.old_value.result c.old_value.ensures
+pub returns-in-Some : goal.returns-in-Some
+returns-in-Some g c = old_value_then (sight g.B.BlockStore.blocks c.args.keyspace.now c.args.at.now) (sight g.B.BlockStore.blocks c.args.keyspace.now c.args.at.now) c.args.key.now c.in-Some.reply _ (rw c.in-Some.is at c.in_ok-old_value.ensures) refl

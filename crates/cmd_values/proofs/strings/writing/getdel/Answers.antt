@@ -4,11 +4,11 @@ use Rattle.keyspace.proofs.Running.{unchanged}
 use Rattle.keyspace.specs.Scopes.{no_key}
 use Rattle.cmd_values.proofs.strings.writing.getdel.Goals as goal
 
-pub returns-clause-gives : goal.returns-clause-gives
-returns-clause-gives g c = removed c.args.at.now c.args.keyspace.now.bases c.drop_hashed.new.self.bases _ _ c.args.key.now c.in_ok-reply.reply c.in_ok-reply.ensures c.drop_hashed.ensures.means
+pub returns-in-Some-clause-gives : goal.returns-in-Some-clause-gives
+returns-in-Some-clause-gives g c = removed c.args.at.now c.args.keyspace.now.bases c.drop_hashed.new.self.bases _ _ c.args.key.now c.in-Some.reply (rw c.in-Some.is at c.in_ok-sought_value.ensures) c.drop_hashed.ensures.means
 
-pub returns-clause-kept : goal.returns-clause-kept
-returns-clause-kept g c = record {
+pub returns-in-Some-clause-kept : goal.returns-in-Some-clause-kept
+returns-in-Some-clause-kept g c = record {
   refusals = search rules;
   held = record {
     sound = c.drop_hashed.ensures.sound [] c.requires.ready.sound;
@@ -18,6 +18,10 @@ returns-clause-kept g c = record {
   };
 }
 
-pub returns-in_err-reply-clause-kept : goal.returns-in_err-reply-clause-kept
-returns-in_err-reply-clause-kept g c =
+pub returns-in_err-sought_value-clause-kept : goal.returns-in_err-sought_value-clause-kept
+returns-in_err-sought_value-clause-kept g c =
+    unchanged g.B.BlockStore.blocks g.B.BlockStore.step (no_key c.args.at.now.db) c.args.keyspace.now _ c.requires.ready.sound
+
+pub returns-in-None-clause-kept : goal.returns-in-None-clause-kept
+returns-in-None-clause-kept g c =
     unchanged g.B.BlockStore.blocks g.B.BlockStore.step (no_key c.args.at.now.db) c.args.keyspace.now _ c.requires.ready.sound

@@ -4,10 +4,14 @@ use Rattle.keyspace.proofs.Running.{unchanged}
 use Rattle.keyspace.specs.Scopes.{one_key}
 use Rattle.cmd_values.proofs.strings.writing.getset.Goals as goal
 
-pub returns-clause-gives : goal.returns-clause-gives
-returns-clause-gives g c =
-    old_value_then (sight g.B.BlockStore.blocks c.args.keyspace.now c.args.at.now) (sight g.B.BlockStore.blocks c.put_string.new.keyspace c.args.at.now) c.args.key.now c.in_ok-reply.reply _ c.in_ok-reply.ensures c.in_ok-put_string.ensures.world
+pub returns-in_ok-put_string-in-Some-clause-gives : goal.returns-in_ok-put_string-in-Some-clause-gives
+returns-in_ok-put_string-in-Some-clause-gives g c =
+    old_value_then (sight g.B.BlockStore.blocks c.args.keyspace.now c.args.at.now) (sight g.B.BlockStore.blocks c.put_string.new.keyspace c.args.at.now) c.args.key.now c.in-Some.reply _ (rw c.in-Some.is at c.in_ok-seen_value.ensures) c.in_ok-put_string-in-Some.ensures.world
 
-pub returns-in_err-reply-clause-kept : goal.returns-in_err-reply-clause-kept
-returns-in_err-reply-clause-kept g c =
+pub returns-in_err-seen_value-clause-kept : goal.returns-in_err-seen_value-clause-kept
+returns-in_err-seen_value-clause-kept g c =
+    unchanged g.B.BlockStore.blocks g.B.BlockStore.step (one_key c.args.at.now.db c.args.key.now) c.args.keyspace.now _ c.requires.ready.sound
+
+pub returns-in-None-clause-kept : goal.returns-in-None-clause-kept
+returns-in-None-clause-kept g c =
     unchanged g.B.BlockStore.blocks g.B.BlockStore.step (one_key c.args.at.now.db c.args.key.now) c.args.keyspace.now _ c.requires.ready.sound

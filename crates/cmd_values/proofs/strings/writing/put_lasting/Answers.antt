@@ -1,9 +1,10 @@
+use Rattle.keyspace.specs.Values.{OfText}
 use Rattle.blocks.proofs.Serve.{Served-then}
 use Rattle.keyspace.specs.declared.value.Value.TheVariants as values
 use Rattle.keyspace.proofs.Uses.{Made-intact, Put-sound, Put-within}
 use Rattle.cmd_values.proofs.StringLemmas.{replaced}
 use Rattle.cmd_values.proofs.Sought.{kept_seeks}
-use Rattle.std.proofs.Common.{sym, subst}
+use Rattle.std.proofs.Common.{sym, subst, ap}
 use Rattle.keyspace.specs.Sound.{Sound}
 use Rattle.keyspace.proofs.Running.{same_settings}
 use Rattle.keyspace.proofs.Serving.{unmoved}
@@ -13,7 +14,7 @@ use Rattle.keyspace.proofs.Forming.{formed_put}
 use Rattle.cmd_values.proofs.strings.writing.put_lasting.Goals as goal
 
 pub put_sought-requires-clause-intact : goal.put_sought-requires-clause-intact
-put_sought-requires-clause-intact g c = Made-intact _ _ _ (values.Text c.in_ok-text.text) c.requires.ready.sound c.in_ok-text.ensures.changes
+put_sought-requires-clause-intact g c = Made-intact _ _ _ (values.Text c.in_ok-text.text) c.requires.ready.sound c.in_ok-text.ensures.changes tt
 
 pub put_sought-requires-clause-seeks : goal.put_sought-requires-clause-seeks
 put_sought-requires-clause-seeks g c =
@@ -41,4 +42,4 @@ returns-in_err-text-clause-held g c = record {
 
 pub returns-clause-forms : goal.returns-clause-forms
 returns-clause-forms g c =
-    formed_put Whole c.args.at.now.db c.args.key.now (values.Text c.in_ok-text.text) c.args.keyspace.now.bases c.put_sought.new.self.bases (g.B.BlockStore.blocks c.args.keyspace.now.store) _ c.in_ok-text.ensures.whole (returns-clause-held g c).within (returns-clause-held g c).sound.arranged c.put_sought.result c.put_sought.ensures.has
+    formed_put Whole c.args.at.now.db c.args.key.now (values.Text c.in_ok-text.text) c.args.keyspace.now.bases c.put_sought.new.self.bases (g.B.BlockStore.blocks c.args.keyspace.now.store) _ (ap OfText c.in_ok-text.ensures.whole) (returns-clause-held g c).within (returns-clause-held g c).sound.arranged c.put_sought.result c.put_sought.ensures.has

@@ -1,0 +1,46 @@
+-- A value that is lifted, changed and lowered again.
+use Rattle.std.proofs.Common.{◌≡◌, ℕ, List, [], ◌++◌, Option, refl, sym, ap, ◌∙◌, subst}
+use Rattle.blocks.specs.declared.BlockRef.{BlockRef}
+use Rattle.blocks.specs.Blocks.{Blocks, Changes}
+use Rattle.plain_world.specs.Worlds.{put, live}
+use Rattle.plain_model.specs.declared.ctx.Ctx.{Ctx}
+use Rattle.held.specs.Calls.{HasOnly}
+use Rattle.keyspace.specs.declared.value.Value.{Value}
+use Rattle.keyspace.specs.Values.{value_of, value_refs, IsSound}
+use Rattle.keyspace.specs.Databases.{Bases, means}
+use Rattle.keyspace.specs.Sound.{IsIntactWith, Sound, SoundBeside}
+use Rattle.keyspace.specs.Scopes.{one_key, Within}
+use Rattle.keyspace.specs.Calls.{Lifted, IsPlace, Lifts, AreParts}
+use Rattle.keyspace.specs.Commands.{seen}
+use Rattle.keyspace.proofs.Uses.{Lower-intact, Lower-sound, Lower-has, Lower-within, Lower-means}
+
+module _ (at : Ctx) (old mid : Bases) (m own after : Blocks) (key : List ℕ) (lifted : Lifted) (value : Value) (same : own ≡ m)
+    (lifts : Lifts old mid m at.db key at.moment lifted) (sound : SoundBeside mid m (value_refs m lifted.value ++ [])) (p : Changes own after (value_refs own lifted.value) (value_refs after value)) where
+  abbrev lowered : Lifted
+  lowered = record { db = lifted.db; item = lifted.item; value = value }
+
+  changes : Changes m after (value_refs m lifted.value) (value_refs after lowered.value)
+  changes = subst (λ b. Changes b after (value_refs b lifted.value) (value_refs after value)) same p
+
+  pub edit_intact : IsSound mid.limits mid.seed after value → IsIntactWith mid after value
+  edit_intact is_sound = Lower-intact old mid m after at.db at.moment key lifted lowered [] lifts sound changes refl refl is_sound
+
+  module _ (new : Bases) (later : Blocks) (stays : later ≡ after) where
+    pub edit_sound : ((all out : List BlockRef) → SoundBeside mid after all → AreParts all (value_refs after value) out → SoundBeside new after out) → Sound new later
+    edit_sound clause = subst (λ b. Sound new b) (sym stays) (Lower-sound old mid m after at.db at.moment key lifted lowered [] lifts sound changes refl refl new clause)
+
+    -- from the clauses `within` of `lift` and `lower`
+    pub edit_within : Within (one_key at.db key) old mid m m → ((k : List ℕ) (deadline : Option ℕ) → IsPlace mid after lifted.db lifted.item k deadline → Within (one_key lifted.db k) mid new after after) → Within (one_key at.db key) old new m later
+    edit_within taken clause = subst (Within (one_key at.db key) old new m) (sym stays) (Lower-within old mid m after at.db at.moment key lifted lowered [] lifts sound changes refl refl new taken clause)
+
+    -- from the clause `has` of `lower`
+    pub edit_has : ((k : List ℕ) (deadline : Option ℕ) → IsPlace mid after lifted.db lifted.item k deadline → HasOnly new after lifted.db k value) → HasOnly new later at.db key value
+    edit_has clause = subst (λ b. HasOnly new b at.db key value) (sym stays) (Lower-has old mid m after at.db at.moment key lifted lowered [] lifts sound changes refl refl new clause)
+
+    -- from the clause `means` of `lower`
+    pub edit_means : ((k : List ℕ) (deadline : Option ℕ) → IsPlace mid after lifted.db lifted.item k deadline → means lifted.db new after ≡ put (means lifted.db mid after) k (record { value = value_of after value; deadline = deadline }))
+        → seen at new later ≡ put (seen at old m) key (record { value = value_of later value; deadline = lifts.deadline })
+    edit_means clause =
+        ap (λ b. live (means at.db new b) at.moment) stays
+        ∙ Lower-means old mid m after at.db at.moment key lifted lowered [] lifts sound changes refl refl new clause
+        ∙ ap (λ b. put (seen at old m) key (record { value = value_of b value; deadline = lifts.deadline })) (sym stays)

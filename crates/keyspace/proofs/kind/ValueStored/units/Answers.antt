@@ -1,0 +1,25 @@
+use Rattle.std.proofs.Common.{◌≡◌, ◌+◌, ◌-◌, ◌^◌, ◌≤◌, ℕ, length, ◌∙◌, arith, subst, sym, ap}
+use Rattle.std.specs.Prelude.{min}
+use Rattle.std.proofs.lemmas.Grind.{common_steps}
+use Rattle.std.proofs.lemmas.List.FromFn.{length-range_with_len}
+use Rattle.string_object.specs.Text.{text_refs}
+use Rattle.quicklist.specs.Chain.{refs}
+use Rattle.keyspace.specs.Values.{value_marks}
+use Rattle.keyspace.proofs.Moving.{refs_few, text_marks}
+use Rattle.keyspace.proofs.kind.ValueStored.units.Goals as goal
+
+is_min : (n most : ℕ) → n ≤ most → n ≡ min n most
+is_min n most few = grind (arith, common_steps, few)
+
+pub returns-in-Text : goal.returns-in-Text
+returns-in-Text c limits seed m sound =
+    let many = text_marks (text_refs c.in-Text.text) in
+    let few = refs_few c.in-Text.text in
+    subst (λ v. c.block_count.result ≡ min (length (value_marks m v).named + length (value_marks m v).vacant) 4294967295) (sym c.in-Text.is)
+    (is_min c.block_count.result 4294967295 (omega (arith, c.block_count.ensures, few)) ∙ ap (λ n. min n 4294967295) (omega (arith, c.block_count.ensures, many)))
+
+pub returns-in-List : goal.returns-in-List
+returns-in-List c limits seed m sound =
+    let many = length-range_with_len 0 (length (refs c.in-List.list.value)) in
+    subst (λ v. c.min.result ≡ min (length (value_marks m v).named + length (value_marks m v).vacant) 4294967295) (sym c.in-List.is)
+    (c.min.ensures ∙ ap (λ n. min n 4294967295) (omega (arith, c.nodes.ensures, many, ap (λ q. length (refs q)) c.deref.ensures)))

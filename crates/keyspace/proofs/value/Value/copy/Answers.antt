@@ -1,0 +1,14 @@
+use Rattle.blocks.specs.Blocks.{no_step}
+use Rattle.keyspace.proofs.value.Value.copy.Goals as goal
+
+pub returns-in_err-room-in-List-clause-served : goal.returns-in_err-room-in-List-clause-served
+returns-in_err-room-in-List-clause-served g c = no_step
+
+pub returns-in_err-room-in-Set-clause-served : goal.returns-in_err-room-in-Set-clause-served
+returns-in_err-room-in-Set-clause-served g c = no_step
+
+pub returns-in_err-room-in-Hash-clause-served : goal.returns-in_err-room-in-Hash-clause-served
+returns-in_err-room-in-Hash-clause-served g c = no_step
+
+pub returns-in_err-room-in-Zset-clause-served : goal.returns-in_err-room-in-Zset-clause-served
+returns-in_err-room-in-Zset-clause-served g c = no_step

@@ -1,0 +1,62 @@
+//! Values changed in their place.
+
+ghost use Rattle.std.specs.Prelude.{◌≡◌, ℕ, Some, OnOk};
+ghost use Rattle.blocks.specs.Blocks.{Changes, Owned, Served};
+ghost use Rattle.object_codec.specs.declared.limits.Limits.{Limits};
+ghost use Rattle.plain_world.specs.Worlds.{Entry, look};
+ghost use Rattle.plain_world.specs.Worlds as model;
+ghost use Rattle.held.specs.Calls.{StandsAt};
+ghost use Rattle.keyspace.specs.Values.{value_of, value_refs, IsSound};
+ghost use Rattle.keyspace.specs.Scopes.{one_key};
+ghost use Rattle.keyspace.specs.Commands.{Ready, Held, sight};
+ghost use Rattle.keyspace.specs.Edits.{Shape, shape, Edits};
+
+use crate::{Keyspace, Lifted, Value};
+use blocks::{BlockStore, Memory};
+use plain_model::Ctx;
+
+/// What is done to a value in its place. It may keep an answer.
+pub trait Edit {
+    /// It may be done to a value that means this.
+    ghost takes: { Self → model.Value → Type 0 };
+
+    /// What it makes of the shape of a value.
+    ghost makes: { Self → Self → Shape → Shape → Type 0 };
+
+    /// Changes a value. After want of memory it is sound, and what it means is not said.
+    fn edit<B: BlockStore>(&mut self, value: &mut Value, store: &mut B) -> Result<(), Memory>
+        requires owned { Owned (value_refs (B.blocks store.old) value.old) (B.blocks store.old) }
+        requires sound { (limits : Limits) × (seed : ℕ) × IsSound limits seed (B.blocks store.old) value.old }
+        requires takes { takes self.old (value_of (B.blocks store.old) value.old) }
+        ensures sound { (limits : Limits) (seed : ℕ) → IsSound limits seed (B.blocks store.old) value.old → IsSound limits seed (B.blocks store.new) value.new }
+        ensures makes { OnOk result (makes self.old self.new (shape (B.blocks store.old) value.old) (shape (B.blocks store.new) value.new)) }
+        ensures changes { Changes (B.blocks store.old) (B.blocks store.new) (value_refs (B.blocks store.old) value.old) (value_refs (B.blocks store.new) value.new) }
+        ensures served { Served B.step store.old store.new };
+}
+
+/// Changes the value at a key that is there for the command, by its item number.
+pub fn edit_there<E: Edit, B: BlockStore>(
+    keyspace: &mut Keyspace<B>,
+    at: &Ctx,
+    key: &[u8],
+    item: usize,
+    edit: &mut E,
+) -> Result<(), Memory>
+    requires ready { Ready B.blocks keyspace.old at.now }
+    requires there { StandsAt keyspace.old.bases (B.blocks keyspace.old.store) at.now.db key.now at.now.moment item }
+    requires takes { (entry : Entry) → look (sight B.blocks keyspace.old at.now) key.now ≡ Some entry → E.takes edit.old entry.value }
+    ensures edits { OnOk result (Edits E.makes edit.old edit.new B.blocks keyspace.old keyspace.new at.now key.now) }
+    ensures held { Held B.blocks B.step (one_key at.now.db key.now) keyspace.old keyspace.new }
+{
+    // the item number tells the key
+    let _ = key;
+    let lifted = keyspace.lift_at(at.db, item);
+    let Lifted { db, item, value } = lifted;
+    let mut value = value;
+    let done = edit.edit(&mut value, &mut keyspace.store);
+    keyspace.lower(Lifted { db, item, value });
+    match done {
+        Ok(()) => Ok(()),
+        Err(error) => Err(error),
+    }
+}
