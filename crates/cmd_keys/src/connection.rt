@@ -14,14 +14,14 @@ ghost use Rattle.cmd_keys.specs.Emptied.{IsEmpty};
 
 use blocks::BlockStore;
 use keyspace::Keyspace;
-use plain_model::{Bytes, Ctx, Line, Memory, Reply};
+use plain_model::{Bytes, Ctx, Line, Memory, Reply, Word};
 use std::alloc::{AllocError, Global};
 
 // How many databases there are.
 const DATABASES: usize = 16;
 
 /// `PING [text]`: PONG, or the text.
-pub fn ping(alloc: Global, text: &Option<Bytes>) -> Result<Reply, Memory>
+pub fn ping(alloc: Global, text: &Option<Word<'_>>) -> Result<Reply, Memory>
     ensures { Tells (commands.Ping text.now) result }
 {
     match text {

@@ -21,7 +21,7 @@ use rand_pcg::Pcg32;
 pub fn run_keys<B: BlockStore>(
     keyspace: &mut Keyspace<B>,
     at: &Ctx,
-    command: &KeyCommand,
+    command: &KeyCommand<'_>,
     dice: &mut Pcg32,
 ) -> Result<Reply, Memory>
     requires ready { Ready B.blocks keyspace.old at.now }
@@ -66,7 +66,7 @@ pub fn run_keys<B: BlockStore>(
 pub fn run_connection<B: BlockStore>(
     keyspace: &mut Keyspace<B>,
     at: &Ctx,
-    command: &ConnectionCommand,
+    command: &ConnectionCommand<'_>,
 ) -> Result<Reply, Memory>
     requires ready { Ready B.blocks keyspace.old at.now }
     requires common { IsCommon command.now }

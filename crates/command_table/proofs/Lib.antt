@@ -1,9 +1,6 @@
 pub mod Tables
 pub mod Told
 pub mod Shapes
-pub mod FamilyRows
-pub mod StringRows
-pub mod KeyRows
+pub mod Arms
 pub mod Names
 pub mod OptionWords
-pub mod Shorts

@@ -13,8 +13,7 @@ use Rattle.plain_model.specs.declared.command.Command.{Command}
 use Rattle.plain_world.specs.declared.refusal.Refusal.TheVariants.{UnknownCommand}
 use Rattle.command_table.specs.declared.table.Row.{Row}
 use Rattle.command_table.specs.declared.table.Name.{Name}
-use Rattle.command_table.specs.declared.table.Shape.{Shape}
-use Rattle.command_table.specs.Rows.{names, is_among, covered, told_by, IsTable, row_of, found_in, Finds}
+use Rattle.command_table.specs.Rows.{names, is_among, covered, IsTable, name_of, found_in, Finds}
 
 -- no name is the word
 abbrev IsNone : List ℕ → List (List ℕ) → Type 0
@@ -53,14 +52,14 @@ none_of_length lower (n ∷ ns) others h e =
     (here, none_of_length lower ns others h parts.1)
 
 -- what the look-up among some rows tells
-abbrev FindsIn : List Row → List ℕ → Option (Name × Shape) → Type 0
+abbrev FindsIn : List Row → List ℕ → Option Name → Type 0
 FindsIn rows lower None = IsNone lower (map (λ row. in_lower_case row.0.now) rows)
-FindsIn rows lower (Some found) = (lower ≡ (row_of found.0).0) × (found.1 ≡ (row_of found.0).1)
+FindsIn rows lower (Some found) = lower ≡ name_of found
 
 abbrev pub IsRow : Row → Type 0
-IsRow row = (in_lower_case row.0.now ≡ (row_of row.1).0) × (row.2 ≡ (row_of row.1).1)
+IsRow row = in_lower_case row.0.now ≡ name_of row.1
 
-one_more : (row : Row) (rows : List Row) (lower : List ℕ) (answer : Option (Name × Shape)) → bytes_eq lower (in_lower_case row.0.now) ≡ false → FindsIn rows lower answer → FindsIn (row ∷ rows) lower answer
+one_more : (row : Row) (rows : List Row) (lower : List ℕ) (answer : Option Name) → bytes_eq lower (in_lower_case row.0.now) ≡ false → FindsIn rows lower answer → FindsIn (row ∷ rows) lower answer
 one_more row rows lower None e h = (e, h)
 one_more row rows lower (Some found) e h = h
 
@@ -68,23 +67,23 @@ finds_in : (rows : List Row) (word : List ℕ) → AllByRecursion IsRow rows →
 finds_in [] word h = tt
 finds_in (row ∷ rows) word h =
     let lower = in_lower_case word in
-    elim (bytes_eq lower (in_lower_case row.0.now)) as (λ b. bytes_eq lower (in_lower_case row.0.now) ≡ b → FindsIn (row ∷ rows) lower (if b then Some (row.1, row.2) else found_in rows word)) [
-      | true ↦ λ e. ((bytes_eq-Decides lower (in_lower_case row.0.now)).0 e ∙ h.0.0, h.0.1)
+    elim (bytes_eq lower (in_lower_case row.0.now)) as (λ b. bytes_eq lower (in_lower_case row.0.now) ≡ b → FindsIn (row ∷ rows) lower (if b then Some row.1 else found_in rows word)) [
+      | true ↦ λ e. (bytes_eq-Decides lower (in_lower_case row.0.now)).0 e ∙ h.0
       | false ↦ λ e. one_more row rows lower (found_in rows word) e (finds_in rows word h.1)
     ] refl
 
-finds_all : (rows : List Row) (word : List ℕ) (answer : Option (Name × Shape)) → covered (length (in_lower_case word)) names (map (λ row. in_lower_case row.0.now) rows) ≡ true → FindsIn rows (in_lower_case word) answer → Finds word answer
+finds_all : (rows : List Row) (word : List ℕ) (answer : Option Name) → covered (length (in_lower_case word)) names (map (λ row. in_lower_case row.0.now) rows) ≡ true → FindsIn rows (in_lower_case word) answer → Finds word answer
 finds_all rows word None covers h = λ words. unknown all_rows (in_lower_case word) words (none_of_length (in_lower_case word) names _ h covers)
 finds_all rows word (Some found) covers h = h
 
-each_row : (rows : List Row) → map told_by rows ≡ map (λ row. row_of row.1) rows → AllByRecursion IsRow rows
+each_row : (rows : List Row) → map (λ row. in_lower_case row.0.now) rows ≡ map (λ row. name_of row.1) rows → AllByRecursion IsRow rows
 each_row [] e = tt
 each_row (row ∷ rows) e =
-    let here : told_by row ≡ row_of row.1 = cc in
-    let behind : map told_by rows ≡ map (λ row. row_of row.1) rows = cc in
-    ((ap (λ p. p.0) here, ap (λ p. p.1) here), each_row rows behind)
+    let here : in_lower_case row.0.now ≡ name_of row.1 = cc in
+    let behind : map (λ (row : Row). in_lower_case row.0.now) rows ≡ map (λ row. name_of row.1) rows = cc in
+    (here, each_row rows behind)
 
-pub finds : (rows : List Row) (word : List ℕ) (answer : Option (Name × Shape)) → IsTable rows (length word) → answer ≡ found_in rows word → Finds word answer
+pub finds : (rows : List Row) (word : List ℕ) (answer : Option Name) → IsTable rows (length word) → answer ≡ found_in rows word → Finds word answer
 finds rows word answer table e =
     let lengths : length word ≡ length (in_lower_case word) = sym (length-map word to_ascii_lowercase) in
     let C : ℕ → Type 0 = λ n. covered n names (map (λ row. in_lower_case row.0.now) rows) ≡ true in

@@ -1,12 +1,16 @@
 -- What is read of words.
-use Rattle.std.specs.Prelude.{◌≡◌, ℕ, ◌+◌, ℤ, List, [], ◌∷◌, length, drop, slice_index_or, codes, nat_le, Option}
+use Rattle.std.specs.Prelude.{◌≡◌, ℕ, List, [], ◌∷◌, length, drop, slice_index_or, codes, nat_le, Option, Bool, true, false}
 use Rattle.std.specs.Prelude.{Some, None, Result, Ok, Err, if◌then◌else◌}
+use Rattle.std.specs.Result.{IsOkAnd}
 use Rattle.plain_world.specs.Words.{Words, in_lower_case}
-use Rattle.plain_model.specs.Shapes.{Kind, Whole, Span, Told, AllTold, told, all_told, and_then, option_of, options_read}
+use Rattle.plain_model.specs.Shapes.{Kind, Plain, Whole, Span, Told, AllTold, all_told, and_then, fixed, repeated, with_options, NamedOption, option_of}
 use Rattle.plain_model.specs.Meant.{meant}
-use Rattle.plain_model.specs.StringWords.{time_options, set_options, getex_options}
-use Rattle.plain_model.specs.KeyWords.{expire_options, no_expire_options, clash}
+use Rattle.plain_model.specs.StringWords.{pairs_of, time_options, set_options, getex_options}
 use Rattle.plain_model.specs.declared.command.Command.{Command}
+use Rattle.plain_model.specs.declared.command.Command.TheVariants.{Strings, Keys}
+use Rattle.plain_model.specs.declared.command.StringCommand.TheVariants as strings
+use Rattle.plain_model.specs.declared.keys.KeyCommand.TheVariants as keys
+use Rattle.plain_model.specs.KeyWords.{expire_options, no_expire_options, clash}
 use Rattle.plain_model.specs.declared.keys.ExpireOptions.{ExpireOptions}
 use Rattle.plain_model.specs.declared.times.Time.{Time}
 use Rattle.plain_model.specs.declared.times.TimeUnit.{TimeUnit}
@@ -26,20 +30,36 @@ use Rattle.command_table.specs.declared.fault.ReadingFault.TheVariants.{Refused,
 abbrev pub at : Words → ℕ → List ℕ
 at words i = slice_index_or words i []
 
--- The answer is what the words mean, as the caller wraps it: a refusal is that of the words. Want of memory is free.
+-- The answer is what the words mean, as the caller wraps it: a refusal is that of the words. No memory is asked for.
 abbrev pub TellsAs : {A B : Type 0} → (A → B) → Result B Refusal → Result A ReadingFault → Type 0
 TellsAs wrap means (Ok a) = means ≡ Ok (wrap a)
 TellsAs wrap means (Err (Refused refusal)) = means ≡ Err refusal
-TellsAs wrap means (Err Memory) = Unit {0}
+TellsAs wrap means (Err Memory) = ⊥
 
 abbrev pub Tells : {A : Type 0} → Result A Refusal → Result A ReadingFault → Type 0
 Tells {A} means answer = TellsAs (λ (a : A). a) means answer
 
--- what words of these kinds tell that stand from this place on
-abbrev pub told_at : (kinds : List Kind) → Words → ℕ → Result (AllTold kinds) Refusal
-told_at [] words i = Ok tt
-told_at (kind ∷ kinds) words i =
-    and_then (told kind (at words i)) (λ a. and_then (told_at kinds words (i + 1)) (λ rest. Ok (a, rest)))
+-- The answer is the list that the words mean, or their refusal; want of memory comes only where they aren't refused.
+abbrev pub Gathers : {A : Type 0} → Result A Refusal → Result A ReadingFault → Type 0
+Gathers means (Ok list) = means ≡ Ok list
+Gathers means (Err (Refused refusal)) = means ≡ Err refusal
+Gathers {A} means (Err Memory) = (list : A) × (means ≡ Ok list)
+
+-- what just these words behind the name tell
+abbrev pub just : (kinds : List Kind) → Words → Result (AllTold kinds) Refusal
+just kinds words = fixed kinds (λ a. Ok a) (drop 1 words)
+
+-- what these words behind the name and the options behind them tell
+abbrev pub and_options : {C : Type 0} (kinds : List Kind) → List (NamedOption C) → C → Words
+    → Result (AllTold kinds × C) Refusal
+and_options kinds named none words = with_options kinds named none (λ a c. Ok (a, c)) (drop 1 words)
+
+-- one or more words behind the name, and one or more pairs
+abbrev pub some_words : Words → Result Words Refusal
+some_words words = repeated [] 1 (λ a own. Ok own) (drop 1 words)
+
+abbrev pub some_pairs : Words → Result (List (List ℕ × List ℕ)) Refusal
+some_pairs words = repeated [] 2 (λ a own. Ok (pairs_of own)) (drop 1 words)
 
 -- the one word of an option, which stands first
 abbrev pub own_word : (kind : Kind) → Words → Result (Told kind) Refusal
@@ -77,13 +97,30 @@ IsGetExOption word (Some getex.Persist) = in_lower_case word ≡ codes "persist"
 IsGetExOption word (Some (getex.Until unit from)) = in_lower_case word ≡ time_name unit from
 IsGetExOption word None = option_of getex_options (in_lower_case word) ≡ None
 
--- the key, the number and the options of EXPIRE and its like
-abbrev pub expire_parts : Words → Result (List ℕ × ℤ × ExpireOptions) Refusal
+-- the key, the number and the options of EXPIRE and its like, of which none forbids another
+abbrev pub expire_parts : Words → Result (AllTold (Plain ∷ Whole ∷ []) × ExpireOptions) Refusal
 expire_parts words =
-    and_then (told Whole (at words 2))
-    (λ n. and_then (options_read expire_options no_expire_options 0 (drop 3 words))
-    (λ options. if clash options then Err Syntax else Ok (at words 1, n, options)))
+    with_options (Plain ∷ Whole ∷ []) expire_options no_expire_options
+    (λ a options. if clash options then Err Syntax else Ok (a, options)) (drop 1 words)
 
--- The answer is what a request with these words means: its command, or its refusal. Want of memory is free.
+-- the command keeps a list of words
+abbrev pub keeps_list : Command → Bool
+keeps_list (Strings (strings.MGet words)) = true
+keeps_list (Strings (strings.MSet pairs)) = true
+keeps_list (Strings (strings.MSetNx pairs)) = true
+keeps_list (Keys (keys.Del words)) = true
+keeps_list (Keys (keys.Unlink words)) = true
+keeps_list (Keys (keys.Exists words)) = true
+keeps_list (Keys (keys.Touch words)) = true
+keeps_list other = false
+
+-- The answer is a family's command that words mean, or their refusal. Want of memory comes only where the command keeps a
+-- list of words.
+abbrev pub ReadsAs : {A : Type 0} → (A → Command) → Result Command Refusal → Result A ReadingFault → Type 0
+ReadsAs family means (Ok command) = means ≡ Ok (family command)
+ReadsAs family means (Err (Refused refusal)) = means ≡ Err refusal
+ReadsAs family means (Err Memory) = IsOkAnd means (λ command. keeps_list command ≡ true)
+
+-- the same of a command of any family, by all words of the request
 abbrev pub ReadsCommand : Words → Result Command ReadingFault → Type 0
-ReadsCommand words answer = Tells (meant words) answer
+ReadsCommand words answer = ReadsAs (λ command. command) (meant words) answer

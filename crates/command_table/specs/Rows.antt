@@ -1,11 +1,9 @@
--- Which words each row of the code's table takes.
+-- The names of commands, and the code's table of them.
 use Rattle.std.specs.Prelude.{◌≡◌, ℕ, ◌-◌, ◌%◌, ◌==◌, List, [], ◌∷◌, length, map, Bool, true, false, ◌||◌, ◌&&◌}
 use Rattle.std.specs.Prelude.{if◌then◌else◌, bytes_eq, nat_lt, nat_le, Option, Some, None, codes, Err}
 use Rattle.plain_world.specs.Words.{Words, in_lower_case}
 use Rattle.plain_model.specs.Meant.{rows, meant}
 use Rattle.plain_world.specs.declared.refusal.Refusal.TheVariants.{UnknownCommand}
-use Rattle.command_table.specs.declared.table.Shape.{Shape}
-use Rattle.command_table.specs.declared.table.Shape.TheVariants as shape
 use Rattle.command_table.specs.declared.table.StringName.{StringName}
 use Rattle.command_table.specs.declared.table.StringName.TheVariants as string
 use Rattle.command_table.specs.declared.table.KeyName.{KeyName}
@@ -16,76 +14,67 @@ use Rattle.command_table.specs.declared.table.Row.{Row}
 use Rattle.command_table.specs.declared.table.Name.{Name}
 use Rattle.command_table.specs.declared.table.Name.TheVariants.{Strings, Keys, Connection}
 
--- so many words behind the name fit
-abbrev pub fits : Shape → ℕ → Bool
-fits (shape.Fixed count) words = words == count
-fits (shape.Words first) words = nat_lt first words
-fits (shape.Pairs first) words = nat_lt first words && ((words - first) % 2 == 0)
-fits (shape.Options first) words = nat_le first words
-fits (shape.Between least most) words = nat_le least words && nat_le words most
-fits shape.Any words = true
+-- the name in lower case
+abbrev pub string_name : StringName → List ℕ
+string_name string.Get = codes "get"
+string_name string.Set = codes "set"
+string_name string.SetNx = codes "setnx"
+string_name string.SetEx = codes "setex"
+string_name string.PSetEx = codes "psetex"
+string_name string.GetSet = codes "getset"
+string_name string.GetDel = codes "getdel"
+string_name string.GetEx = codes "getex"
+string_name string.MGet = codes "mget"
+string_name string.MSet = codes "mset"
+string_name string.MSetNx = codes "msetnx"
+string_name string.Append = codes "append"
+string_name string.StrLen = codes "strlen"
+string_name string.GetRange = codes "getrange"
+string_name string.SetRange = codes "setrange"
+string_name string.Incr = codes "incr"
+string_name string.Decr = codes "decr"
+string_name string.IncrBy = codes "incrby"
+string_name string.DecrBy = codes "decrby"
 
--- the name in lower case, and the shape
-abbrev pub string_row : StringName → List ℕ × Shape
-string_row string.Get = (codes "get", shape.Fixed 1)
-string_row string.Set = (codes "set", shape.Options 2)
-string_row string.SetNx = (codes "setnx", shape.Fixed 2)
-string_row string.SetEx = (codes "setex", shape.Fixed 3)
-string_row string.PSetEx = (codes "psetex", shape.Fixed 3)
-string_row string.GetSet = (codes "getset", shape.Fixed 2)
-string_row string.GetDel = (codes "getdel", shape.Fixed 1)
-string_row string.GetEx = (codes "getex", shape.Options 1)
-string_row string.MGet = (codes "mget", shape.Words 0)
-string_row string.MSet = (codes "mset", shape.Pairs 0)
-string_row string.MSetNx = (codes "msetnx", shape.Pairs 0)
-string_row string.Append = (codes "append", shape.Fixed 2)
-string_row string.StrLen = (codes "strlen", shape.Fixed 1)
-string_row string.GetRange = (codes "getrange", shape.Fixed 3)
-string_row string.SetRange = (codes "setrange", shape.Fixed 3)
-string_row string.Incr = (codes "incr", shape.Fixed 1)
-string_row string.Decr = (codes "decr", shape.Fixed 1)
-string_row string.IncrBy = (codes "incrby", shape.Fixed 2)
-string_row string.DecrBy = (codes "decrby", shape.Fixed 2)
+abbrev pub key_name : KeyName → List ℕ
+key_name key.Del = codes "del"
+key_name key.Unlink = codes "unlink"
+key_name key.Exists = codes "exists"
+key_name key.Touch = codes "touch"
+key_name key.TypeOf = codes "type"
+key_name key.Expire = codes "expire"
+key_name key.PExpire = codes "pexpire"
+key_name key.ExpireAt = codes "expireat"
+key_name key.PExpireAt = codes "pexpireat"
+key_name key.Ttl = codes "ttl"
+key_name key.PTtl = codes "pttl"
+key_name key.ExpireTime = codes "expiretime"
+key_name key.PExpireTime = codes "pexpiretime"
+key_name key.Persist = codes "persist"
+key_name key.Rename = codes "rename"
+key_name key.RenameNx = codes "renamenx"
+key_name key.CopyKey = codes "copy"
+key_name key.MoveKey = codes "move"
+key_name key.RandomKey = codes "randomkey"
+key_name key.Object = codes "object"
+key_name key.KeysLike = codes "keys"
+key_name key.Scan = codes "scan"
 
-abbrev pub key_row : KeyName → List ℕ × Shape
-key_row key.Del = (codes "del", shape.Words 0)
-key_row key.Unlink = (codes "unlink", shape.Words 0)
-key_row key.Exists = (codes "exists", shape.Words 0)
-key_row key.Touch = (codes "touch", shape.Words 0)
-key_row key.TypeOf = (codes "type", shape.Fixed 1)
-key_row key.Expire = (codes "expire", shape.Options 2)
-key_row key.PExpire = (codes "pexpire", shape.Options 2)
-key_row key.ExpireAt = (codes "expireat", shape.Options 2)
-key_row key.PExpireAt = (codes "pexpireat", shape.Options 2)
-key_row key.Ttl = (codes "ttl", shape.Fixed 1)
-key_row key.PTtl = (codes "pttl", shape.Fixed 1)
-key_row key.ExpireTime = (codes "expiretime", shape.Fixed 1)
-key_row key.PExpireTime = (codes "pexpiretime", shape.Fixed 1)
-key_row key.Persist = (codes "persist", shape.Fixed 1)
-key_row key.Rename = (codes "rename", shape.Fixed 2)
-key_row key.RenameNx = (codes "renamenx", shape.Fixed 2)
-key_row key.CopyKey = (codes "copy", shape.Options 2)
-key_row key.MoveKey = (codes "move", shape.Fixed 2)
-key_row key.RandomKey = (codes "randomkey", shape.Fixed 0)
-key_row key.Object = (codes "object", shape.Fixed 2)
-key_row key.KeysLike = (codes "keys", shape.Fixed 1)
-key_row key.Scan = (codes "scan", shape.Options 1)
+abbrev pub connection_name : ConnectionName → List ℕ
+connection_name connection.Ping = codes "ping"
+connection_name connection.Echo = codes "echo"
+connection_name connection.Quit = codes "quit"
+connection_name connection.Select = codes "select"
+connection_name connection.DbSize = codes "dbsize"
+connection_name connection.FlushDb = codes "flushdb"
+connection_name connection.FlushAll = codes "flushall"
+connection_name connection.Memory = codes "memory"
+connection_name connection.Debug = codes "debug"
 
-abbrev pub connection_row : ConnectionName → List ℕ × Shape
-connection_row connection.Ping = (codes "ping", shape.Between 0 1)
-connection_row connection.Echo = (codes "echo", shape.Fixed 1)
-connection_row connection.Quit = (codes "quit", shape.Any)
-connection_row connection.Select = (codes "select", shape.Fixed 1)
-connection_row connection.DbSize = (codes "dbsize", shape.Fixed 0)
-connection_row connection.FlushDb = (codes "flushdb", shape.Options 0)
-connection_row connection.FlushAll = (codes "flushall", shape.Options 0)
-connection_row connection.Memory = (codes "memory", shape.Fixed 1)
-connection_row connection.Debug = (codes "debug", shape.Fixed 2)
-
-abbrev pub row_of : Name → List ℕ × Shape
-row_of (Strings name) = string_row name
-row_of (Keys name) = key_row name
-row_of (Connection name) = connection_row name
+abbrev pub name_of : Name → List ℕ
+name_of (Strings name) = string_name name
+name_of (Keys name) = key_name name
+name_of (Connection name) = connection_name name
 
 -- the names that the definition knows
 abbrev pub names : List (List ℕ)
@@ -101,22 +90,18 @@ abbrev pub covered : ℕ → List (List ℕ) → List (List ℕ) → Bool
 covered len [] others = true
 covered len (n ∷ ns) others = (if length n == len then is_among others n else true) && covered len ns others
 
--- a row's name in lower case, and its shape
-abbrev pub told_by : Row → List ℕ × Shape
-told_by row = (in_lower_case row.0.now, row.2)
-
 -- these rows are right, and have each name of this length that the definition knows
 pub record IsTable (table : List Row) (len : ℕ) : Type 0 where
-  pub right : map told_by table ≡ map (λ row. row_of row.1) table
+  pub right : map (λ row. in_lower_case row.0.now) table ≡ map (λ row. name_of row.1) table
   pub whole : covered len names (map (λ row. in_lower_case row.0.now) table) ≡ true
 
 -- the first of these rows with this name, whatever the case of either
-abbrev pub found_in : List Row → List ℕ → Option (Name × Shape)
+abbrev pub found_in : List Row → List ℕ → Option Name
 found_in [] word = None
 found_in (row ∷ behind) word =
-    if bytes_eq (in_lower_case word) (in_lower_case row.0.now) then Some (row.1, row.2) else found_in behind word
+    if bytes_eq (in_lower_case word) (in_lower_case row.0.now) then Some row.1 else found_in behind word
 
--- what the look-up of a word answers: the row of that name; or it names no command
-abbrev pub Finds : List ℕ → Option (Name × Shape) → Type 0
+-- what the look-up of a word answers: the command of that name; or it names no command
+abbrev pub Finds : List ℕ → Option Name → Type 0
 Finds word None = (words : Words) → meant (word ∷ words) ≡ Err UnknownCommand
-Finds word (Some found) = (in_lower_case word ≡ (row_of found.0).0) × (found.1 ≡ (row_of found.0).1)
+Finds word (Some name) = in_lower_case word ≡ name_of name

@@ -1,90 +1,122 @@
-//! The words of commands on the connection and the server, by the shape that they are known to have.
+//! The words of commands on the connection and the server.
 
-ghost use Rattle.std.specs.Prelude.{◌≡◌, ◌<◌, ◌∷◌, [], length, drop, true, Ok};
+ghost use Rattle.std.specs.Prelude.{◌≡◌, ◌<◌, ◌∷◌, [], length, drop, Ok};
 ghost use Rattle.plain_model.specs.Meant.{meant};
-ghost use Rattle.plain_model.specs.Shapes.{and_then, options_read};
-ghost use Rattle.plain_model.specs.ConnectionWords.{ping_words, flush_words, memory_of, debug_of};
+ghost use Rattle.plain_model.specs.Shapes.{Database, Steps, by_second, fixed};
+ghost use Rattle.plain_model.specs.ConnectionWords.{ping_words, flush_words, memory_rows, debug_rows};
 ghost use Rattle.plain_model.specs.declared.command.Command.TheVariants as commands;
-ghost use Rattle.command_table.specs.Readings.{Tells, TellsAs, at};
-ghost use Rattle.command_table.specs.Rows.{fits, connection_row};
+ghost use Rattle.plain_model.specs.declared.connection.ConnectionCommand.{ConnectionCommand};
+ghost use Rattle.command_table.specs.Readings.{Tells, TellsAs, ReadsAs};
+ghost use Rattle.command_table.specs.Rows.{connection_name};
 
 use crate::ReadingFault;
 use crate::options::read_options;
+use crate::kinds::{WRONG_NUMBER, alone, one};
 use crate::table::ConnectionName;
-use crate::words::{copied, database, is_word, steps};
+use crate::words::{database, is_word, plain, steps};
 use plain_model::{ConnectionCommand, Refusal};
 use resp_frames::Request;
-use std::alloc::Global;
 
 // PING: a text or none.
-fn ping(alloc: Global, request: &Request<'_>) -> Result<ConnectionCommand, ReadingFault>
-    requires some { 0 < length request.now }
-    requires few { length request.now < 3 }
+fn ping<'r>(request: &'r Request<'_>) -> Result<ConnectionCommand<'r>, ReadingFault>
+    requires { 0 < length request.now }
     ensures { Tells (ping_words (drop 1 request.now)) result }
 {
-    if request.len() == 1 {
-        return Ok(ConnectionCommand::Ping(None));
+    match request.len() {
+        1 => Ok(ConnectionCommand::Ping(None)),
+        2 => Ok(ConnectionCommand::Ping(Some(plain(request, 1)))),
+        _ => Err(WRONG_NUMBER),
     }
-    let text = copied(alloc, request, 1)?;
-    Ok(ConnectionCommand::Ping(Some(text)))
+}
+
+// SELECT: a database.
+fn select<'r>(request: &'r Request<'_>) -> Result<ConnectionCommand<'r>, ReadingFault>
+    requires { 0 < length request.now }
+    ensures { Tells (fixed (Database ∷ []) (λ a. Ok (ConnectionCommand.Select a.0)) (drop 1 request.now)) result }
+{
+    if request.len() != 2 {
+        return Err(WRONG_NUMBER);
+    }
+    let db = database(request, 1)?;
+    Ok(ConnectionCommand::Select(db))
 }
 
 // FLUSHDB and FLUSHALL: options that say nothing.
-fn flush(
-    alloc: Global,
-    request: &Request<'_>,
-    command: ConnectionCommand,
-) -> Result<ConnectionCommand, ReadingFault>
+fn flush<'r>(
+    request: &'r Request<'_>,
+    command: ConnectionCommand<'r>,
+) -> Result<ConnectionCommand<'r>, ReadingFault>
     requires { 0 < length request.now }
-    ensures { Tells (flush_words command (drop 1 request.now)) result }
+    ensures { Tells (flush_words command.entry (drop 1 request.now)) result }
 {
-    read_options(alloc, (), request, 1)?;
+    read_options(request, (), 1)?;
     Ok(command)
 }
 
 // MEMORY: its second word.
-fn memory(request: &Request<'_>) -> Result<ConnectionCommand, ReadingFault>
-    requires { 1 < length request.now }
-    ensures { Tells (memory_of (at request.now 1)) result }
+fn memory<'r>(request: &'r Request<'_>) -> Result<ConnectionCommand<'r>, ReadingFault>
+    requires { 0 < length request.now }
+    ensures { Tells (by_second 1 memory_rows (drop 1 request.now)) result }
 {
+    if request.len() < 2 {
+        return Err(WRONG_NUMBER);
+    }
     if !is_word(request.word(1), b"slabs") {
         return Err(ReadingFault::Refused(Refusal::Syntax));
+    }
+    if request.len() != 2 {
+        return Err(WRONG_NUMBER);
     }
     Ok(ConnectionCommand::MemorySlabs)
 }
 
-// DEBUG: its second word, and a number of steps.
-fn debug(request: &Request<'_>) -> Result<ConnectionCommand, ReadingFault>
-    requires { 2 < length request.now }
-    ensures { Tells (debug_of (at request.now 1) (at request.now 2)) result }
+// The number of steps behind the second word.
+fn own_steps(request: &Request<'_>) -> Result<u32, ReadingFault>
+    requires { 1 < length request.now }
+    ensures { TellsAs (λ a. (a, tt)) (fixed (Steps ∷ []) (λ a. Ok a) (drop 2 request.now)) result }
 {
+    if request.len() != 3 {
+        return Err(WRONG_NUMBER);
+    }
+    steps(request, 2)
+}
+
+// DEBUG: its second word, and a number of steps.
+fn debug<'r>(request: &'r Request<'_>) -> Result<ConnectionCommand<'r>, ReadingFault>
+    requires { 0 < length request.now }
+    ensures { Tells (by_second 2 debug_rows (drop 1 request.now)) result }
+{
+    if request.len() < 3 {
+        return Err(WRONG_NUMBER);
+    }
     if is_word(request.word(1), b"rehash") {
-        return steps(request, 2).map(ConnectionCommand::DebugRehash);
+        let steps = own_steps(request)?;
+        return Ok(ConnectionCommand::DebugRehash(steps));
     }
     if is_word(request.word(1), b"defrag") {
-        return steps(request, 2).map(ConnectionCommand::DebugDefrag);
+        let steps = own_steps(request)?;
+        return Ok(ConnectionCommand::DebugDefrag(steps));
     }
     Err(ReadingFault::Refused(Refusal::Syntax))
 }
 
-/// Turns the words of a command on the connection or the server into it. They are as many as its row takes.
-pub fn read_connection(
-    alloc: Global,
+/// Turns the words behind the name of a command on the connection or the server into it.
+#[tactic(auto, using(crate::proofs::Arms::fixed_made, crate::proofs::Arms::lifted))]
+pub fn read_connection<'r>(
     name: ConnectionName,
-    request: &Request<'_>,
-) -> Result<ConnectionCommand, ReadingFault>
-    requires some { 0 < length request.now }
-    requires shape { fits (connection_row name).1 (length (drop 1 request.now)) ≡ true }
-    ensures { TellsAs commands.Connection (meant ((connection_row name).0 ∷ drop 1 request.now)) result }
+    request: &'r Request<'_>,
+) -> Result<ConnectionCommand<'r>, ReadingFault>
+    requires { 0 < length request.now }
+    ensures { ReadsAs commands.Connection (meant (connection_name name ∷ drop 1 request.now)) result }
 {
     match name {
-        ConnectionName::Ping => ping(alloc, request),
-        ConnectionName::Echo => copied(alloc, request, 1).map(ConnectionCommand::Echo),
+        ConnectionName::Ping => ping(request),
+        ConnectionName::Echo => one(request).map(ConnectionCommand::Echo),
         ConnectionName::Quit => Ok(ConnectionCommand::Quit),
-        ConnectionName::Select => database(request, 1).map(ConnectionCommand::Select),
-        ConnectionName::DbSize => Ok(ConnectionCommand::DbSize),
-        ConnectionName::FlushDb => flush(alloc, request, ConnectionCommand::FlushDb),
-        ConnectionName::FlushAll => flush(alloc, request, ConnectionCommand::FlushAll),
+        ConnectionName::Select => select(request),
+        ConnectionName::DbSize => alone(request, ConnectionCommand::DbSize),
+        ConnectionName::FlushDb => flush(request, ConnectionCommand::FlushDb),
+        ConnectionName::FlushAll => flush(request, ConnectionCommand::FlushAll),
         ConnectionName::Memory => memory(request),
         ConnectionName::Debug => debug(request),
     }

@@ -5,19 +5,17 @@ ghost use Rattle.plain_model.specs.KeyWords.{expire_options, copy_options, scan_
 ghost use Rattle.plain_model.specs.ConnectionWords.{flush_options};
 
 use crate::ReadingFault;
-use crate::options::{Options, own_copy, own_count, own_database};
+use crate::options::{Options, own_count, own_database, own_word};
 use crate::words::is_word;
 use plain_model::{CopyOptions, ExpireOptions, Refusal, ScanOptions};
 use resp_frames::Request;
-use std::alloc::Global;
 
-impl Options for ExpireOptions {
+impl<'r> Options<'r> for ExpireOptions {
     ghost named = { expire_options };
 
     fn with_option(
         self,
-        _alloc: Global,
-        request: &Request<'_>,
+        request: &'r Request<'_>,
         index: usize,
     ) -> Result<(ExpireOptions, usize), ReadingFault> {
         let word = request.word(index);
@@ -37,13 +35,12 @@ impl Options for ExpireOptions {
     }
 }
 
-impl Options for CopyOptions {
+impl<'r> Options<'r> for CopyOptions {
     ghost named = { copy_options };
 
     fn with_option(
         self,
-        _alloc: Global,
-        request: &Request<'_>,
+        request: &'r Request<'_>,
         index: usize,
     ) -> Result<(CopyOptions, usize), ReadingFault> {
         let word = request.word(index);
@@ -70,18 +67,17 @@ impl Options for CopyOptions {
     }
 }
 
-impl Options for ScanOptions {
+impl<'r> Options<'r> for ScanOptions<'r> {
     ghost named = { scan_options };
 
     fn with_option(
         self,
-        alloc: Global,
-        request: &Request<'_>,
+        request: &'r Request<'_>,
         index: usize,
-    ) -> Result<(ScanOptions, usize), ReadingFault> {
+    ) -> Result<(ScanOptions<'r>, usize), ReadingFault> {
         let word = request.word(index);
         if is_word(word, b"match") {
-            let pattern = Some(own_copy(alloc, request, index)?);
+            let pattern = Some(own_word(request, index)?);
             return Ok((ScanOptions { pattern, ..self }, 1));
         }
         if is_word(word, b"count") {
@@ -89,20 +85,19 @@ impl Options for ScanOptions {
             return Ok((ScanOptions { count, ..self }, 1));
         }
         if is_word(word, b"type") {
-            let type_name = Some(own_copy(alloc, request, index)?);
+            let type_name = Some(own_word(request, index)?);
             return Ok((ScanOptions { type_name, ..self }, 1));
         }
         Err(ReadingFault::Refused(Refusal::Syntax))
     }
 }
 
-impl Options for () {
+impl<'r> Options<'r> for () {
     ghost named = { flush_options };
 
     fn with_option(
         self,
-        _alloc: Global,
-        request: &Request<'_>,
+        request: &'r Request<'_>,
         index: usize,
     ) -> Result<((), usize), ReadingFault> {
         let word = request.word(index);
@@ -136,7 +131,7 @@ pub fn no_copy_options() -> CopyOptions
 }
 
 /// None of the options of SCAN: ten keys are to be met.
-pub fn no_scan_options() -> ScanOptions
+pub fn no_scan_options<'r>() -> ScanOptions<'r>
     ensures { result ≡ no_scan_options }
 {
     ScanOptions {

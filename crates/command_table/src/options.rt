@@ -6,21 +6,19 @@ ghost use Rattle.plain_model.specs.Shapes.{Plain, Span, Database, Count, NamedOp
 ghost use Rattle.command_table.specs.Readings.{Tells, at, own_word};
 
 use crate::ReadingFault;
-use crate::words::{copied, count, database, span};
-use plain_model::{Bytes, Refusal};
+use crate::words::{count, database, plain, span};
+use plain_model::{Refusal, Word};
 use resp_frames::Request;
-use std::alloc::Global;
 
 /// What the options of a command say, so far as they are read.
-pub trait Options: Drop {
+pub trait Options<'r>: Drop {
     /// The options.
     ghost named: { List (NamedOption Self) };
 
     /// Reads the option at a place: what they say with it, and how many words behind it are its own.
     fn with_option(
         self,
-        alloc: Global,
-        request: &Request<'_>,
+        request: &'r Request<'_>,
         index: usize,
     ) -> Result<(Self, usize), ReadingFault>
         requires { index < length request.now }
@@ -28,10 +26,9 @@ pub trait Options: Drop {
 }
 
 /// Reads the options from a place on.
-pub fn read_options<O: Options>(
-    alloc: Global,
+pub fn read_options<'r, O: Options<'r>>(
+    request: &'r Request<'_>,
     none: O,
-    request: &Request<'_>,
     from: usize,
 ) -> Result<O, ReadingFault>
     requires { from ≤ length request.now }
@@ -40,7 +37,7 @@ pub fn read_options<O: Options>(
     let mut options = none;
     let mut index = from;
     while index < request.len() {
-        let (next, own) = options.with_option(alloc, request, index)?;
+        let (next, own) = options.with_option(request, index)?;
         options = next;
         index = index + 1 + own;
     }
@@ -80,13 +77,13 @@ pub fn own_count(request: &Request<'_>, index: usize) -> Result<u64, ReadingFaul
     count(request, index + 1)
 }
 
-/// A copy of the one word of the option at a place.
-pub fn own_copy(alloc: Global, request: &Request<'_>, index: usize) -> Result<Bytes, ReadingFault>
+/// The one word of the option at a place.
+pub fn own_word<'r>(request: &'r Request<'_>, index: usize) -> Result<Word<'r>, ReadingFault>
     requires { index < length request.now }
     ensures { Tells (own_word Plain (drop (index + 1) request.now)) result }
 {
     if request.len() - index < 2 {
         return Err(ReadingFault::Refused(Refusal::Syntax));
     }
-    copied(alloc, request, index + 1)
+    Ok(plain(request, index + 1))
 }

@@ -1,9 +1,9 @@
 //! A request as a command.
 
-ghost use Rattle.std.specs.Prelude.{◌≡◌, ◌<◌, ◌∷◌, length, drop, IfOk, true};
+ghost use Rattle.std.specs.Prelude.{◌<◌, ◌∷◌, length, drop, IfOk};
 ghost use Rattle.plain_model.specs.Meant.{meant, IsAsked};
-ghost use Rattle.command_table.specs.Readings.{ReadsCommand};
-ghost use Rattle.command_table.specs.Rows.{fits, row_of};
+ghost use Rattle.command_table.specs.Readings.{ReadsAs, ReadsCommand};
+ghost use Rattle.command_table.specs.Rows.{name_of};
 
 use crate::ReadingFault;
 use crate::connection::read_connection;
@@ -14,36 +14,34 @@ use plain_model::{Command, Refusal};
 use resp_frames::Request;
 use std::alloc::Global;
 
-// Turns the words behind a known name into its command. They are as many as its row takes.
-fn read_named(alloc: Global, name: Name, request: &Request<'_>) -> Result<Command, ReadingFault>
-    requires some { 0 < length request.now }
-    requires shape { fits (row_of name).1 (length (drop 1 request.now)) ≡ true }
-    ensures { ReadsCommand ((row_of name).0 ∷ drop 1 request.now) result }
+// Turns the words behind a known name into its command.
+#[tactic(auto, using(crate::proofs::Arms::of_family))]
+fn read_named<'r>(
+    alloc: Global,
+    name: Name,
+    request: &'r Request<'_>,
+) -> Result<Command<'r>, ReadingFault>
+    requires { 0 < length request.now }
+    ensures { ReadsAs (λ command. command) (meant (name_of name ∷ drop 1 request.now)) result }
 {
     match name {
         Name::Strings(name) => read_string(alloc, name, request).map(Command::Strings),
         Name::Keys(name) => read_key(alloc, name, request).map(Command::Keys),
-        Name::Connection(name) => { read_connection(alloc, name, request).map(Command::Connection) }
+        Name::Connection(name) => read_connection(name, request).map(Command::Connection),
     }
 }
 
 /// Reads a request: the command that its words mean, or why they are refused. First the name is looked up, then the
-/// number of words is looked at, and then they are read from left to right.
+/// number of words is looked at, and then they are read from left to right. The command lends its words from the request.
 ///
-/// `Memory` where there is none for the words that the command keeps.
-pub fn read(alloc: Global, request: &Request<'_>) -> Result<Command, ReadingFault>
+/// `Memory` where there is none for a list of words, in a command that has one.
+pub fn read<'r>(alloc: Global, request: &'r Request<'_>) -> Result<Command<'r>, ReadingFault>
     ensures reads { ReadsCommand request.now result }
     ensures asked { IfOk result (λ command. IsAsked command) }
 {
-    let behind = request.len() - 1;
+    prove!(request.len() > 0);
     match find(request.word(0)) {
         None => Err(ReadingFault::Refused(Refusal::UnknownCommand)),
-        Some((name, shape)) => {
-            if shape.fits(behind) {
-                read_named(alloc, name, request)
-            } else {
-                Err(ReadingFault::Refused(Refusal::WrongNumberOfArguments))
-            }
-        }
+        Some(name) => read_named(alloc, name, request),
     }
 }

@@ -1,36 +1,35 @@
-//! The words of commands on strings, by the shape that they are known to have.
+//! The words of commands on strings.
 
-ghost use Rattle.std.specs.Prelude.{◌≡◌, ◌<◌, [], ◌∷◌, length, drop, true, ◌==◌, ◌||◌, ◌+◌, nat_le};
+ghost use Rattle.std.specs.Prelude.{◌≡◌, ◌<◌, [], ◌∷◌, length, drop, ◌==◌, ◌||◌, ◌+◌, nat_le};
 ghost use Rattle.plain_model.specs.Meant.{meant};
-ghost use Rattle.plain_model.specs.Shapes.{Plain, Whole, Offset, and_then, options_read};
+ghost use Rattle.plain_model.specs.Shapes.{Plain, Whole, Offset, fixed, with_options};
 ghost use Rattle.plain_model.specs.StringWords.{set_options, no_set_options, set_of, getex_options, no_getex_options, getex_of, set_range_of, decrease_of};
 ghost use Rattle.plain_world.specs.Words.{longest};
 ghost use Rattle.plain_model.specs.declared.command.Command.TheVariants as commands;
-ghost use Rattle.command_table.specs.Readings.{Tells, TellsAs, at, told_at};
-ghost use Rattle.command_table.specs.Rows.{fits, string_row};
+ghost use Rattle.command_table.specs.Readings.{Tells, ReadsAs};
+ghost use Rattle.command_table.specs.Rows.{string_name};
 
 use crate::ReadingFault;
-use crate::options::read_options;
+use crate::kinds::{
+    WRONG_NUMBER, one, one_and_number, one_and_numbers, one_and_options, one_span_one, pairs, two,
+    two_and_options, words,
+};
 use crate::table::StringName;
 use crate::times::{condition, no_getex_options, no_set_options};
-use crate::words::{
-    copied, key_and_number, key_and_numbers, key_and_value, key_span_and_value, number, offset,
-    pairs, words,
-};
+use crate::words::{offset, plain};
 use plain_model::{LONGEST, Refusal, SetOptions, StringCommand};
 use resp_frames::Request;
 use std::alloc::Global;
 
 // SET: a key, a value and options.
-fn set(alloc: Global, request: &Request<'_>) -> Result<StringCommand, ReadingFault>
-    requires { 2 < length request.now }
-    ensures { Tells (and_then (options_read set_options no_set_options 0 (drop 3 request.now)) (set_of (at request.now 1) (at request.now 2))) result }
+fn set<'r>(request: &'r Request<'_>) -> Result<StringCommand<'r>, ReadingFault>
+    requires { 0 < length request.now }
+    ensures { Tells (with_options (Plain ∷ Plain ∷ []) set_options no_set_options (λ a c. set_of a.0 a.1.0 c) (drop 1 request.now)) result }
 {
-    let options = read_options(alloc, no_set_options(), request, 3)?;
+    let (key, value, options) = two_and_options(request, no_set_options())?;
     if options.nx && options.xx || options.twice {
         return Err(ReadingFault::Refused(Refusal::Syntax));
     }
-    let (key, value) = key_and_value(alloc, request)?;
     Ok(StringCommand::Set(
         key,
         value,
@@ -43,15 +42,14 @@ fn set(alloc: Global, request: &Request<'_>) -> Result<StringCommand, ReadingFau
 }
 
 // GETEX: a key and options.
-fn get_ex(alloc: Global, request: &Request<'_>) -> Result<StringCommand, ReadingFault>
-    requires { 1 < length request.now }
-    ensures { Tells (and_then (options_read getex_options no_getex_options 0 (drop 2 request.now)) (getex_of (at request.now 1))) result }
+fn get_ex<'r>(request: &'r Request<'_>) -> Result<StringCommand<'r>, ReadingFault>
+    requires { 0 < length request.now }
+    ensures { Tells (with_options (Plain ∷ []) getex_options no_getex_options (λ a c. getex_of a.0 c) (drop 1 request.now)) result }
 {
-    let options = read_options(alloc, no_getex_options(), request, 2)?;
+    let (key, options) = one_and_options(request, no_getex_options())?;
     if options.twice {
         return Err(ReadingFault::Refused(Refusal::Syntax));
     }
-    let key = copied(alloc, request, 1)?;
     Ok(StringCommand::GetEx(key, options.renewal))
 }
 
@@ -63,78 +61,71 @@ fn ends_within(at: u64, piece: &[u8]) -> bool
 }
 
 // SETRANGE: a key, a place and a piece.
-fn set_range(alloc: Global, request: &Request<'_>) -> Result<StringCommand, ReadingFault>
-    requires { 3 < length request.now }
-    ensures { Tells (and_then (told_at (Plain ∷ Offset ∷ Plain ∷ []) request.now 1) (λ a. set_range_of a.0 a.1.0 a.1.1.0)) result }
+fn set_range<'r>(request: &'r Request<'_>) -> Result<StringCommand<'r>, ReadingFault>
+    requires { 0 < length request.now }
+    ensures { Tells (fixed (Plain ∷ Offset ∷ Plain ∷ []) (λ a. set_range_of a.0 a.1.0 a.1.1.0) (drop 1 request.now)) result }
 {
+    if request.len() != 4 {
+        return Err(WRONG_NUMBER);
+    }
     let at = offset(request, 2)?;
     if !ends_within(at, request.word(3)) {
         return Err(ReadingFault::Refused(Refusal::ValueOutOfRange));
     }
-    let key = copied(alloc, request, 1)?;
-    let piece = copied(alloc, request, 3)?;
-    Ok(StringCommand::SetRange(key, at, piece))
+    Ok(StringCommand::SetRange(
+        plain(request, 1),
+        at,
+        plain(request, 3),
+    ))
 }
 
 // DECRBY: a key and a number that has an opposite one.
-fn decrease(alloc: Global, request: &Request<'_>) -> Result<StringCommand, ReadingFault>
-    requires { 2 < length request.now }
-    ensures { Tells (and_then (told_at (Plain ∷ Whole ∷ []) request.now 1) (λ a. decrease_of a.0 a.1.0)) result }
+fn decrease<'r>(request: &'r Request<'_>) -> Result<StringCommand<'r>, ReadingFault>
+    requires { 0 < length request.now }
+    ensures { Tells (fixed (Plain ∷ Whole ∷ []) (λ a. decrease_of a.0 a.1.0) (drop 1 request.now)) result }
 {
-    let n = number(request, 2)?;
+    let (key, n) = one_and_number(request)?;
     if n == i64::MIN {
         return Err(ReadingFault::Refused(Refusal::Overflow));
     }
-    let key = copied(alloc, request, 1)?;
     Ok(StringCommand::DecrBy(key, n))
 }
 
-/// Turns the words of a string command into it. They are as many as its row takes.
-pub fn read_string(
+/// Turns the words behind the name of a string command into it.
+#[tactic(auto, using(crate::proofs::Arms::fixed_made, crate::proofs::Arms::gathered, crate::proofs::Arms::lifted))]
+pub fn read_string<'r>(
     alloc: Global,
     name: StringName,
-    request: &Request<'_>,
-) -> Result<StringCommand, ReadingFault>
-    requires { fits (string_row name).1 (length (drop 1 request.now)) ≡ true }
-    ensures { TellsAs commands.Strings (meant ((string_row name).0 ∷ drop 1 request.now)) result }
+    request: &'r Request<'_>,
+) -> Result<StringCommand<'r>, ReadingFault>
+    requires { 0 < length request.now }
+    ensures { ReadsAs commands.Strings (meant (string_name name ∷ drop 1 request.now)) result }
 {
     match name {
-        StringName::Get => copied(alloc, request, 1).map(StringCommand::Get),
-        StringName::Set => set(alloc, request),
-        StringName::SetNx => {
-            key_and_value(alloc, request).map(|(key, value)| StringCommand::SetNx(key, value))
+        StringName::Get => one(request).map(StringCommand::Get),
+        StringName::Set => set(request),
+        StringName::SetNx => two(request).map(|(key, value)| StringCommand::SetNx(key, value)),
+        StringName::SetEx => {
+            one_span_one(request).map(|(key, n, value)| StringCommand::SetEx(key, n, value))
         }
-        StringName::SetEx => key_span_and_value(alloc, request).map(|(
-            key,
-            n,
-            value,
-        )| StringCommand::SetEx(key, n, value)),
-        StringName::PSetEx => key_span_and_value(alloc, request).map(|(
-            key,
-            n,
-            value,
-        )| StringCommand::PSetEx(key, n, value)),
-        StringName::GetSet => {
-            key_and_value(alloc, request).map(|(key, value)| StringCommand::GetSet(key, value))
+        StringName::PSetEx => {
+            one_span_one(request).map(|(key, n, value)| StringCommand::PSetEx(key, n, value))
         }
-        StringName::GetDel => copied(alloc, request, 1).map(StringCommand::GetDel),
-        StringName::GetEx => get_ex(alloc, request),
-        StringName::MGet => words(alloc, request, 1).map(StringCommand::MGet),
-        StringName::MSet => pairs(alloc, request, 1).map(StringCommand::MSet),
-        StringName::MSetNx => pairs(alloc, request, 1).map(StringCommand::MSetNx),
-        StringName::Append => {
-            key_and_value(alloc, request).map(|(key, tail)| StringCommand::Append(key, tail))
-        }
-        StringName::StrLen => copied(alloc, request, 1).map(StringCommand::StrLen),
+        StringName::GetSet => two(request).map(|(key, value)| StringCommand::GetSet(key, value)),
+        StringName::GetDel => one(request).map(StringCommand::GetDel),
+        StringName::GetEx => get_ex(request),
+        StringName::MGet => words(alloc, request).map(StringCommand::MGet),
+        StringName::MSet => pairs(alloc, request).map(StringCommand::MSet),
+        StringName::MSetNx => pairs(alloc, request).map(StringCommand::MSetNx),
+        StringName::Append => two(request).map(|(key, tail)| StringCommand::Append(key, tail)),
+        StringName::StrLen => one(request).map(StringCommand::StrLen),
         StringName::GetRange => {
-            key_and_numbers(alloc, request).map(|(key, a, b)| StringCommand::GetRange(key, a, b))
+            one_and_numbers(request).map(|(key, a, b)| StringCommand::GetRange(key, a, b))
         }
-        StringName::SetRange => set_range(alloc, request),
-        StringName::Incr => copied(alloc, request, 1).map(StringCommand::Incr),
-        StringName::Decr => copied(alloc, request, 1).map(StringCommand::Decr),
-        StringName::IncrBy => {
-            key_and_number(alloc, request).map(|(key, n)| StringCommand::IncrBy(key, n))
-        }
-        StringName::DecrBy => decrease(alloc, request),
+        StringName::SetRange => set_range(request),
+        StringName::Incr => one(request).map(StringCommand::Incr),
+        StringName::Decr => one(request).map(StringCommand::Decr),
+        StringName::IncrBy => one_and_number(request).map(|(key, n)| StringCommand::IncrBy(key, n)),
+        StringName::DecrBy => decrease(request),
     }
 }

@@ -14,7 +14,6 @@ use plain_model::{
     TimeUnit,
 };
 use resp_frames::Request;
-use std::alloc::Global;
 
 /// An option of SET.
 #[derive(Clone, Copy)]
@@ -122,13 +121,12 @@ fn renewed(options: GetExOptionsRead, renewal: Renewal) -> GetExOptionsRead
     }
 }
 
-impl Options for SetOptionsRead {
+impl<'r> Options<'r> for SetOptionsRead {
     ghost named = { set_options };
 
     fn with_option(
         self,
-        _alloc: Global,
-        request: &Request<'_>,
+        request: &'r Request<'_>,
         index: usize,
     ) -> Result<(SetOptionsRead, usize), ReadingFault> {
         match set_option(request.word(index)) {
@@ -145,13 +143,12 @@ impl Options for SetOptionsRead {
     }
 }
 
-impl Options for GetExOptionsRead {
+impl<'r> Options<'r> for GetExOptionsRead {
     ghost named = { getex_options };
 
     fn with_option(
         self,
-        _alloc: Global,
-        request: &Request<'_>,
+        request: &'r Request<'_>,
         index: usize,
     ) -> Result<(GetExOptionsRead, usize), ReadingFault> {
         match getex_option(request.word(index)) {

@@ -1,16 +1,14 @@
 //! Words of a request, one by one.
 
-ghost use Rattle.std.specs.Prelude.{◌≡◌, ◌<◌, ◌≤◌, [], ◌∷◌, length, drop, bytes_eq, Ok};
+ghost use Rattle.std.specs.Prelude.{◌≡◌, ◌<◌, length, bytes_eq};
 ghost use Rattle.plain_world.specs.Words.{in_lower_case};
-ghost use Rattle.plain_model.specs.Shapes.{Plain, Whole, Offset, Span, Database, Count, Steps, Cursor, told};
-ghost use Rattle.plain_model.specs.StringWords.{pairs_of};
-ghost use Rattle.command_table.specs.Readings.{Tells, TellsAs, at, told_at};
+ghost use Rattle.plain_model.specs.Shapes.{Whole, Offset, Span, Database, Count, Steps, Cursor, told};
+ghost use Rattle.command_table.specs.Readings.{Tells, at};
 
 use crate::ReadingFault;
 use int_text::{read_i64, read_u64};
-use plain_model::{Bytes, PairList, Refusal, WordList};
+use plain_model::{Refusal, Word};
 use resp_frames::Request;
-use std::alloc::Global;
 
 /// Whether a word is this name, whatever the case of either.
 pub fn is_word(word: &[u8], name: &[u8]) -> bool
@@ -19,15 +17,12 @@ pub fn is_word(word: &[u8], name: &[u8]) -> bool
     word.len() == name.len() && word.eq_ignore_ascii_case(name)
 }
 
-/// A copy of a word.
-pub fn copied(alloc: Global, request: &Request<'_>, index: usize) -> Result<Bytes, ReadingFault>
+/// A word as it stands.
+pub fn plain<'r>(request: &'r Request<'_>, index: usize) -> Word<'r>
     requires { index < length request.now }
-    ensures { Tells (Ok (at request.now index)) result }
+    ensures { result ≡ at request.now index }
 {
-    match Bytes::new(alloc, request.word(index)) {
-        Ok(bytes) => Ok(bytes),
-        Err(_) => Err(ReadingFault::Memory),
-    }
+    Word::new(request.word(index))
 }
 
 /// A word as a whole number of 64 bits with a sign.
@@ -110,97 +105,4 @@ pub fn cursor(request: &Request<'_>, index: usize) -> Result<u64, ReadingFault>
         Some(cursor) => Ok(cursor),
         None => Err(ReadingFault::Refused(Refusal::InvalidCursor)),
     }
-}
-
-/// A key and a value.
-pub fn key_and_value(alloc: Global, request: &Request<'_>) -> Result<(Bytes, Bytes), ReadingFault>
-    requires { 2 < length request.now }
-    ensures { TellsAs (λ a. (a.0, (a.1, tt))) (told_at (Plain ∷ Plain ∷ []) request.now 1) result }
-{
-    let key = copied(alloc, request, 1)?;
-    let value = copied(alloc, request, 2)?;
-    Ok((key, value))
-}
-
-/// A key and a number.
-pub fn key_and_number(alloc: Global, request: &Request<'_>) -> Result<(Bytes, i64), ReadingFault>
-    requires { 2 < length request.now }
-    ensures { TellsAs (λ a. (a.0, (a.1, tt))) (told_at (Plain ∷ Whole ∷ []) request.now 1) result }
-{
-    let n = number(request, 2)?;
-    let key = copied(alloc, request, 1)?;
-    Ok((key, n))
-}
-
-/// A key, a time above 0 and a value.
-pub fn key_span_and_value(
-    alloc: Global,
-    request: &Request<'_>,
-) -> Result<(Bytes, i64, Bytes), ReadingFault>
-    requires { 3 < length request.now }
-    ensures { TellsAs (λ a. (a.0, (a.1, (a.2, tt)))) (told_at (Plain ∷ Span ∷ Plain ∷ []) request.now 1) result }
-{
-    let n = span(request, 2)?;
-    let key = copied(alloc, request, 1)?;
-    let value = copied(alloc, request, 3)?;
-    Ok((key, n, value))
-}
-
-/// A key and a database.
-pub fn key_and_database(
-    alloc: Global,
-    request: &Request<'_>,
-) -> Result<(Bytes, usize), ReadingFault>
-    requires { 2 < length request.now }
-    ensures { TellsAs (λ a. (a.0, (a.1, tt))) (told_at (Plain ∷ Database ∷ []) request.now 1) result }
-{
-    let db = database(request, 2)?;
-    let key = copied(alloc, request, 1)?;
-    Ok((key, db))
-}
-
-/// A key and two numbers.
-pub fn key_and_numbers(
-    alloc: Global,
-    request: &Request<'_>,
-) -> Result<(Bytes, i64, i64), ReadingFault>
-    requires { 3 < length request.now }
-    ensures { TellsAs (λ a. (a.0, (a.1, (a.2, tt)))) (told_at (Plain ∷ Whole ∷ Whole ∷ []) request.now 1) result }
-{
-    let a = number(request, 2)?;
-    let b = number(request, 3)?;
-    let key = copied(alloc, request, 1)?;
-    Ok((key, a, b))
-}
-
-/// The words from this place on.
-pub fn words(alloc: Global, request: &Request<'_>, from: usize) -> Result<WordList, ReadingFault>
-    requires { from ≤ length request.now }
-    ensures { Tells (Ok (drop from request.now)) result }
-{
-    let mut list = WordList::new(alloc);
-    for index in from..request.len() {
-        let word = copied(alloc, request, index)?;
-        if list.push(word).is_err() {
-            return Err(ReadingFault::Memory);
-        }
-    }
-    Ok(list)
-}
-
-/// The words from this place on, which are even, in pairs.
-pub fn pairs(alloc: Global, request: &Request<'_>, from: usize) -> Result<PairList, ReadingFault>
-    requires { from ≤ length request.now }
-    ensures { Tells (Ok (pairs_of (drop from request.now))) result }
-{
-    let mut list = PairList::new(alloc);
-    let count = (request.len() - from) / 2;
-    for index in 0..count {
-        let first = copied(alloc, request, from + 2 * index)?;
-        let second = copied(alloc, request, from + 2 * index + 1)?;
-        if list.push(first, second).is_err() {
-            return Err(ReadingFault::Memory);
-        }
-    }
-    Ok(list)
 }

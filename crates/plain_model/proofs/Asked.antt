@@ -6,10 +6,10 @@ use Rattle.std.specs.Str.Parse.{digits_value}
 use Rattle.std.proofs.lemmas.Bool.Decides.{Decides-eqb}
 use Rattle.std.proofs.lemmas.Bool.{leb-true, ltb-true}
 use Rattle.plain_world.specs.Words.{Words, longest, in_lower_case}
-use Rattle.plain_model.specs.Shapes.{Kind, Plain, Whole, Offset, Span, Database, Count, Steps, Cursor, Told, told, AllTold, and_then, whole, span, database, count, steps, are_digits, cursor, all_told, Row, fixed, repeated, NamedOption, option_of, read_option, options_read, with_options}
+use Rattle.plain_model.specs.Shapes.{Kind, Plain, Whole, Offset, Span, Database, Count, Steps, Cursor, Told, told, AllTold, and_then, whole, span, database, count, steps, are_digits, cursor, all_told, Row, fixed, second_read, by_second, repeated, NamedOption, option_of, read_option, options_read, with_options}
 use Rattle.plain_model.specs.StringWords.{set_options, no_set_options, getex_options, no_getex_options, pairs_of, string_rows, set_of, getex_of, set_range_of, decrease_of}
-use Rattle.plain_model.specs.KeyWords.{expire_options, no_expire_options, expire_of, clash, copy_options, no_copy_options, scan_options, no_scan_options, object_of, key_rows}
-use Rattle.plain_model.specs.ConnectionWords.{ping_words, flush_options, memory_of, debug_of, connection_rows}
+use Rattle.plain_model.specs.KeyWords.{expire_options, no_expire_options, expire_of, clash, copy_options, no_copy_options, scan_options, no_scan_options, object_rows, key_rows}
+use Rattle.plain_model.specs.ConnectionWords.{ping_words, flush_options, memory_rows, debug_rows, connection_rows}
 use Rattle.std.specs.Prelude.{neg_ℤ}
 use Rattle.int_text.specs.Decimal.{is_i64, number_of}
 use Rattle.plain_model.specs.Meant.{of_family, rows, read_by, meant}
@@ -176,6 +176,15 @@ module _ {B : Type 0} (P : B → Type 0) where
   fixed_fits kinds make h words c e =
       if_has P (length words == length kinds) (and_then (all_told kinds words) make) (Err WrongNumberOfArguments) (then_told P (all_told kinds words) make (λ a is. h a (all_told_keep kinds words a is))) (never P WrongNumberOfArguments) c e
 
+  -- what rows of second words make has the property, if what each of them makes has it
+  second_fits : (rows : List (Row B)) → AllByRecursion (λ row. RowKeeps row.read) rows → (second : List ℕ) (words : Words) (c : B) → second_read rows second words ≡ Ok c → P c
+  second_fits [] h second words c e = cc
+  second_fits (row ∷ rows) h second words c e = if_has P (bytes_eq (in_lower_case second) row.name) (row.read words) (second_read rows second words) (h.0 words) (second_fits rows h.1 second words) c e
+
+  by_second_fits : (least : ℕ) (rows : List (Row B)) → AllByRecursion (λ row. RowKeeps row.read) rows → RowKeeps (by_second least rows)
+  by_second_fits least rows h [] c e = cc
+  by_second_fits least rows h (second ∷ words) c e = if_has P (nat_le least (length (second ∷ words))) (second_read rows second words) (Err WrongNumberOfArguments) (second_fits rows h second words) (never P WrongNumberOfArguments) c e
+
   -- what a row with repeated groups of words makes has the property, if all that is made of any words has it
   repeated_fits : (kinds : List Kind) (size : ℕ) (make : AllTold kinds → Words → Result B Refusal) → ((a : AllTold kinds) (rest : Words) (c : B) → make a rest ≡ Ok c → P c) → RowKeeps (repeated kinds size make)
   repeated_fits kinds size make h words c e =
@@ -286,17 +295,6 @@ ping_fits [] c e = made FitsConnection (connection.Ping None) c tt e
 ping_fits (text ∷ []) c e = made FitsConnection (connection.Ping (Some text)) c tt e
 ping_fits (text ∷ more ∷ words) c e = cc
 
--- a DEBUG that is made of words asks for 1,000,000 steps at most
-debug_fits : (second n : List ℕ) (c : ConnectionCommand) → debug_of second n ≡ Ok c → FitsConnection c
-debug_fits second n c e =
-    let rehash : ℕ → Result ConnectionCommand Refusal = λ k. Ok (connection.DebugRehash k) in
-    let defrag : ℕ → Result ConnectionCommand Refusal = λ k. Ok (connection.DebugDefrag k) in
-    let others : Result ConnectionCommand Refusal = if bytes_eq (in_lower_case second) (codes "defrag") then and_then (told Steps n) defrag else Err Syntax in
-    if_has FitsConnection (bytes_eq (in_lower_case second) (codes "rehash")) (and_then (told Steps n) rehash) others
-    (then_told FitsConnection (told Steps n) rehash (λ k is b. made FitsConnection (connection.DebugRehash k) b (told_keeps Steps n k is)))
-    (if_has FitsConnection (bytes_eq (in_lower_case second) (codes "defrag")) (and_then (told Steps n) defrag) (Err Syntax)
-    (then_told FitsConnection (told Steps n) defrag (λ k is b. made FitsConnection (connection.DebugDefrag k) b (told_keeps Steps n k is))) (never FitsConnection Syntax)) c e
-
 -- whatever a row makes of words has the property
 abbrev pub RowFits : {A : Type 0} → (A → Type 0) → Row A → Type 0
 RowFits {A} P row = (words : Words) (c : A) → row.read words ≡ Ok c → P c
@@ -307,11 +305,11 @@ string_rows_fit = (fixed_fits Fits (Plain ∷ []) (λ a. Ok (strings.Get a.0)) (
 
 -- the rows of commands on keys make only commands whose databases, counts and cursors are in range
 key_rows_fit : AllByRecursion (RowFits FitsKeys) key_rows
-key_rows_fit = (repeated_fits FitsKeys [] 1 (λ a words. Ok (keys.Del words)) (λ a words c. made FitsKeys (keys.Del words) c tt), (repeated_fits FitsKeys [] 1 (λ a words. Ok (keys.Unlink words)) (λ a words c. made FitsKeys (keys.Unlink words) c tt), (repeated_fits FitsKeys [] 1 (λ a words. Ok (keys.Exists words)) (λ a words c. made FitsKeys (keys.Exists words) c tt), (repeated_fits FitsKeys [] 1 (λ a words. Ok (keys.Touch words)) (λ a words c. made FitsKeys (keys.Touch words) c tt), (fixed_fits FitsKeys (Plain ∷ []) (λ a. Ok (keys.TypeOf a.0)) (λ a keeps c. made FitsKeys (keys.TypeOf a.0) c tt), (with_options_fits FitsKeys (Plain ∷ Whole ∷ []) expire_options no_expire_options (λ a o. expire_of keys.Expire a.0 a.1.0 o) (λ o. Unit {0}) (expire_options_keep, tt) (λ a keeps o long c. if_has FitsKeys (clash o) (Err Syntax) (Ok (keys.Expire a.0 a.1.0 o)) (never FitsKeys Syntax) (λ b. made FitsKeys (keys.Expire a.0 a.1.0 o) b tt) c), (with_options_fits FitsKeys (Plain ∷ Whole ∷ []) expire_options no_expire_options (λ a o. expire_of keys.PExpire a.0 a.1.0 o) (λ o. Unit {0}) (expire_options_keep, tt) (λ a keeps o long c. if_has FitsKeys (clash o) (Err Syntax) (Ok (keys.PExpire a.0 a.1.0 o)) (never FitsKeys Syntax) (λ b. made FitsKeys (keys.PExpire a.0 a.1.0 o) b tt) c), (with_options_fits FitsKeys (Plain ∷ Whole ∷ []) expire_options no_expire_options (λ a o. expire_of keys.ExpireAt a.0 a.1.0 o) (λ o. Unit {0}) (expire_options_keep, tt) (λ a keeps o long c. if_has FitsKeys (clash o) (Err Syntax) (Ok (keys.ExpireAt a.0 a.1.0 o)) (never FitsKeys Syntax) (λ b. made FitsKeys (keys.ExpireAt a.0 a.1.0 o) b tt) c), (with_options_fits FitsKeys (Plain ∷ Whole ∷ []) expire_options no_expire_options (λ a o. expire_of keys.PExpireAt a.0 a.1.0 o) (λ o. Unit {0}) (expire_options_keep, tt) (λ a keeps o long c. if_has FitsKeys (clash o) (Err Syntax) (Ok (keys.PExpireAt a.0 a.1.0 o)) (never FitsKeys Syntax) (λ b. made FitsKeys (keys.PExpireAt a.0 a.1.0 o) b tt) c), (fixed_fits FitsKeys (Plain ∷ []) (λ a. Ok (keys.Ttl a.0)) (λ a keeps c. made FitsKeys (keys.Ttl a.0) c tt), (fixed_fits FitsKeys (Plain ∷ []) (λ a. Ok (keys.PTtl a.0)) (λ a keeps c. made FitsKeys (keys.PTtl a.0) c tt), (fixed_fits FitsKeys (Plain ∷ []) (λ a. Ok (keys.ExpireTime a.0)) (λ a keeps c. made FitsKeys (keys.ExpireTime a.0) c tt), (fixed_fits FitsKeys (Plain ∷ []) (λ a. Ok (keys.PExpireTime a.0)) (λ a keeps c. made FitsKeys (keys.PExpireTime a.0) c tt), (fixed_fits FitsKeys (Plain ∷ []) (λ a. Ok (keys.Persist a.0)) (λ a keeps c. made FitsKeys (keys.Persist a.0) c tt), (fixed_fits FitsKeys (Plain ∷ Plain ∷ []) (λ a. Ok (keys.Rename a.0 a.1.0)) (λ a keeps c. made FitsKeys (keys.Rename a.0 a.1.0) c tt), (fixed_fits FitsKeys (Plain ∷ Plain ∷ []) (λ a. Ok (keys.RenameNx a.0 a.1.0)) (λ a keeps c. made FitsKeys (keys.RenameNx a.0 a.1.0) c tt), (with_options_fits FitsKeys (Plain ∷ Plain ∷ []) copy_options no_copy_options (λ a o. Ok (keys.Copy a.0 a.1.0 o)) (λ o. IsOneOf16 o.db) (copy_options_keep, tt) (λ a keeps o within c. made FitsKeys (keys.Copy a.0 a.1.0 o) c within), (fixed_fits FitsKeys (Plain ∷ Database ∷ []) (λ a. Ok (keys.MoveKey a.0 a.1.0)) (λ a keeps c. made FitsKeys (keys.MoveKey a.0 a.1.0) c keeps.1.0), (fixed_fits FitsKeys [] (λ a. Ok keys.RandomKey) (λ a keeps c. made FitsKeys keys.RandomKey c tt), (fixed_fits FitsKeys (Plain ∷ Plain ∷ []) (λ a. object_of a.0 a.1.0) (λ a keeps c. if_has FitsKeys (bytes_eq (in_lower_case a.0) (codes "encoding")) (Ok (keys.ObjectEncoding a.1.0)) (Err Syntax) (λ b. made FitsKeys (keys.ObjectEncoding a.1.0) b tt) (never FitsKeys Syntax) c), (fixed_fits FitsKeys (Plain ∷ []) (λ a. Ok (keys.KeysLike a.0)) (λ a keeps c. made FitsKeys (keys.KeysLike a.0) c tt), (with_options_fits FitsKeys (Cursor ∷ []) scan_options no_scan_options (λ a o. Ok (keys.Scan a.0 o)) (λ o. 0 < o.count) (scan_options_keep, omega arith) (λ a keeps o above c. made FitsKeys (keys.Scan a.0 o) c (above, keeps.0)), tt))))))))))))))))))))))
+key_rows_fit = (repeated_fits FitsKeys [] 1 (λ a words. Ok (keys.Del words)) (λ a words c. made FitsKeys (keys.Del words) c tt), (repeated_fits FitsKeys [] 1 (λ a words. Ok (keys.Unlink words)) (λ a words c. made FitsKeys (keys.Unlink words) c tt), (repeated_fits FitsKeys [] 1 (λ a words. Ok (keys.Exists words)) (λ a words c. made FitsKeys (keys.Exists words) c tt), (repeated_fits FitsKeys [] 1 (λ a words. Ok (keys.Touch words)) (λ a words c. made FitsKeys (keys.Touch words) c tt), (fixed_fits FitsKeys (Plain ∷ []) (λ a. Ok (keys.TypeOf a.0)) (λ a keeps c. made FitsKeys (keys.TypeOf a.0) c tt), (with_options_fits FitsKeys (Plain ∷ Whole ∷ []) expire_options no_expire_options (λ a o. expire_of keys.Expire a.0 a.1.0 o) (λ o. Unit {0}) (expire_options_keep, tt) (λ a keeps o long c. if_has FitsKeys (clash o) (Err Syntax) (Ok (keys.Expire a.0 a.1.0 o)) (never FitsKeys Syntax) (λ b. made FitsKeys (keys.Expire a.0 a.1.0 o) b tt) c), (with_options_fits FitsKeys (Plain ∷ Whole ∷ []) expire_options no_expire_options (λ a o. expire_of keys.PExpire a.0 a.1.0 o) (λ o. Unit {0}) (expire_options_keep, tt) (λ a keeps o long c. if_has FitsKeys (clash o) (Err Syntax) (Ok (keys.PExpire a.0 a.1.0 o)) (never FitsKeys Syntax) (λ b. made FitsKeys (keys.PExpire a.0 a.1.0 o) b tt) c), (with_options_fits FitsKeys (Plain ∷ Whole ∷ []) expire_options no_expire_options (λ a o. expire_of keys.ExpireAt a.0 a.1.0 o) (λ o. Unit {0}) (expire_options_keep, tt) (λ a keeps o long c. if_has FitsKeys (clash o) (Err Syntax) (Ok (keys.ExpireAt a.0 a.1.0 o)) (never FitsKeys Syntax) (λ b. made FitsKeys (keys.ExpireAt a.0 a.1.0 o) b tt) c), (with_options_fits FitsKeys (Plain ∷ Whole ∷ []) expire_options no_expire_options (λ a o. expire_of keys.PExpireAt a.0 a.1.0 o) (λ o. Unit {0}) (expire_options_keep, tt) (λ a keeps o long c. if_has FitsKeys (clash o) (Err Syntax) (Ok (keys.PExpireAt a.0 a.1.0 o)) (never FitsKeys Syntax) (λ b. made FitsKeys (keys.PExpireAt a.0 a.1.0 o) b tt) c), (fixed_fits FitsKeys (Plain ∷ []) (λ a. Ok (keys.Ttl a.0)) (λ a keeps c. made FitsKeys (keys.Ttl a.0) c tt), (fixed_fits FitsKeys (Plain ∷ []) (λ a. Ok (keys.PTtl a.0)) (λ a keeps c. made FitsKeys (keys.PTtl a.0) c tt), (fixed_fits FitsKeys (Plain ∷ []) (λ a. Ok (keys.ExpireTime a.0)) (λ a keeps c. made FitsKeys (keys.ExpireTime a.0) c tt), (fixed_fits FitsKeys (Plain ∷ []) (λ a. Ok (keys.PExpireTime a.0)) (λ a keeps c. made FitsKeys (keys.PExpireTime a.0) c tt), (fixed_fits FitsKeys (Plain ∷ []) (λ a. Ok (keys.Persist a.0)) (λ a keeps c. made FitsKeys (keys.Persist a.0) c tt), (fixed_fits FitsKeys (Plain ∷ Plain ∷ []) (λ a. Ok (keys.Rename a.0 a.1.0)) (λ a keeps c. made FitsKeys (keys.Rename a.0 a.1.0) c tt), (fixed_fits FitsKeys (Plain ∷ Plain ∷ []) (λ a. Ok (keys.RenameNx a.0 a.1.0)) (λ a keeps c. made FitsKeys (keys.RenameNx a.0 a.1.0) c tt), (with_options_fits FitsKeys (Plain ∷ Plain ∷ []) copy_options no_copy_options (λ a o. Ok (keys.Copy a.0 a.1.0 o)) (λ o. IsOneOf16 o.db) (copy_options_keep, tt) (λ a keeps o within c. made FitsKeys (keys.Copy a.0 a.1.0 o) c within), (fixed_fits FitsKeys (Plain ∷ Database ∷ []) (λ a. Ok (keys.MoveKey a.0 a.1.0)) (λ a keeps c. made FitsKeys (keys.MoveKey a.0 a.1.0) c keeps.1.0), (fixed_fits FitsKeys [] (λ a. Ok keys.RandomKey) (λ a keeps c. made FitsKeys keys.RandomKey c tt), (by_second_fits FitsKeys 2 object_rows (fixed_fits FitsKeys (Plain ∷ []) (λ a. Ok (keys.ObjectEncoding a.0)) (λ a keeps c. made FitsKeys (keys.ObjectEncoding a.0) c tt), tt), (fixed_fits FitsKeys (Plain ∷ []) (λ a. Ok (keys.KeysLike a.0)) (λ a keeps c. made FitsKeys (keys.KeysLike a.0) c tt), (with_options_fits FitsKeys (Cursor ∷ []) scan_options no_scan_options (λ a o. Ok (keys.Scan a.0 o)) (λ o. 0 < o.count) (scan_options_keep, omega arith) (λ a keeps o above c. made FitsKeys (keys.Scan a.0 o) c (above, keeps.0)), tt))))))))))))))))))))))
 
 -- the rows of commands on the connection make only commands whose databases and steps are in range
 connection_rows_fit : AllByRecursion (RowFits FitsConnection) connection_rows
-connection_rows_fit = (ping_fits, (fixed_fits FitsConnection (Plain ∷ []) (λ a. Ok (connection.Echo a.0)) (λ a keeps c. made FitsConnection (connection.Echo a.0) c tt), ((λ words c. made FitsConnection connection.Quit c tt), (fixed_fits FitsConnection (Database ∷ []) (λ a. Ok (connection.Select a.0)) (λ a keeps c. made FitsConnection (connection.Select a.0) c keeps.0), (fixed_fits FitsConnection [] (λ a. Ok connection.DbSize) (λ a keeps c. made FitsConnection connection.DbSize c tt), (with_options_fits FitsConnection [] flush_options tt (λ a o. Ok connection.FlushDb) (λ o. Unit {0}) (flush_options_keep, tt) (λ a keeps o long c. made FitsConnection connection.FlushDb c tt), (with_options_fits FitsConnection [] flush_options tt (λ a o. Ok connection.FlushAll) (λ o. Unit {0}) (flush_options_keep, tt) (λ a keeps o long c. made FitsConnection connection.FlushAll c tt), (fixed_fits FitsConnection (Plain ∷ []) (λ a. memory_of a.0) (λ a keeps c. if_has FitsConnection (bytes_eq (in_lower_case a.0) (codes "slabs")) (Ok connection.MemorySlabs) (Err Syntax) (λ b. made FitsConnection connection.MemorySlabs b tt) (never FitsConnection Syntax) c), (fixed_fits FitsConnection (Plain ∷ Plain ∷ []) (λ a. debug_of a.0 a.1.0) (λ a keeps c. debug_fits a.0 a.1.0 c), tt)))))))))
+connection_rows_fit = (ping_fits, (fixed_fits FitsConnection (Plain ∷ []) (λ a. Ok (connection.Echo a.0)) (λ a keeps c. made FitsConnection (connection.Echo a.0) c tt), ((λ words c. made FitsConnection connection.Quit c tt), (fixed_fits FitsConnection (Database ∷ []) (λ a. Ok (connection.Select a.0)) (λ a keeps c. made FitsConnection (connection.Select a.0) c keeps.0), (fixed_fits FitsConnection [] (λ a. Ok connection.DbSize) (λ a keeps c. made FitsConnection connection.DbSize c tt), (with_options_fits FitsConnection [] flush_options tt (λ a o. Ok connection.FlushDb) (λ o. Unit {0}) (flush_options_keep, tt) (λ a keeps o long c. made FitsConnection connection.FlushDb c tt), (with_options_fits FitsConnection [] flush_options tt (λ a o. Ok connection.FlushAll) (λ o. Unit {0}) (flush_options_keep, tt) (λ a keeps o long c. made FitsConnection connection.FlushAll c tt), (by_second_fits FitsConnection 1 memory_rows (fixed_fits FitsConnection [] (λ a. Ok connection.MemorySlabs) (λ a keeps c. made FitsConnection connection.MemorySlabs c tt), tt), (by_second_fits FitsConnection 2 debug_rows (fixed_fits FitsConnection (Steps ∷ []) (λ a. Ok (connection.DebugRehash a.0)) (λ a keeps c. made FitsConnection (connection.DebugRehash a.0) c keeps.0), (fixed_fits FitsConnection (Steps ∷ []) (λ a. Ok (connection.DebugDefrag a.0)) (λ a keeps c. made FitsConnection (connection.DebugDefrag a.0) c keeps.0), tt)), tt)))))))))
 
 -- a family's rows and the others behind them make only commands in range, if each of both parts does
 family_fits : {A : Type 0} (family : A → Command) (P : A → Type 0) → ((a : A) → P a → FitsCommand (family a)) → (own : List (Row A)) → AllByRecursion (RowFits P) own → (others : List (Row Command)) → AllByRecursion (RowFits FitsCommand) others → AllByRecursion (RowFits FitsCommand) (map (of_family family) own ++ others)

@@ -1,12 +1,12 @@
 -- What the words of commands on the connection and the server mean (Redis command reference, "Connection management",
 -- "Server management").
-use Rattle.std.specs.Prelude.{List, [], ◌∷◌, None, Some, Result, Ok, Err, codes, ℕ, bytes_eq, if◌then◌else◌}
-use Rattle.plain_world.specs.Words.{Words, in_lower_case}
-use Rattle.plain_model.specs.Shapes.{Plain, Database, Steps, told, and_then, Row, fixed, NamedOption, with_options}
+use Rattle.std.specs.Prelude.{List, [], ◌∷◌, None, Some, Result, Ok, Err, codes}
+use Rattle.plain_world.specs.Words.{Words}
+use Rattle.plain_model.specs.Shapes.{Plain, Database, Steps, Row, fixed, by_second, NamedOption, with_options}
 use Rattle.plain_model.specs.declared.connection.ConnectionCommand.{ConnectionCommand}
 use Rattle.plain_model.specs.declared.connection.ConnectionCommand.TheVariants as connection
 use Rattle.plain_world.specs.declared.refusal.Refusal.{Refusal}
-use Rattle.plain_world.specs.declared.refusal.Refusal.TheVariants.{WrongNumberOfArguments, Syntax}
+use Rattle.plain_world.specs.declared.refusal.Refusal.TheVariants.{WrongNumberOfArguments}
 
 abbrev pub Read : Type 0
 Read = Result ConnectionCommand Refusal
@@ -25,17 +25,16 @@ flush_options = record { name = codes "async"; kinds = []; sets = λ own c. c }
 abbrev pub flush_words : ConnectionCommand → Words → Read
 flush_words command = with_options [] flush_options tt (λ a c. Ok command)
 
--- the second word of MEMORY is SLABS
-abbrev pub memory_of : List ℕ → Read
-memory_of second = if bytes_eq (in_lower_case second) (codes "slabs") then Ok connection.MemorySlabs else Err Syntax
+-- the second words of MEMORY
+abbrev pub memory_rows : List (Row ConnectionCommand)
+memory_rows = record { name = codes "slabs"; read = fixed [] (λ a. Ok connection.MemorySlabs) } ∷ []
 
--- the second word of DEBUG is REHASH or DEFRAG, and the next one a number of steps
-abbrev pub debug_of : List ℕ → List ℕ → Read
-debug_of second n =
-    if bytes_eq (in_lower_case second) (codes "rehash") then and_then (told Steps n)
-    (λ n. Ok (connection.DebugRehash n))
-    else (if bytes_eq (in_lower_case second) (codes "defrag") then and_then (told Steps n)
-    (λ n. Ok (connection.DebugDefrag n)) else Err Syntax)
+-- the second words of DEBUG, each with a number of steps behind it
+abbrev pub debug_rows : List (Row ConnectionCommand)
+debug_rows =
+    record { name = codes "rehash"; read = fixed (Steps ∷ []) (λ a. Ok (connection.DebugRehash a.0)) }
+    ∷ record { name = codes "defrag"; read = fixed (Steps ∷ []) (λ a. Ok (connection.DebugDefrag a.0)) }
+    ∷ []
 
 abbrev pub connection_rows : List (Row ConnectionCommand)
 connection_rows =
@@ -46,6 +45,6 @@ connection_rows =
     ∷ record { name = codes "dbsize"; read = fixed [] (λ a. Ok connection.DbSize) }
     ∷ record { name = codes "flushdb"; read = flush_words connection.FlushDb }
     ∷ record { name = codes "flushall"; read = flush_words connection.FlushAll }
-    ∷ record { name = codes "memory"; read = fixed (Plain ∷ []) (λ a. memory_of a.0) }
-    ∷ record { name = codes "debug"; read = fixed (Plain ∷ Plain ∷ []) (λ a. debug_of a.0 a.1.0) }
+    ∷ record { name = codes "memory"; read = by_second 1 memory_rows }
+    ∷ record { name = codes "debug"; read = by_second 2 debug_rows }
     ∷ []

@@ -1,7 +1,7 @@
 -- What the words of commands on keys mean (Redis command reference, "Generic").
-use Rattle.std.specs.Prelude.{ℕ, List, [], ◌∷◌, ℤ, None, Some, Bool, true, false, ◌&&◌, ◌||◌, Result, Ok, Err, codes, bytes_eq, if◌then◌else◌}
-use Rattle.plain_world.specs.Words.{Words, in_lower_case}
-use Rattle.plain_model.specs.Shapes.{Plain, Whole, Database, Count, Cursor, Row, fixed, repeated, NamedOption, with_options}
+use Rattle.std.specs.Prelude.{ℕ, List, [], ◌∷◌, ℤ, None, Some, Bool, true, false, ◌&&◌, ◌||◌, Result, Ok, Err, codes, if◌then◌else◌}
+use Rattle.plain_world.specs.Words.{Words}
+use Rattle.plain_model.specs.Shapes.{Plain, Whole, Database, Count, Cursor, Row, fixed, by_second, repeated, NamedOption, with_options}
 use Rattle.plain_model.specs.declared.keys.KeyCommand.{KeyCommand}
 use Rattle.plain_model.specs.declared.keys.KeyCommand.TheVariants as keys
 use Rattle.plain_model.specs.declared.keys.ExpireOptions.{ExpireOptions}
@@ -73,10 +73,9 @@ scan_options =
 abbrev pub no_scan_options : ScanOptions
 no_scan_options = record { pattern = None; count = 10; type_name = None }
 
--- the second word of OBJECT is ENCODING
-abbrev pub object_of : List ℕ → List ℕ → Read
-object_of second key =
-    if bytes_eq (in_lower_case second) (codes "encoding") then Ok (keys.ObjectEncoding key) else Err Syntax
+-- the second words of OBJECT
+abbrev pub object_rows : List (Row KeyCommand)
+object_rows = record { name = codes "encoding"; read = fixed (Plain ∷ []) (λ a. Ok (keys.ObjectEncoding a.0)) } ∷ []
 
 abbrev pub key_rows : List (Row KeyCommand)
 key_rows =
@@ -103,7 +102,7 @@ key_rows =
     }
     ∷ record { name = codes "move"; read = fixed (Plain ∷ Database ∷ []) (λ a. Ok (keys.MoveKey a.0 a.1.0)) }
     ∷ record { name = codes "randomkey"; read = fixed [] (λ a. Ok keys.RandomKey) }
-    ∷ record { name = codes "object"; read = fixed (Plain ∷ Plain ∷ []) (λ a. object_of a.0 a.1.0) }
+    ∷ record { name = codes "object"; read = by_second 2 object_rows }
     ∷ record { name = codes "keys"; read = fixed (Plain ∷ []) (λ a. Ok (keys.KeysLike a.0)) }
     ∷ record {
       name = codes "scan";

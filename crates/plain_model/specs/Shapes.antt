@@ -109,6 +109,19 @@ abbrev pub fixed : {A : Type 0} (kinds : List Kind) → (AllTold kinds → Resul
 fixed kinds make words =
     if length words == length kinds then and_then (all_told kinds words) make else Err WrongNumberOfArguments
 
+-- the row of the second word, whatever its case; a word that no row has breaks the syntax
+abbrev pub second_read : {A : Type 0} → List (Row A) → List ℕ → Words → Result A Refusal
+second_read [] second words = Err Syntax
+second_read (row ∷ rows) second words =
+    if bytes_eq (in_lower_case second) row.name then row.read words else second_read rows second words
+
+-- Rows that differ in their second word, the shortest of which has so many words with it. Fewer are a wrong number; else
+-- the row of the second word reads those behind it.
+abbrev pub by_second : {A : Type 0} → ℕ → List (Row A) → Words → Result A Refusal
+by_second least rows [] = Err WrongNumberOfArguments
+by_second least rows (second ∷ words) =
+    if nat_le least (length (second ∷ words)) then second_read rows second words else Err WrongNumberOfArguments
+
 -- a row of these words, and then one or more groups of so many words
 abbrev pub repeated : {A : Type 0} (kinds : List Kind) (size : ℕ) → (AllTold kinds → Words → Result A Refusal) → Words
     → Result A Refusal

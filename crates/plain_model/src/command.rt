@@ -1,13 +1,13 @@
-//! Commands, with their words: a family for each type of value, one for keys of any type, and one for the connection.
+//! Commands, with their words, which are lent by the request: a family for each type of value, one for keys of any type, and one for the connection.
 
-use crate::{Bytes, ConnectionCommand, KeyCommand, Lifetime, PairList, Renewal, WordList};
+use crate::{ConnectionCommand, KeyCommand, Lifetime, PairList, Renewal, Word, WordList};
 
 /// A command with its words.
 #[derive(Drop)]
-pub enum Command {
-    Strings(StringCommand),
-    Keys(KeyCommand),
-    Connection(ConnectionCommand),
+pub enum Command<'a> {
+    Strings(StringCommand<'a>),
+    Keys(KeyCommand<'a>),
+    Connection(ConnectionCommand<'a>),
 }
 
 /// When SET writes.
@@ -54,43 +54,43 @@ pub struct SetOptions {
 
 /// A command on strings.
 #[derive(Drop)]
-pub enum StringCommand {
+pub enum StringCommand<'a> {
     /// `GET key`
-    Get(Bytes),
+    Get(Word<'a>),
     /// `SET key value [NX or XX] [GET] [EX s, PX ms, EXAT s, PXAT ms or KEEPTTL]`
-    Set(Bytes, Bytes, SetOptions),
+    Set(Word<'a>, Word<'a>, SetOptions),
     /// `SETNX key value`
-    SetNx(Bytes, Bytes),
+    SetNx(Word<'a>, Word<'a>),
     /// `SETEX key s value`
-    SetEx(Bytes, i64, Bytes),
+    SetEx(Word<'a>, i64, Word<'a>),
     /// `PSETEX key ms value`
-    PSetEx(Bytes, i64, Bytes),
+    PSetEx(Word<'a>, i64, Word<'a>),
     /// `GETSET key value`
-    GetSet(Bytes, Bytes),
+    GetSet(Word<'a>, Word<'a>),
     /// `GETDEL key`
-    GetDel(Bytes),
+    GetDel(Word<'a>),
     /// `GETEX key [EX s, PX ms, EXAT s, PXAT ms or PERSIST]`
-    GetEx(Bytes, Renewal),
+    GetEx(Word<'a>, Renewal),
     /// `MGET key..`
-    MGet(WordList),
+    MGet(WordList<'a>),
     /// `MSET key value..`
-    MSet(PairList),
+    MSet(PairList<'a>),
     /// `MSETNX key value..`
-    MSetNx(PairList),
+    MSetNx(PairList<'a>),
     /// `APPEND key tail`
-    Append(Bytes, Bytes),
+    Append(Word<'a>, Word<'a>),
     /// `STRLEN key`
-    StrLen(Bytes),
+    StrLen(Word<'a>),
     /// `GETRANGE key a b`
-    GetRange(Bytes, i64, i64),
+    GetRange(Word<'a>, i64, i64),
     /// `SETRANGE key at piece`
-    SetRange(Bytes, u64, Bytes),
+    SetRange(Word<'a>, u64, Word<'a>),
     /// `INCR key`
-    Incr(Bytes),
+    Incr(Word<'a>),
     /// `DECR key`
-    Decr(Bytes),
+    Decr(Word<'a>),
     /// `INCRBY key n`
-    IncrBy(Bytes, i64),
+    IncrBy(Word<'a>, i64),
     /// `DECRBY key n`
-    DecrBy(Bytes, i64),
+    DecrBy(Word<'a>, i64),
 }

@@ -1,14 +1,14 @@
 //! Commands on the connection and on the server as a whole.
 
-use crate::Bytes;
+use crate::Word;
 
 /// A command on the connection or the server.
 #[derive(Drop)]
-pub enum ConnectionCommand {
+pub enum ConnectionCommand<'a> {
     /// `PING [text]`
-    Ping(Option<Bytes>),
+    Ping(Option<Word<'a>>),
     /// `ECHO text`
-    Echo(Bytes),
+    Echo(Word<'a>),
     /// `QUIT` and any words.
     Quit,
     /// `SELECT db`, with the database by its number below 16.

@@ -1,6 +1,6 @@
 //! Commands on keys, whatever the type of their values.
 
-use crate::{Bytes, WordList};
+use crate::{Word, WordList};
 
 /// The options of EXPIRE and its like.
 #[derive(Clone, Copy, Debug, PartialEq, Eq)]
@@ -26,60 +26,60 @@ pub struct CopyOptions {
 
 /// The options of SCAN.
 #[derive(Drop)]
-pub struct ScanOptions {
+pub struct ScanOptions<'a> {
     /// `MATCH pattern`: only keys that it matches.
-    pub pattern: Option<Bytes>,
+    pub pattern: Option<Word<'a>>,
     /// `COUNT n`: how many keys are to be met at least, above 0.
     pub count: u64,
     /// `TYPE name`: only keys with a value of this type, whatever the case of its name.
-    pub type_name: Option<Bytes>,
+    pub type_name: Option<Word<'a>>,
 }
 
 /// A command on keys.
 #[derive(Drop)]
-pub enum KeyCommand {
+pub enum KeyCommand<'a> {
     /// `DEL key..`
-    Del(WordList),
+    Del(WordList<'a>),
     /// `UNLINK key..`
-    Unlink(WordList),
+    Unlink(WordList<'a>),
     /// `EXISTS key..`
-    Exists(WordList),
+    Exists(WordList<'a>),
     /// `TOUCH key..`
-    Touch(WordList),
+    Touch(WordList<'a>),
     /// `TYPE key`
-    TypeOf(Bytes),
+    TypeOf(Word<'a>),
     /// `EXPIRE key n [NX, XX, GT, LT]`: seconds from now.
-    Expire(Bytes, i64, ExpireOptions),
+    Expire(Word<'a>, i64, ExpireOptions),
     /// `PEXPIRE key n [NX, XX, GT, LT]`: milliseconds from now.
-    PExpire(Bytes, i64, ExpireOptions),
+    PExpire(Word<'a>, i64, ExpireOptions),
     /// `EXPIREAT key n [NX, XX, GT, LT]`: seconds from moment 0.
-    ExpireAt(Bytes, i64, ExpireOptions),
+    ExpireAt(Word<'a>, i64, ExpireOptions),
     /// `PEXPIREAT key n [NX, XX, GT, LT]`: milliseconds from moment 0.
-    PExpireAt(Bytes, i64, ExpireOptions),
+    PExpireAt(Word<'a>, i64, ExpireOptions),
     /// `TTL key`
-    Ttl(Bytes),
+    Ttl(Word<'a>),
     /// `PTTL key`
-    PTtl(Bytes),
+    PTtl(Word<'a>),
     /// `EXPIRETIME key`
-    ExpireTime(Bytes),
+    ExpireTime(Word<'a>),
     /// `PEXPIRETIME key`
-    PExpireTime(Bytes),
+    PExpireTime(Word<'a>),
     /// `PERSIST key`
-    Persist(Bytes),
+    Persist(Word<'a>),
     /// `RENAME from to`
-    Rename(Bytes, Bytes),
+    Rename(Word<'a>, Word<'a>),
     /// `RENAMENX from to`
-    RenameNx(Bytes, Bytes),
+    RenameNx(Word<'a>, Word<'a>),
     /// `COPY from to [DB db] [REPLACE]`
-    Copy(Bytes, Bytes, CopyOptions),
+    Copy(Word<'a>, Word<'a>, CopyOptions),
     /// `MOVE key db`, with the database by its number below 16.
-    MoveKey(Bytes, usize),
+    MoveKey(Word<'a>, usize),
     /// `RANDOMKEY`
     RandomKey,
     /// `OBJECT ENCODING key`
-    ObjectEncoding(Bytes),
+    ObjectEncoding(Word<'a>),
     /// `KEYS pattern`
-    KeysLike(Bytes),
+    KeysLike(Word<'a>),
     /// `SCAN cursor [MATCH pattern] [COUNT n] [TYPE name]`
-    Scan(u64, ScanOptions),
+    Scan(u64, ScanOptions<'a>),
 }

@@ -8,6 +8,7 @@ mod keys;
 mod laws;
 mod lists;
 mod times;
+mod word;
 
 pub use command::{
     Command, Condition, GetExOptionsRead, SetOptions, SetOptionsRead, StringCommand,
@@ -19,3 +20,4 @@ pub use laws::{replies_fix_the_run, runs_are_covered};
 pub use lists::{PairList, WordList};
 pub use plain_world::{Bytes, LONGEST, Line, Memory, Part, Parts, Refusal, Reply};
 pub use times::{Lifetime, Renewal, Time, TimeOrigin, TimeUnit};
+pub use word::Word;

@@ -1,18 +1,18 @@
-//! Lists of words.
+//! Lists of words that are lent.
 
 ghost use Rattle.std.specs.Prelude.{◌≡◌, ◌<◌, ◌∷◌, [], ◌++◌, List, ℕ, length, slice_get, OnOk, OnErr};
 
-use crate::Bytes;
+use crate::Word;
 use std::alloc::{AllocError, Global};
 use std::marker::Model;
 
 /// Words, which contracts see as a list of lists of bytes.
 #[derive(Drop)]
-pub struct WordList {
-    words: Vec<Bytes>,
+pub struct WordList<'a> {
+    words: Vec<Word<'a>>,
 }
 
-impl Model for WordList {
+impl<'a> Model for WordList<'a> {
     ghost use Rattle.std.specs.Prelude.{List, ℕ};
 
     ghost Value = { List (List ℕ) };
@@ -20,9 +20,9 @@ impl Model for WordList {
     ghost view = { λ l. l.words.items };
 }
 
-impl WordList {
+impl<'a> WordList<'a> {
     /// No words.
-    pub fn new(alloc: Global) -> WordList
+    pub fn new(alloc: Global) -> WordList<'a>
         ensures { result ≡ [] }
     {
         WordList {
@@ -31,8 +31,8 @@ impl WordList {
     }
 
     /// Adds a word behind the others. `Memory` leaves the list.
-    pub fn push(&mut self, word: Bytes) -> Result<(), AllocError>
-        ensures ok { OnOk result (self.new ≡ self.old ++ word ∷ []) }
+    pub fn push(&mut self, word: Word<'a>) -> Result<(), AllocError>
+        ensures ok { OnOk result (self.new ≡ self.old ++ word.entry ∷ []) }
         ensures err { OnErr result (self.new ≡ self.old) }
     {
         self.words.push(word)?;
@@ -40,7 +40,7 @@ impl WordList {
     }
 
     /// The words.
-    pub fn as_slice(&self) -> &[Bytes]
+    pub fn as_slice(&self) -> &[Word<'a>]
         ensures { result.now ≡ self.now }
     {
         self.words.as_slice()
@@ -49,11 +49,11 @@ impl WordList {
 
 /// Pairs of words, which contracts see as a list of pairs.
 #[derive(Drop)]
-pub struct PairList {
-    pairs: Vec<(Bytes, Bytes)>,
+pub struct PairList<'a> {
+    pairs: Vec<(Word<'a>, Word<'a>)>,
 }
 
-impl Model for PairList {
+impl<'a> Model for PairList<'a> {
     ghost use Rattle.std.specs.Prelude.{List, ℕ};
 
     ghost Value = { List (List ℕ × List ℕ) };
@@ -61,9 +61,9 @@ impl Model for PairList {
     ghost view = { λ l. l.pairs.items };
 }
 
-impl PairList {
+impl<'a> PairList<'a> {
     /// No pairs.
-    pub fn new(alloc: Global) -> PairList
+    pub fn new(alloc: Global) -> PairList<'a>
         ensures { result ≡ [] }
     {
         PairList {
@@ -72,8 +72,8 @@ impl PairList {
     }
 
     /// Adds a pair behind the others. `Memory` leaves the list.
-    pub fn push(&mut self, first: Bytes, second: Bytes) -> Result<(), AllocError>
-        ensures ok { OnOk result (self.new ≡ self.old ++ (first, second) ∷ []) }
+    pub fn push(&mut self, first: Word<'a>, second: Word<'a>) -> Result<(), AllocError>
+        ensures ok { OnOk result (self.new ≡ self.old ++ (first.entry, second.entry) ∷ []) }
         ensures err { OnErr result (self.new ≡ self.old) }
     {
         self.pairs.push((first, second))?;
@@ -81,7 +81,7 @@ impl PairList {
     }
 
     /// The pairs.
-    pub fn as_slice(&self) -> &[(Bytes, Bytes)]
+    pub fn as_slice(&self) -> &[(Word<'a>, Word<'a>)]
         ensures { result.now ≡ self.now }
     {
         self.pairs.as_slice()

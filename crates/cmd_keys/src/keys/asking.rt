@@ -11,10 +11,10 @@ ghost use Rattle.cmd_keys.specs.Found.{Gives};
 use crate::keys::look::{count_reply, deadline_at, is_there, timeless_reply};
 use blocks::BlockStore;
 use keyspace::Keyspace;
-use plain_model::{Bytes, Ctx, Line, Memory, Reply};
+use plain_model::{Ctx, Line, Memory, Reply, Word};
 
 // How many of these keys are there. A key that is named twice counts twice.
-fn count_there<B: BlockStore>(keyspace: &Keyspace<B>, at: &Ctx, keys: &[Bytes]) -> u64
+fn count_there<B: BlockStore>(keyspace: &Keyspace<B>, at: &Ctx, keys: &[Word<'_>]) -> u64
     requires ready { Ready B.blocks keyspace.now at.now }
     ensures count { result ≡ count_by (λ key. is_some (look (sight B.blocks keyspace.now at.now) key)) keys.now }
     ensures few { result < 2 ^ 63 }
@@ -32,7 +32,7 @@ fn count_there<B: BlockStore>(keyspace: &Keyspace<B>, at: &Ctx, keys: &[Bytes]) 
 pub fn exists<B: BlockStore>(
     keyspace: &Keyspace<B>,
     at: &Ctx,
-    keys: &[Bytes],
+    keys: &[Word<'_>],
 ) -> Result<Reply, Memory>
     requires ready { Ready B.blocks keyspace.now at.now }
     ensures { Gives B.blocks keyspace.now keyspace.now at.now (commands.Exists keys.now) result }
@@ -44,7 +44,7 @@ pub fn exists<B: BlockStore>(
 pub fn touch<B: BlockStore>(
     keyspace: &Keyspace<B>,
     at: &Ctx,
-    keys: &[Bytes],
+    keys: &[Word<'_>],
 ) -> Result<Reply, Memory>
     requires ready { Ready B.blocks keyspace.now at.now }
     ensures { Gives B.blocks keyspace.now keyspace.now at.now (commands.Touch keys.now) result }

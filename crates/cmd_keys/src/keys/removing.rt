@@ -11,7 +11,7 @@ ghost use Rattle.cmd_keys.specs.Found.{Gives};
 use crate::keys::look::count_reply;
 use blocks::BlockStore;
 use keyspace::{Keyspace, seek};
-use plain_model::{Bytes, Ctx, Memory, Reply};
+use plain_model::{Ctx, Memory, Reply, Word};
 
 /// Removes a key. The answer is whether it was there: one that is gone already doesn't count.
 pub fn remove_key<B: BlockStore>(keyspace: &mut Keyspace<B>, at: &Ctx, key: &[u8]) -> bool
@@ -26,7 +26,7 @@ pub fn remove_key<B: BlockStore>(keyspace: &mut Keyspace<B>, at: &Ctx, key: &[u8
 }
 
 // Removes these keys, one after the other. The answer is how many were there.
-fn remove_keys<B: BlockStore>(keyspace: &mut Keyspace<B>, at: &Ctx, keys: &[Bytes]) -> u64
+fn remove_keys<B: BlockStore>(keyspace: &mut Keyspace<B>, at: &Ctx, keys: &[Word<'_>]) -> u64
     requires ready { Ready B.blocks keyspace.old at.now }
     ensures count { result ≡ removed (sight B.blocks keyspace.old at.now) keys.now }
     ensures few { result < 2 ^ 63 }
@@ -34,10 +34,8 @@ fn remove_keys<B: BlockStore>(keyspace: &mut Keyspace<B>, at: &Ctx, keys: &[Byte
     ensures held { Held B.blocks B.step (no_key at.now.db) keyspace.old keyspace.new }
 {
     let mut count: u64 = 0;
-    let mut rest = keys;
-    'keys: while let Some((key, others)) = rest.split_first() {
+    for key in keys {
         count += remove_key(keyspace, at, key.as_slice()) as u64;
-        rest = others;
     }
     count
 }
@@ -46,7 +44,7 @@ fn remove_keys<B: BlockStore>(keyspace: &mut Keyspace<B>, at: &Ctx, keys: &[Byte
 pub fn del<B: BlockStore>(
     keyspace: &mut Keyspace<B>,
     at: &Ctx,
-    keys: &[Bytes],
+    keys: &[Word<'_>],
 ) -> Result<Reply, Memory>
     requires ready { Ready B.blocks keyspace.old at.now }
     ensures gives { Gives B.blocks keyspace.old keyspace.new at.now (commands.Del keys.now) result }
@@ -60,7 +58,7 @@ pub fn del<B: BlockStore>(
 pub fn unlink<B: BlockStore>(
     keyspace: &mut Keyspace<B>,
     at: &Ctx,
-    keys: &[Bytes],
+    keys: &[Word<'_>],
 ) -> Result<Reply, Memory>
     requires ready { Ready B.blocks keyspace.old at.now }
     ensures gives { Gives B.blocks keyspace.old keyspace.new at.now (commands.Unlink keys.now) result }

@@ -15,12 +15,12 @@ use blocks::BlockStore;
 use glob::matches;
 use itoa::Buffer;
 use keyspace::{Keyspace, Value};
-use plain_model::{Bytes, Ctx, Memory, Part, Parts, Reply, ScanOptions};
+use plain_model::{Bytes, Ctx, Memory, Part, Parts, Reply, ScanOptions, Word};
 use scan_cursor::page;
 use std::alloc::Global;
 
 // Whether MATCH lets a key pass.
-fn is_like(pattern: &Option<Bytes>, key: &[u8]) -> bool
+fn is_like(pattern: &Option<Word<'_>>, key: &[u8]) -> bool
     ensures { IsTrue result ↔ IsLike pattern.now key.now }
 {
     match pattern {
@@ -30,7 +30,7 @@ fn is_like(pattern: &Option<Bytes>, key: &[u8]) -> bool
 }
 
 // Whether TYPE lets a value pass. It ignores case.
-fn has_type(name: &Option<Bytes>, value: &Value) -> bool
+fn has_type(name: &Option<Word<'_>>, value: &Value) -> bool
     ensures { (blocks : Blocks) → result ≡ is_type name.now (value_of blocks value.now) }
 {
     match name {
@@ -46,7 +46,7 @@ fn has_type(name: &Option<Bytes>, value: &Value) -> bool
 fn passing<'a, B: BlockStore>(
     keyspace: &'a Keyspace<B>,
     at: &Ctx,
-    options: &ScanOptions,
+    options: &ScanOptions<'_>,
     item: usize,
 ) -> Option<&'a [u8]>
     requires ready { Ready B.blocks keyspace.now at.now }
@@ -71,7 +71,7 @@ fn passing<'a, B: BlockStore>(
 fn push_passing<B: BlockStore>(
     keyspace: &Keyspace<B>,
     at: &Ctx,
-    options: &ScanOptions,
+    options: &ScanOptions<'_>,
     item: usize,
     names: &mut Vec<Bytes>,
 ) -> Result<(), Memory>
@@ -91,7 +91,7 @@ fn push_passing<B: BlockStore>(
 fn passing_of<B: BlockStore>(
     keyspace: &Keyspace<B>,
     at: &Ctx,
-    options: &ScanOptions,
+    options: &ScanOptions<'_>,
     items: &[usize],
 ) -> Result<Vec<Bytes>, Memory>
     requires ready { Ready B.blocks keyspace.now at.now }
@@ -108,7 +108,7 @@ fn passing_of<B: BlockStore>(
 fn passing_below<B: BlockStore>(
     keyspace: &Keyspace<B>,
     at: &Ctx,
-    options: &ScanOptions,
+    options: &ScanOptions<'_>,
     top: usize,
 ) -> Result<Vec<Bytes>, Memory>
     requires ready { Ready B.blocks keyspace.now at.now }
@@ -143,7 +143,7 @@ pub fn keys_like<B: BlockStore>(
 {
     let alloc = keyspace.alloc();
     let options = ScanOptions {
-        pattern: Some(Bytes::new(alloc, pattern)?),
+        pattern: Some(Word::new(pattern)),
         count: 1,
         type_name: None,
     };
@@ -168,7 +168,7 @@ pub fn scan<B: BlockStore>(
     keyspace: &Keyspace<B>,
     at: &Ctx,
     cursor: u64,
-    options: &ScanOptions,
+    options: &ScanOptions<'_>,
 ) -> Result<Reply, Memory>
     requires ready { Ready B.blocks keyspace.now at.now }
     requires count { 0 < options.now.count }

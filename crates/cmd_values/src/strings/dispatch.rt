@@ -18,7 +18,7 @@ use plain_model::{Ctx, Memory, Reply, StringCommand};
 pub fn run_strings<B: BlockStore>(
     keyspace: &mut Keyspace<B>,
     at: &Ctx,
-    command: &StringCommand,
+    command: &StringCommand<'_>,
 ) -> Result<Reply, Memory>
     requires ready { Ready B.blocks keyspace.old at.now }
     requires asked { IsAsked (Strings command.now) }

@@ -9,7 +9,7 @@ ghost use Rattle.cmd_values.specs.Found.{Gives, value_at, values_at};
 use crate::strings::look::{bytes_of, length_of, length_reply, old_value, text_at};
 use blocks::BlockStore;
 use keyspace::{Keyspace, Look};
-use plain_model::{Bytes, Ctx, Memory, Part, Parts, Refusal, Reply};
+use plain_model::{Bytes, Ctx, Memory, Part, Parts, Refusal, Reply, Word};
 
 /// `GET key`: the value, or null.
 #[tactic(auto, using(crate::proofs::StringLemmas::refused_other))]
@@ -107,7 +107,7 @@ fn value_part<B: BlockStore>(keyspace: &Keyspace<B>, at: &Ctx, key: &[u8]) -> Re
 fn push_values<B: BlockStore>(
     keyspace: &Keyspace<B>,
     at: &Ctx,
-    keys: &[Bytes],
+    keys: &[Word<'_>],
     parts: &mut Parts,
 ) -> Result<(), Memory>
     requires ready { Ready B.blocks keyspace.now at.now }
@@ -125,7 +125,7 @@ fn push_values<B: BlockStore>(
 pub fn mget<B: BlockStore>(
     keyspace: &Keyspace<B>,
     at: &Ctx,
-    keys: &[Bytes],
+    keys: &[Word<'_>],
 ) -> Result<Reply, Memory>
     requires ready { Ready B.blocks keyspace.now at.now }
     ensures { Gives B.blocks keyspace.now keyspace.now at.now (strings.MGet keys.now) result }

@@ -17,7 +17,7 @@ use crate::strings::lasting::from_zero;
 use crate::strings::look::{old_value, sought_value};
 use blocks::BlockStore;
 use keyspace::{Keyspace, Sought, SoughtAt, Value, deadline_at, seek};
-use plain_model::{Bytes, Condition, Ctx, Lifetime, Line, Memory, Refusal, Reply, SetOptions};
+use plain_model::{Condition, Ctx, Lifetime, Line, Memory, Refusal, Reply, SetOptions, Word};
 use string_object::Text;
 
 // What a search for a key finds. It is made here where it wasn't made before.
@@ -355,7 +355,7 @@ pub fn getdel<B: BlockStore>(
 }
 
 // Whether something stands at one of the keys.
-fn is_any_there<B: BlockStore>(keyspace: &Keyspace<B>, at: &Ctx, pairs: &[(Bytes, Bytes)]) -> bool
+fn is_any_there<B: BlockStore>(keyspace: &Keyspace<B>, at: &Ctx, pairs: &[(Word<'_>, Word<'_>)]) -> bool
     requires ready { Ready B.blocks keyspace.now at.now }
     ensures { result ≡ any_there (sight B.blocks keyspace.now at.now) pairs.now }
 {
@@ -373,17 +373,15 @@ fn is_any_there<B: BlockStore>(keyspace: &Keyspace<B>, at: &Ctx, pairs: &[(Bytes
 fn put_pairs<B: BlockStore>(
     keyspace: &mut Keyspace<B>,
     at: &Ctx,
-    pairs: &[(Bytes, Bytes)],
+    pairs: &[(Word<'_>, Word<'_>)],
 ) -> Result<(), Memory>
     requires ready { Ready B.blocks keyspace.old at.now }
     ensures world { OnOk result (sight B.blocks keyspace.new at.now ≡ replace_all (sight B.blocks keyspace.old at.now) pairs.now) }
     ensures held { Held B.blocks B.step (some_keys at.now.db (first_words pairs.now)) keyspace.old keyspace.new }
     ensures forms { OnOk result (Formed B.blocks Whole keyspace.old keyspace.new) }
 {
-    let mut rest = pairs;
-    'pairs: while let Some((pair, others)) = rest.split_first() {
+    for pair in pairs {
         put_string(keyspace, at, pair.0.as_slice(), None, pair.1.as_slice())?;
-        rest = others;
     }
     Ok(())
 }
@@ -392,7 +390,7 @@ fn put_pairs<B: BlockStore>(
 pub fn mset<B: BlockStore>(
     keyspace: &mut Keyspace<B>,
     at: &Ctx,
-    pairs: &[(Bytes, Bytes)],
+    pairs: &[(Word<'_>, Word<'_>)],
 ) -> Result<Reply, Memory>
     requires ready { Ready B.blocks keyspace.old at.now }
     ensures gives { Gives B.blocks keyspace.old keyspace.new at.now (strings.MSet pairs.now) result }
@@ -407,7 +405,7 @@ pub fn mset<B: BlockStore>(
 pub fn msetnx<B: BlockStore>(
     keyspace: &mut Keyspace<B>,
     at: &Ctx,
-    pairs: &[(Bytes, Bytes)],
+    pairs: &[(Word<'_>, Word<'_>)],
 ) -> Result<Reply, Memory>
     requires ready { Ready B.blocks keyspace.old at.now }
     ensures gives { Gives B.blocks keyspace.old keyspace.new at.now (strings.MSetNx pairs.now) result }

@@ -1,4 +1,4 @@
-use Rattle.std.proofs.Common.{refl, arith, rules}
+use Rattle.std.proofs.Common.{◌≡◌, ℕ, suc, ◌+◌, ◌<◌, List, ◌∷◌, length, drop, drop-cons, length-drop, add-one, refl, sym, ap, arith, rules}
 use Rattle.keyspace.proofs.Running.{same_settings}
 use Rattle.keyspace.specs.Scopes.{no_key}
 use Rattle.keyspace.proofs.Serving.{unmoved, further}
@@ -7,10 +7,16 @@ use Rattle.blocks.proofs.Serve.{Served-then}
 use Rattle.blocks.specs.Blocks.{no_step}
 use Rattle.cmd_keys.proofs.keys.removing.remove_keys.Goals as goal
 
-pub keys-init : goal.keys-init
-keys-init g c =
+pub loop-key-init : goal.loop-key-init
+loop-key-init g c =
     record { count = omega arith; few = omega arith; world = refl; sound = c.requires.ready.sound; served = no_step; within = unmoved (no_key c.args.at.now.db) c.args.keyspace.now.bases (g.B.BlockStore.blocks c.args.keyspace.now.store); settings = same_settings c.args.keyspace.now.bases }
 
-pub keys-preserved : goal.keys-preserved
-keys-preserved g c =
-    record { count = search rules; few = search rules; world = search rules; sound = c.remove_key.ensures.held.sound; served = Served-then _ _ _ c.keys.invariant.served c.remove_key.ensures.held.served; within = further (no_key c.args.at.now.db) _ _ _ _ _ _ c.keys.invariant.within c.remove_key.ensures.held.within; settings = settings_then _ _ _ c.keys.invariant.settings c.remove_key.ensures.held.settings }
+pub loop-key-preserved : goal.loop-key-preserved
+loop-key-preserved g c =
+    let keys = c.args.keys.now in
+    let i = c.loop-key.key-index in
+    let key = c.key-item.result in
+    let within : i < length keys = search rules in
+    let is : drop i keys ≡ key ∷ drop (i + 1) keys = rw (add-one, drop-cons keys i key) (ap (λ (k : List ℕ). k ∷ drop (suc i) keys) (sym c.key-item.is)) in
+    let more : length (drop (i + 1) keys) + 1 ≡ length (drop i keys) = omega (arith, within, length-drop i keys, length-drop (i + 1) keys) in
+    record { count = search rules; few = search rules; world = search rules; sound = c.remove_key.ensures.held.sound; served = Served-then _ _ _ c.loop-key.invariant.served c.remove_key.ensures.held.served; within = further (no_key c.args.at.now.db) _ _ _ _ _ _ c.loop-key.invariant.within c.remove_key.ensures.held.within; settings = settings_then _ _ _ c.loop-key.invariant.settings c.remove_key.ensures.held.settings }

@@ -10,6 +10,6 @@ into_reply-requires g c = listed_reply c.in_ok-names.names.items _ _ c.new-parts
 
 pub returns : goal.returns
 returns g c =
-    keys_told c.args.keyspace.now.bases (g.B.BlockStore.blocks c.args.keyspace.now.store) c.args.at.now c.requires.ready.db c.requires.ready.sound c.args.pattern.now _ c.in_ok-new.ensures c.top.result
+    keys_told c.args.keyspace.now.bases (g.B.BlockStore.blocks c.args.keyspace.now.store) c.args.at.now c.requires.ready.db c.requires.ready.sound c.args.pattern.now _ c.new.ensures c.top.result
     (λ i some. c.top.ensures.above i (subst (λ t. IsSome (item t i)) (sym c.table.ensures) some)) c.in_ok-names.names.items c.in_ok-names.ensures c.into_reply.result
     (c.into_reply.ensures ∙ c.in_ok-push_names.ensures ∙ ap (λ l. l ++ listed c.in_ok-names.names.items) c.new-parts.ensures)

@@ -1,4 +1,4 @@
-use Rattle.std.proofs.Common.{◌≡◌, length}
+use Rattle.std.proofs.Common.{◌≡◌, drop}
 use Rattle.blocks.specs.Blocks.{Served}
 use Rattle.plain_model.specs.StringSteps.{replace_all}
 use Rattle.keyspace.specs.Databases.{SameSettings}
@@ -9,18 +9,15 @@ use Rattle.keyspace.specs.Forms.{Whole, Formed}
 use Rattle.cmd_values.proofs.Pairs.{ArePart}
 use Rattle.cmd_values.proofs.strings.writing.put_pairs.Given as goal
 
-abbrev pub invariant-pairs : goal.invariant-pairs
-invariant-pairs g l =
+abbrev pub invariant-loop-pair : goal.invariant-loop-pair
+invariant-loop-pair g l =
     let blocks = g.B.BlockStore.blocks in
     record {
-      world : replace_all (seen l.at l.keyspace.bases (blocks l.keyspace.store)) l.rest ≡ replace_all (seen l.at l.fn.keyspace.bases (blocks l.fn.keyspace.store)) l.pairs;
+      world : replace_all (seen l.at l.keyspace.bases (blocks l.keyspace.store)) (drop l.pair-index l.pairs) ≡ replace_all (seen l.at l.fn.keyspace.bases (blocks l.fn.keyspace.store)) l.pairs;
       sound : Sound l.keyspace.bases (blocks l.keyspace.store);
       served : Served g.B.BlockStore.step l.fn.keyspace.store l.keyspace.store;
-      part : ArePart l.rest l.pairs;
+      part : ArePart (drop l.pair-index l.pairs) l.pairs;
       within : Within (some_keys l.at.db (first_words l.pairs)) l.fn.keyspace.bases l.keyspace.bases (blocks l.fn.keyspace.store) (blocks l.keyspace.store);
       settings : SameSettings l.fn.keyspace.bases l.keyspace.bases;
       forms : Formed blocks Whole l.fn.keyspace l.keyspace;
     }
-
-abbrev pub decreases-pairs : goal.decreases-pairs
-decreases-pairs g l = length l.rest
