@@ -18,6 +18,7 @@ use Rattle.rax_packed.proofs.Keys.{order-same}
 use Rattle.rax_packed.proofs.Entries.{all-append, value_at-link, key_under, below_links}
 use Rattle.rax_packed.proofs.Frames.{marks_below, block_node, same_tree}
 use Rattle.rax_packed.proofs.Looks.{rising_split}
+use Rattle.rax_packed.proofs.Marked.{marks_name}
 use Rattle.rax_packed.proofs.Paths.{tree_some}
 
 pub still_owned : (a b : Blocks) (refs : List BlockRef) → ((r : BlockRef) → IsIn r refs → b r ≡ a r) → Owned refs a → Owned refs b
@@ -107,4 +108,5 @@ packed_laws_hold = record {
   own = stays;
   others = λ a b tree old new own p. stays a b tree (beside a b (refs_of a tree) old new own p);
   least = λ a tree s. root_stand a tree.root s.stands;
+  named = marks_name;
 }

@@ -11,6 +11,7 @@ pub mod Keys
 pub mod Layouts
 pub mod Links
 pub mod Looks
+pub mod Marked
 pub mod Paths
 pub mod Releases
 pub mod Relocations

@@ -1,6 +1,6 @@
 //! The map.
 
-ghost use Rattle.std.specs.Prelude.{◌≡◌, ◌≤◌, Some, None, [], true, false, IfOk, OnOk, OnErr, IfSome, IfNone, OnSome, IsSome, length};
+ghost use Rattle.std.specs.Prelude.{◌≡◌, ◌≤◌, Some, None, [], true, false, IfOk, OnOk, OnErr, IfSome, IfNone, OnSome, IsSome, is_some, length};
 ghost use Rattle.blocks.specs.Blocks.{Blocks, Changes, Served};
 ghost use Rattle.blocks.specs.Slabs.{Calmer};
 
@@ -110,7 +110,7 @@ impl PackedTree {
         requires { IsSound (B.blocks store.old) self.old }
         ensures sound { IsSound (B.blocks store.new) self.new }
         ensures set { result ≡ true → entries_of (B.blocks store.new) self.new ≡ with_entry (entries_of (B.blocks store.old) self.old) key.now value }
-        ensures missing { result ≡ false → value_at (entries_of (B.blocks store.old) self.old) key.now ≡ None }
+        ensures there { result ≡ is_some (value_at (entries_of (B.blocks store.old) self.old) key.now) }
         ensures changes { Changes (B.blocks store.old) (B.blocks store.new) (refs_of (B.blocks store.old) self.old) (refs_of (B.blocks store.new) self.new) }
         ensures served { Served B.step store.old store.new }
         ensures unchanged { result ≡ false → B.blocks store.new ≡ B.blocks store.old }

@@ -7,6 +7,7 @@ pub mod Exchanged
 pub mod FieldsAt
 pub mod Grown
 pub mod Heads
+pub mod Ids
 pub mod Lists
 pub mod Marches
 pub mod Markings
@@ -20,4 +21,5 @@ pub mod Sizes
 pub mod Small
 pub mod Starts
 pub mod Walks
+pub mod Weights
 pub mod Written

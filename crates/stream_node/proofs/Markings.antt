@@ -299,7 +299,7 @@ found_too key other list index live deleted master first can node head short =
     found_by other list index live deleted master first fs head o short m both.0
 
 -- an element in the midst of others
-element_at : (front tail : Texts) (x : List ℕ) → element (front ++ x ∷ tail) (length front) ≡ x
+pub element_at : (front tail : Texts) (x : List ℕ) → element (front ++ x ∷ tail) (length front) ≡ x
 element_at [] tail x = refl
 element_at (y ∷ front) tail x = element_at front tail x
 

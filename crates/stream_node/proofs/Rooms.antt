@@ -15,6 +15,7 @@ use Rattle.std.proofs.lemmas.List.Sums.{sum_by-cons}
 use Rattle.listpack.specs.Entry.{back_length, entry_of}
 use Rattle.listpack.specs.Pack.{IsPack, entries, spellings_of, texts}
 use Rattle.listpack.specs.Writing.{magnitude, is_small, has_bits, thirteen_low, number_spelling, text_head, spelling, entry}
+use Rattle.listpack.proofs.Backs.{back_one}
 use Rattle.listpack.proofs.Writings.{number_cases, spelling_as}
 use Rattle.stream_node.specs.declared.id.Id.{Id}
 use Rattle.stream_node.specs.Entry.{Pair, number, flags, fields_of, body, size}
@@ -22,12 +23,13 @@ use Rattle.stream_node.specs.Entries.{element, count}
 use Rattle.stream_node.specs.Written.{difference, start_texts, body_texts, entry_texts, head_texts}
 use Rattle.stream_node.specs.Appended.{same_texts, fields_in, added, appended, pack_len}
 use Rattle.stream_node.specs.Marked.{flags_at, marked_spellings}
-use Rattle.stream_node.specs.Room.{pair_bytes, IsRoomy, RoomEnough}
+use Rattle.stream_node.specs.Room.{pair_bytes, most_bytes, IsRoomy, alone_len, RoomEnough}
 use Rattle.stream_node.proofs.Same.{flat}
 use Rattle.stream_node.proofs.Grown.{difference_fits}
-use Rattle.stream_node.proofs.Appendings.{written_end}
+use Rattle.stream_node.proofs.Weights.{mark_weight, append_written, mark_written}
+use Rattle.stream_node.proofs.Appendings.{written_end, first_is}
 use Rattle.stream_node.proofs.Lists.{Texts}
-use Rattle.stream_node.proofs.Written.{written, written-append, length-pack, length-values, length-own}
+use Rattle.stream_node.proofs.Written.{written, written-append, few_written, length-pack, length-values, length-own}
 
 -- a back length takes at most 5 bytes
 back_short : (n : ℕ) → length (back_length n) ≤ 5
@@ -63,14 +65,18 @@ head_short : (n : ℕ) → length (text_head n) ≤ 5
 unfolding text_head
 head_short n = let d = low_bytes_are 0xF0 4 n in grind (arith, nat_tests, d)
 
+-- the back length of at most 9 bytes is one byte
+back_one_byte : (n : ℕ) → n ≤ 9 → length (back_length n) ≡ 1
+back_one_byte n few = ap length (back_one n (omega arith))
+
 -- the bytes of an entry
-entry_most : (text : List ℕ) → length (entry text) ≤ length text + 14
+entry_most : (text : List ℕ) → length (entry text) ≤ length text + 10
 entry_most text =
     let s = spelling text in
     let whole = length-append s (back_length (length s)) in
     elim (number_cases text) [
       | inl none ↦ omega (arith, whole, back_short (length s), ap length (spelling_as text None none), head_short (length text), length-append (text_head (length text)) text)
-      | inr some ↦ omega (arith, whole, back_short (length s), ap length (spelling_as text (Some some.0) some.1), number_short some.0)
+      | inr some ↦ (let same = ap length (spelling_as text (Some some.0) some.1) in let few : length s ≤ 9 = omega (arith, same, number_short some.0) in omega (arith, whole, back_one_byte (length s) few))
     ]
 
 -- as an entry of a listpack, a number below 2^64 takes at most 34 bytes
@@ -106,18 +112,17 @@ fields_and_values (p ∷ pairs) =
       entry_most p.1,
     )
 
--- fields and values, alternating, take no more bytes than are told for the pairs
-flat_most : (pairs : List Pair) → written (flat pairs) ≤ sum_by pair_bytes pairs
-flat_most [] = omega arith
-flat_most (p ∷ pairs) =
+-- fields and values, alternating, take as many bytes as apart
+flat_parts : (pairs : List Pair) → written (flat pairs) ≡ written (fields_of pairs) + written (body true pairs)
+flat_parts [] = omega arith
+flat_parts (p ∷ pairs) =
     omega (
       arith,
-      flat_most pairs,
-      sum_by-cons pair_bytes p pairs,
+      flat_parts pairs,
       written_cons p.0 (p.1 ∷ flat pairs),
       written_cons p.1 (flat pairs),
-      entry_most p.0,
-      entry_most p.1,
+      written_cons p.0 (fields_of pairs),
+      written_cons p.1 (body true pairs),
     )
 
 -- there are no more pairs than bytes told for them
@@ -145,8 +150,12 @@ start_most key id same =
       signed_most (difference id.seq key.seq) (difference_fits id.seq key.seq),
     )
 
--- pairs with fields of their own take at most 68 bytes more than are told for them
-body_own : (pairs : List Pair) → sum_by pair_bytes pairs < 2 ^ 32 → written (body_texts false pairs) ≤ sum_by pair_bytes pairs + 68
+-- the bytes of the fields and of the values
+abbrev parts_bytes : List Pair → ℕ
+parts_bytes pairs = written (fields_of pairs) + written (body true pairs)
+
+-- pairs with fields of their own take at most 68 bytes more than these
+body_own : (pairs : List Pair) → length pairs < 2 ^ 32 → written (body_texts false pairs) ≤ parts_bytes pairs + 68
 body_own pairs small =
     let end = number (size (body false pairs)) in
     omega (
@@ -155,59 +164,56 @@ body_own pairs small =
       written-append (body false pairs) (end ∷ []),
       written_cons (number (length pairs)) (flat pairs),
       written_cons end [],
-      flat_most pairs,
-      count_most (length pairs) (omega (arith, small, many_most pairs)),
-      count_most (size (body false pairs)) (omega (arith, small, many_most pairs, length-own pairs)),
+      flat_parts pairs,
+      count_most (length pairs) (omega (arith, small)),
+      count_most (size (body false pairs)) (omega (arith, small, length-own pairs)),
     )
 
 -- pairs whose fields are the node's take at most 34 bytes more than their values
-body_same : (pairs : List Pair) → sum_by pair_bytes pairs < 2 ^ 32 → written (body_texts true pairs) ≤ written (body true pairs) + 34
+body_same : (pairs : List Pair) → length pairs < 2 ^ 32 → written (body_texts true pairs) ≤ written (body true pairs) + 34
 body_same pairs small =
     let end = number (size (body true pairs)) in
     omega (
       arith,
       written-append (body true pairs) (end ∷ []),
       written_cons end [],
-      count_most (size (body true pairs)) (omega (arith, small, many_most pairs, length-values pairs)),
+      count_most (size (body true pairs)) (omega (arith, small, length-values pairs)),
     )
 
--- an entry takes at most 170 bytes more than are told for its pairs
-entry_bytes : (key id : Id) (same : Bool) (pairs : List Pair) → sum_by pair_bytes pairs < 2 ^ 32 → written (entry_texts key id same pairs) ≤ sum_by pair_bytes pairs + 170
-entry_bytes key id true pairs small =
-    omega (arith, written-append (start_texts key id true) (body_texts true pairs), start_most key id true, body_same pairs small, fields_and_values pairs)
+-- an entry takes at most 170 bytes more than its fields and values
+entry_bytes : (key id : Id) (same : Bool) (pairs : List Pair) → length pairs < 2 ^ 32 → written (entry_texts key id same pairs) ≤ parts_bytes pairs + 170
+entry_bytes key id true pairs small = omega (arith, written-append (start_texts key id true) (body_texts true pairs), start_most key id true, body_same pairs small)
 entry_bytes key id false pairs small =
     omega (arith, written-append (start_texts key id false) (body_texts false pairs), start_most key id false, body_own pairs small)
 
--- the head of a new node takes at most 136 bytes more than its fields
-head_bytes : (pairs : List Pair) → sum_by pair_bytes pairs < 2 ^ 32 → written (head_texts pairs) ≤ written (fields_of pairs) + 136
+-- the head of a new node takes at most 136 bytes more than its fields, and no fewer than they
+head_bytes : (pairs : List Pair) → length pairs < 2 ^ 32 → (written (head_texts pairs) ≤ written (fields_of pairs) + 136) × (written (fields_of pairs) ≤ written (head_texts pairs))
 head_bytes pairs small =
     let many = number (length pairs) in
     let rest : Texts = fields_of pairs ++ number 0 ∷ [] in
-    omega (
-      arith,
-      written_cons (number 1) (number 0 ∷ many ∷ rest),
-      written_cons (number 0) (many ∷ rest),
-      written_cons many rest,
-      written-append (fields_of pairs) (number 0 ∷ []),
-      written_cons (number 0) [],
-      count_most 0 (omega arith),
-      count_most 1 (omega arith),
-      count_most (length pairs) (omega (arith, small, many_most pairs)),
+    let one = written_cons (number 1) (number 0 ∷ many ∷ rest) in
+    let two = written_cons (number 0) (many ∷ rest) in
+    let three = written_cons many rest in
+    let four = written-append (fields_of pairs) (number 0 ∷ []) in (
+      omega (arith, one, two, three, four, written_cons (number 0) [], count_most 0 (omega arith), count_most 1 (omega arith), count_most (length pairs) (omega (arith, small))),
+      omega (arith, one, two, three, four),
     )
 
--- what an entry puts behind the elements takes at most 400 bytes more than are told for its pairs
-added_most : (key id : Id) (list : Texts) (pairs : List Pair) → sum_by pair_bytes pairs < 2 ^ 32 → written (added key list id pairs) ≤ sum_by pair_bytes pairs + 400
-added_most key id [] pairs small =
+-- what an entry puts behind the elements takes at most 400 bytes more than its fields and values
+added_parts : (key id : Id) (list : Texts) (pairs : List Pair) → length pairs < 2 ^ 32 → written (added key list id pairs) ≤ parts_bytes pairs + 400
+added_parts key id [] pairs small =
     omega (
       arith,
       written-append (head_texts pairs) (entry_texts key id true pairs),
       written-append (start_texts key id true) (body_texts true pairs),
-      head_bytes pairs small,
+      (head_bytes pairs small).0,
       start_most key id true,
       body_same pairs small,
-      fields_and_values pairs,
     )
-added_most key id (x ∷ list) pairs small = omega (arith, entry_bytes key id (same_texts (fields_of pairs) (fields_in (x ∷ list))) pairs small)
+added_parts key id (x ∷ list) pairs small = omega (arith, entry_bytes key id (same_texts (fields_of pairs) (fields_in (x ∷ list))) pairs small)
+
+added_most : (key id : Id) (list : Texts) (pairs : List Pair) → sum_by pair_bytes pairs < 2 ^ 32 → written (added key list id pairs) ≤ sum_by pair_bytes pairs + 400
+added_most key id list pairs small = omega (arith, added_parts key id list pairs (omega (arith, small, many_most pairs)), fields_and_values pairs)
 
 -- an element in the place of another
 set_most : (ss : Texts) (i : ℕ) (s : List ℕ) → length (entries (slice_set ss i s)) ≤ length (entries ss) + length (entry_of s)
@@ -215,21 +221,59 @@ set_most [] i s = omega arith
 set_most (x ∷ ss) zero s = omega (arith, length-append (entry_of s) (entries ss), length-append (entry_of x) (entries ss))
 set_most (x ∷ ss) (suc i) s = omega (arith, set_most ss i s, length-append (entry_of x) (entries (slice_set ss i s)), length-append (entry_of x) (entries ss))
 
--- a listpack with room by the bytes told for an entry stays below 2^32 bytes with the entry put in
-append_room : (key id : Id) (pack : List ℕ) (pairs : List Pair) → IsPack pack → IsRoomy pack pairs → pack_len (appended key pack id pairs) < 2 ^ 32
-append_room key id pack pairs p room =
+-- a listpack with an entry put in has no more bytes than are told for that
+append_most : (key id : Id) (pack : List ℕ) (pairs : List Pair) → IsPack pack → most_bytes pairs < 2 ^ 32 → pack_len (appended key pack id pairs) ≤ length pack + most_bytes pairs
+append_most key id pack pairs p few =
     let ss = spellings_of pack in
     let list = texts pack in
     let n : ℕ = count (element list 0) + 1 in
     omega (
       arith,
-      room,
+      few,
       length-pack pack p,
       written_end (slice_set ss 0 (spelling (number n))) (added key list id pairs),
       set_most ss 0 (spelling (number n)),
       count_most n (omega (arith, read_small (element list 0))),
-      added_most key id list pairs (omega (arith, room)),
+      added_most key id list pairs (omega (arith, few)),
     )
+
+-- the bytes of an entry alone in a node
+alone_is : (id : Id) (pairs : List Pair) → alone_len id pairs ≡ 7 + (written (head_texts pairs) + written (entry_texts id id true pairs))
+alone_is id pairs = ap (λ n. 7 + n) (written-append (head_texts pairs) (entry_texts id id true pairs))
+
+alone_most : (id : Id) (pairs : List Pair) → most_bytes pairs < 2 ^ 32 → alone_len id pairs ≤ 7 + most_bytes pairs
+alone_most id pairs few = omega (arith, added_most id id [] pairs (omega (arith, few)))
+
+first_alone : (id : Id) (pack : List ℕ) (pairs : List Pair) → texts pack ≡ [] → pack_len (appended id pack id pairs) ≡ alone_len id pairs
+first_alone id pack pairs none = ap pack_len (first_is id id pack pairs none)
+
+-- an entry behind others takes at most 440 bytes more than it takes alone
+behind_alone : (key id : Id) (pack : List ℕ) (pairs : List Pair) → IsPack pack → alone_len id pairs < 2 ^ 32 → pack_len (appended key pack id pairs) ≤ length pack + 440 + alone_len id pairs
+behind_alone key id pack pairs p small =
+    let ss = spellings_of pack in
+    let list = texts pack in
+    let n : ℕ = count (element list 0) + 1 in
+    let whole = alone_is id pairs in
+    let own = written-append (start_texts id id true) (body_texts true pairs) in
+    let values = written-append (body true pairs) (number (size (body true pairs)) ∷ []) in
+    let few : length pairs ≤ written (body true pairs) = omega (arith, few_written (body true pairs) (omega (arith, small, whole, own, values)), length-values pairs) in
+    let many : length pairs < 2 ^ 32 = omega (arith, few, small, whole, own, values) in
+    omega (
+      arith,
+      whole,
+      own,
+      values,
+      (head_bytes pairs many).1,
+      length-pack pack p,
+      written_end (slice_set ss 0 (spelling (number n))) (added key list id pairs),
+      set_most ss 0 (spelling (number n)),
+      count_most n (omega (arith, read_small (element list 0))),
+      added_parts key id list pairs many,
+    )
+
+-- with room for it, the listpack stays below 2^32 bytes
+append_room : (key id : Id) (pack : List ℕ) (pairs : List Pair) → IsPack pack → IsRoomy pack pairs → pack_len (appended key pack id pairs) < 2 ^ 32
+append_room key id pack pairs p room = omega (arith, room, append_most key id pack pairs p (omega (arith, room)))
 
 -- a listpack with room for 192 bytes more stays below 2^32 bytes with an entry marked
 mark_room : (pack : List ℕ) (index : ℕ) → IsPack pack → length pack + 192 < 2 ^ 32 → pack_len (marked_spellings pack index) < 2 ^ 32
@@ -256,4 +300,4 @@ mark_room pack index p room =
 
 -- the bytes told for an entry and for a mark are enough
 pub room_enough : RoomEnough
-room_enough = record { append = append_room; mark = mark_room }
+room_enough = record { append = append_room; alone = alone_most; first = first_alone; behind = behind_alone; mark = mark_room; kept = mark_weight; appends = append_written; marks = mark_written }

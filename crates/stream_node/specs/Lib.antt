@@ -2,6 +2,7 @@ pub mod Appended
 pub mod Entries
 pub mod Entry
 pub mod Faults
+pub mod Ids
 pub mod Marked
 pub mod Next
 pub mod Node

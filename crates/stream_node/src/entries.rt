@@ -1,5 +1,6 @@
 // The walk over a node's entries.
 
+ghost use Rattle.std.specs.Prelude.{◌≡◌, length};
 ghost use Rattle.stream_node.specs.Walk.{IsWalk};
 
 use crate::entry::Entry;
@@ -49,5 +50,16 @@ impl<'a> Iterator for Entries<'a> {
 
     fn size_hint(&self) -> (usize, Option<usize>) {
         (self.left, Some(self.left))
+    }
+}
+
+impl<'a> Entries<'a> {
+    ghost use Rattle.stream_node.specs.Views.{left_of};
+
+    /// How many entries are left.
+    pub fn len(&self) -> usize
+        ensures { result ≡ length (left_of self.now) }
+    {
+        self.left
     }
 }

@@ -14,9 +14,11 @@ use crate::entry_pairs::EntryPairs;
 use crate::fault::NodeFault;
 use crate::head::Head;
 use crate::id::Id;
+use crate::pairs::Pairs;
 use crate::rest::Rest;
 use crate::start::Start;
-use listpack::Element;
+use listpack::{Element, Memory};
+use std::alloc::Global;
 
 /// An entry of a stream node.
 #[derive(Clone, Copy, Debug)]
@@ -117,5 +119,16 @@ impl<'a> Entry<'a> {
         ensures { pairs_left result ≡ (stored self.now).pairs }
     {
         EntryPairs { body: self.body }
+    }
+
+    /// The fields and values as bytes of their own.
+    pub fn to_pairs(&self, alloc: Global) -> Result<Pairs, Memory>
+        ensures { IfOk result (λ pairs. pairs ≡ (stored self.now).pairs) }
+    {
+        let mut pairs = Pairs::new(alloc);
+        for (field, value) in self.pairs() {
+            pairs.push_elements(&field, &value)?;
+        }
+        Ok(pairs)
     }
 }

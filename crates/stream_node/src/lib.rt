@@ -24,7 +24,7 @@ pub use entry::Entry;
 pub use entry_pairs::EntryPairs;
 pub use fault::NodeFault;
 pub use id::Id;
-pub use laws::{at_most_one, entries_are_read, rows};
+pub use laws::{at_most_one, entries_are_read, ids_are_ordered, rows};
 pub use listpack::Memory;
 pub use marking::mark_deleted;
 pub use node::{Node, check};

@@ -1,9 +1,11 @@
 // Fields and values that are to be written.
 
-ghost use Rattle.std.specs.Prelude.{◌≡◌, ◌↔◌, ◌<◌, ◌++◌, ◌∷◌, [], IsTrue, OnOk, OnErr, length};
+ghost use Rattle.std.specs.Prelude.{◌≡◌, ◌↔◌, ◌<◌, ◌++◌, ◌∷◌, [], IsTrue, IfOk, OnOk, OnErr, length};
+ghost use Rattle.listpack.specs.Element.{element_text};
 ghost use Rattle.stream_node.specs.Pairs.{pair_at};
 
-use listpack::Memory;
+use int_text::print;
+use listpack::{Element, Memory};
 use std::alloc::Global;
 use std::marker::Model;
 
@@ -13,7 +15,21 @@ struct OwnedPair {
     value: Vec<u8>,
 }
 
-/// The fields and values of an entry that is to be written, in order.
+// The text of an element, as bytes of their own.
+fn owned_text(alloc: Global, element: &Element) -> Result<Vec<u8>, Memory>
+    ensures { IfOk result (λ text. text.items ≡ element_text element.now) }
+{
+    match element {
+        Element::Text(part) => Vec::from_slice(alloc, part),
+        Element::Number(n) => {
+            let mut text = Vec::new(alloc);
+            print(*n, &mut text)?;
+            Ok(text)
+        }
+    }
+}
+
+/// The fields and values of an entry, in order.
 #[derive(Debug, Drop)]
 pub struct Pairs {
     alloc: Global,
@@ -46,6 +62,17 @@ impl Pairs {
     {
         let field = Vec::from_slice(self.alloc, field)?;
         let value = Vec::from_slice(self.alloc, value)?;
+        self.pairs.push(OwnedPair { field, value })?;
+        Ok(())
+    }
+
+    /// Puts the texts of a field and its value behind all others. `Memory` leaves all as before.
+    pub(crate) fn push_elements(&mut self, field: &Element, value: &Element) -> Result<(), Memory>
+        ensures ok { OnOk result (self.new ≡ self.old ++ (element_text field.now, element_text value.now) ∷ []) }
+        ensures memory { OnErr result (self.new ≡ self.old) }
+    {
+        let field = owned_text(self.alloc, field)?;
+        let value = owned_text(self.alloc, value)?;
         self.pairs.push(OwnedPair { field, value })?;
         Ok(())
     }

@@ -1,0 +1,26 @@
+//! Streams: entries by rising ids, in nodes that a packed tree names, with consumer groups beside them.
+#![tactic(auto)]
+
+mod clearing;
+mod fault;
+mod groups;
+mod growing;
+mod laws;
+mod looking;
+mod marks;
+mod node;
+mod nodes;
+mod removing;
+mod spot;
+mod stream;
+mod trimming;
+
+pub use fault::AddFault;
+pub use groups::{Pending, PendingEntry};
+pub use laws::stream_laws;
+pub use stream::Stream;
+pub use stream_groups::{Bytes, Owner};
+pub use stream_node::{Id, Pairs};
+
+/// Want of memory.
+pub type Memory = std::alloc::AllocError;

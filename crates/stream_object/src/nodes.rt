@@ -1,0 +1,118 @@
+// The nodes of a stream, each in a block that a tree names by the node's key.
+
+ghost use Rattle.std.specs.Prelude.{◌≡◌, ◌++◌, IfSome, IfNone, OnOk, OnErr};
+ghost use Rattle.std.specs.List.{AllByRecursion};
+ghost use Rattle.std.specs.Option.{option_map};
+ghost use Rattle.blocks.specs.Blocks.{Served};
+ghost use Rattle.rax_packed.specs.Maps.{entries_of, IsSound as rax_sound};
+ghost use Rattle.rax_packed.specs.Packed.{nearest};
+ghost use Rattle.stream_node.specs.Ids.{id_key};
+ghost use Rattle.stream_object.specs.Parts.{HasParts, parts_of};
+ghost use Rattle.stream_object.specs.Found.{IsNear, Misses, Stands, Comes, Becomes, Exchanges, part_at};
+
+use crate::Memory;
+use crate::spot::Spot;
+use blocks::{BlockRef, BlockStore, put_block};
+use rax_packed::PackedTree;
+use stream_node::Id;
+
+/// The least id.
+pub(crate) const LEAST: Id = Id { ms: 0, seq: 0 };
+
+/// The greatest id.
+pub(crate) const GREATEST: Id = Id {
+    ms: u64::MAX,
+    seq: u64::MAX,
+};
+
+// The key of a node that is the nearest to an id from the one side or the other.
+fn seek<B: BlockStore>(store: &B, tree: &PackedTree, id: Id, up: bool) -> Option<[u8; 16]>
+    requires { rax_sound (B.blocks store.now) tree.now }
+    ensures { result ≡ option_map (λ e. e.key) (nearest up (entries_of (B.blocks store.now) tree.now) (id_key id)) }
+{
+    let key = id.key();
+    if up {
+        tree.seek_at_or_after(store, &key)
+    } else {
+        tree.seek_at_or_before(store, &key)
+    }
+}
+
+/// The node whose key is the least that isn't below the id, or where `up` is false the greatest that isn't above it.
+pub(crate) fn near<'a, B: BlockStore>(
+    store: &'a B,
+    tree: &PackedTree,
+    id: Id,
+    up: bool,
+) -> Option<Spot<'a>>
+    requires parts { HasParts (B.blocks store.now) tree.now (parts_of (B.blocks store.now) tree.now) }
+    ensures some { IfSome result (λ spot. IsNear up (parts_of (B.blocks store.now) tree.now) id (part_at spot)) }
+    ensures none { IfNone result (AllByRecursion (Misses up id) (parts_of (B.blocks store.now) tree.now)) }
+{
+    let Some(key) = seek(store, tree, id, up) else {
+        return None;
+    };
+    match tree.find(store, &key) {
+        Some(at) => Some(Spot {
+            key: Id::of_key(&key),
+            at,
+            bytes: store.bytes(at),
+        }),
+        None => unreachable!(),
+    }
+}
+
+/// Places a node of these bytes behind all others. `Memory` leaves all as before.
+pub(crate) fn put_last<B: BlockStore>(
+    store: &mut B,
+    tree: &mut PackedTree,
+    key: Id,
+    bytes: &[u8],
+) -> Result<(), Memory>
+    requires parts { HasParts (B.blocks store.old) tree.old (parts_of (B.blocks store.old) tree.old) }
+    ensures placed { OnOk result (Comes (B.blocks store.old) (B.blocks store.new) tree.old tree.new key bytes.now) }
+    ensures served { Served B.step store.old store.new }
+    ensures err_tree { OnErr result (tree.new ≡ tree.old) }
+    ensures err_blocks { OnErr result (B.blocks store.new ≡ B.blocks store.old) }
+{
+    let at = put_block(store, bytes)?;
+    match tree.insert(store, &key.key(), at) {
+        Ok(_) => Ok(()),
+        Err(refused) => {
+            store.give_back(at);
+            Err(refused)
+        }
+    }
+}
+
+/// Places a block of these bytes for a node, in the place of the one that it has. `Memory` leaves all as before.
+pub(crate) fn replace<B: BlockStore>(
+    store: &mut B,
+    tree: &mut PackedTree,
+    key: Id,
+    was: BlockRef,
+    bytes: &[u8],
+) -> Result<(), Memory>
+    requires parts { HasParts (B.blocks store.old) tree.old (parts_of (B.blocks store.old) tree.old) }
+    requires stands { Stands (parts_of (B.blocks store.old) tree.old) key was }
+    ensures replaced { OnOk result (Becomes (B.blocks store.old) (B.blocks store.new) tree.old tree.new key was bytes.now) }
+    ensures served { Served B.step store.old store.new }
+    ensures err_tree { OnErr result (tree.new ≡ tree.old) }
+    ensures err_blocks { OnErr result (B.blocks store.new ≡ B.blocks store.old) }
+{
+    let at = put_block(store, bytes)?;
+    tree.set(store, &key.key(), at);
+    store.give_back(was);
+    Ok(())
+}
+
+/// Takes a node out, and gives its block back.
+pub(crate) fn drop_node<B: BlockStore>(store: &mut B, tree: &mut PackedTree, key: Id, was: BlockRef)
+    requires parts { HasParts (B.blocks store.old) tree.old (parts_of (B.blocks store.old) tree.old) }
+    requires stands { Stands (parts_of (B.blocks store.old) tree.old) key was }
+    ensures dropped { (s : Stands (parts_of (B.blocks store.old) tree.old) key was) → Exchanges (B.blocks store.old) (B.blocks store.new) tree.old tree.new (s.before ++ s.after) }
+    ensures served { Served B.step store.old store.new }
+{
+    tree.remove(store, &key.key());
+    store.give_back(was);
+}
