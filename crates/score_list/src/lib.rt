@@ -6,8 +6,6 @@ mod edits;
 mod probes;
 mod scores;
 mod search;
-#[cfg(test)]
-mod tests;
 mod towers;
 
 pub use cursor::Cursor;

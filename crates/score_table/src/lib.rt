@@ -9,8 +9,6 @@ mod relocating;
 mod removing;
 mod setting;
 mod table;
-#[cfg(test)]
-mod tests;
 
 pub use blocks::Memory;
 pub use laws::score_table_laws;

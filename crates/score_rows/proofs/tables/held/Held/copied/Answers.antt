@@ -4,7 +4,7 @@ use Rattle.blocks.specs.Plain.{plain_blocks}
 use Rattle.score_table.specs.Scored.{IsScoreTable, refs}
 use Rattle.score_table.proofs.Copies.{new_kept, old_owned}
 use Rattle.score_table.proofs.Depends.{score_table_laws_hold}
-use Rattle.score_table.proofs.tests.Held.copied.Goals as goal
+use Rattle.score_rows.proofs.tables.held.Held.copied.Goals as goal
 
 pub invariant_of-self-2 : goal.invariant_of-self-2
 invariant_of-self-2 c =
