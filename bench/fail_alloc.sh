@@ -1,12 +1,12 @@
 #!/usr/bin/env bash
 # Refuses memory in a run of twenty commands on strings: each call of malloc or realloc in turn, one a run. Each run must end
-# with all replies, or with status 8 behind a whole reply and with its line, as the test that serves it says. Prints how
-# each ended, and fails at the first that ended otherwise.
-# usage: bench/fail_alloc.sh, behind (cd crates/redis_core_cli && rt test); it wants a compiler of C
+# with all replies, or with status 8 behind a whole reply and with its line. Prints how each ended, and fails at the first
+# that ended otherwise.
+# usage: bench/fail_alloc.sh, behind (cd crates/top_rows && rt run < stdin); it wants a compiler of C
 set -euo pipefail
 cd "$(dirname "$0")/.."
-program=crates/redis_core_cli/out/redis_core_cli_tests
-[ -x "$program" ] || { echo "build it first: cd crates/redis_core_cli && rt test"; exit 2; }
+program=crates/top_rows/out/top_rows
+[ -x "$program" ] || { echo "build it first: cd crates/top_rows && rt run < stdin"; exit 2; }
 room=$(mktemp -d)
 trap 'rm -rf "$room"' EXIT
 # stands before the C library, and refuses the call whose number is FAIL_ALLOC, counted from 1
@@ -39,14 +39,24 @@ void *realloc(void *place, size_t size) {
     return refuses() ? NULL : real(place, size);
 }
 C
+# the rows of the case that has values in blocks
+awk '/^case / { on = /^case all kinds of commands/ } on' crates/top_rows/stdin > "$room/rows"
 number=0
 while true; do
   number=$((number + 1))
+  status=0
   timeout 60 env FAIL_ALLOC="$number" LD_PRELOAD="$room/refuse.so" \
-    "$program" string_tests::whole_replies_for_want_of_memory > "$room/out" 2> "$room/notes" \
-    || { echo "$number: the test failed"; cat "$room/out" "$room/notes"; exit 1; }
+    "$program" < "$room/rows" > "$room/out" 2> "$room/notes" || status=$?
+  said=$(grep '^run = ' "$room/out" || true)
+  case "$said" in
+    'run = 0 [] as wanted') ;;
+    'run = 8 [redis-core: out of memory\n] as wanted') ;;
+    'run = 8 [redis-core: out of memory\n] '[0-9]*' of 20 replies') ;;
+    # it wants for the program's own bytes, and nothing was served
+    '') [ "$status" -eq 1 ] || { echo "$number: the program ended with $status"; exit 1; } ;;
+    *) echo "$number: $said"; exit 1 ;;
+  esac
   grep -q '^refused$' "$room/notes" || break
-  said=$(grep '^status' "$room/out" || true)
   echo "$number: ${said:-nothing was served}"
 done
-echo "all $((number - 1)) allocations were refused in turn; with none refused: $(grep '^status' "$room/out")"
+echo "all $((number - 1)) allocations were refused in turn; with none refused: $said"

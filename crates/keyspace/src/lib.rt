@@ -6,8 +6,6 @@ mod deadlines;
 mod edit;
 mod kind;
 mod look;
-#[cfg(test)]
-mod tests;
 mod value;
 
 pub use deadlines::{deadline_at, expire_sought, persist_sought, seek};

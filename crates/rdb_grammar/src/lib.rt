@@ -18,8 +18,5 @@ pub use next::{Item, next_item};
 pub use strings::Chunk;
 pub use values::FileValue;
 
-#[cfg(test)]
-mod tests;
-
 /// Memory was refused.
 pub type Memory = std::alloc::AllocError;

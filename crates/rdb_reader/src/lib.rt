@@ -6,8 +6,6 @@ mod fetch;
 mod items;
 mod keys;
 mod loading;
-#[cfg(test)]
-mod tests;
 
 pub use fault::LoadFault;
 pub use loading::{Loaded, load};

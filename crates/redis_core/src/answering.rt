@@ -47,7 +47,7 @@ pub enum Own {
 }
 
 // The command as one that the engine answers itself, if it is one.
-fn own_of(command: &Command) -> Option<Own>
+fn own_of(command: &Command<'_>) -> Option<Own>
     ensures some { IfSome result (λ own. command.now ≡ Connection (own_command own)) }
     ensures none { IfNone result (IsCommon command.now) }
 {
@@ -61,7 +61,7 @@ fn own_of(command: &Command) -> Option<Own>
 }
 
 // Whether a command ends the run.
-fn ends_run(command: &Command) -> bool
+fn ends_run(command: &Command<'_>) -> bool
     ensures { result ≡ is_quit command.now }
 {
     matches!(command, Command::Connection(ConnectionCommand::Quit))
@@ -71,7 +71,7 @@ fn ends_run(command: &Command) -> bool
 fn run_family<B: BlockStore>(
     keyspace: &mut Keyspace<B>,
     at: &Ctx,
-    command: &Command,
+    command: &Command<'_>,
     dice: &mut Pcg32,
 ) -> Result<Reply, Memory>
     requires ready { Ready B.blocks keyspace.old at.now }
@@ -86,8 +86,8 @@ fn run_family<B: BlockStore>(
     }
 }
 
-/// Whether a reply is an error.
-pub fn is_refusal(reply: &Reply) -> bool
+// Whether a reply is an error.
+fn is_refusal(reply: &Reply) -> bool
     ensures refused { IsTrue result → IsRefusal reply.now }
     ensures calm { IsFalse result → IsRefusal reply.now → ⊥ }
 {
@@ -102,7 +102,7 @@ pub fn is_refusal(reply: &Reply) -> bool
 fn run_settled<B: BlockStore>(
     keyspace: &mut Keyspace<B>,
     at: &Ctx,
-    command: &Command,
+    command: &Command<'_>,
     dice: &mut Pcg32,
 ) -> Result<Reply, Memory>
     requires ready { Ready B.blocks keyspace.old at.now }
@@ -151,8 +151,8 @@ fn debug_defrag<B: BlockStore>(
     }
 }
 
-/// What a reply leads to.
-pub fn replied(
+// What a reply leads to.
+fn replied(
     reply: Result<Reply, Memory>,
     selected: usize,
     quit: bool,
@@ -174,7 +174,7 @@ fn run<B: BlockStore>(
     keyspace: &mut Keyspace<B>,
     walk: &mut Option<Walk>,
     at: &Ctx,
-    command: &Command,
+    command: &Command<'_>,
     dice: &mut Pcg32,
 ) -> Result<Answered, Memory>
     requires ready { Ready B.blocks keyspace.old at.now }
@@ -198,9 +198,9 @@ fn run<B: BlockStore>(
     }
 }
 
-/// Answers any request: reads its words, and runs the command that they mean. Random picks are drawn from the dice, and DEBUG
+/// Answers a request: reads its words, and runs the command that they mean. Random picks are drawn from the dice, and DEBUG
 /// DEFRAG makes steps of the walk.
-pub fn answer_any<B: BlockStore>(
+pub fn answer<B: BlockStore>(
     keyspace: &mut Keyspace<B>,
     walk: &mut Option<Walk>,
     at: &Ctx,

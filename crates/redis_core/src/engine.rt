@@ -17,8 +17,8 @@ ghost use Rattle.redis_core.specs.Touched.{AsksNoMoves};
 ghost use Rattle.redis_core.specs.Walking.{IsTidy, HasLeastSlabs, EndsPass};
 ghost use Rattle.redis_core.specs.declared.background.StepsDone.{StepsDone};
 
+use crate::answering::answer;
 use crate::background::{StepsDone, work};
-use crate::short::answer;
 use blocks::BlockStore;
 use defrag::Walk;
 use keyspace::Keyspace;

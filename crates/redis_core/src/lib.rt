@@ -4,17 +4,8 @@
 mod answering;
 mod background;
 mod engine;
-#[cfg(test)]
-mod key_tests;
 mod laws;
-#[cfg(test)]
-mod scan_tests;
 mod settling;
-mod short;
-#[cfg(test)]
-mod test_talk;
-#[cfg(test)]
-mod tests;
 
 pub use background::StepsDone;
 pub use engine::Engine;

@@ -24,7 +24,7 @@ pub enum Touched {
     All,
 }
 
-fn touched_by_strings(command: &StringCommand, db: usize) -> Touched
+fn touched_by_strings(command: &StringCommand<'_>, db: usize) -> Touched
     ensures { result ≡ touched.string_touched db command.now }
 {
     match command {
@@ -60,7 +60,7 @@ fn number_of(db: usize, number: Option<usize>) -> usize
     }
 }
 
-fn touched_by_keys(command: &KeyCommand, db: usize) -> Touched
+fn touched_by_keys(command: &KeyCommand<'_>, db: usize) -> Touched
     ensures { result ≡ touched.key_touched db command.now }
 {
     match command {
@@ -89,7 +89,7 @@ fn touched_by_keys(command: &KeyCommand, db: usize) -> Touched
     }
 }
 
-fn touched_by_connection(command: &ConnectionCommand, db: usize) -> Touched
+fn touched_by_connection(command: &ConnectionCommand<'_>, db: usize) -> Touched
     ensures { result ≡ touched.connection_touched db command.now }
 {
     match command {
@@ -107,7 +107,7 @@ fn touched_by_connection(command: &ConnectionCommand, db: usize) -> Touched
 }
 
 /// The databases that a command may change, where this one is selected.
-pub fn touched_by(command: &Command, db: usize) -> Touched
+pub fn touched_by(command: &Command<'_>, db: usize) -> Touched
     ensures { result ≡ touched.touched_of db command.now }
 {
     match command {

@@ -11,8 +11,6 @@ mod request;
 mod rule;
 mod span;
 mod spelling;
-#[cfg(test)]
-mod tests;
 mod whole;
 
 pub use fault_lines::put_fault;

@@ -7,8 +7,6 @@ mod pending;
 mod pieces;
 mod server;
 mod short;
-#[cfg(test)]
-mod tests;
 mod writing;
 
 pub use answering::moment_of;

@@ -1,0 +1,84 @@
+//! Requests on one engine, one after the other.
+
+use blocks::PlainStore;
+use object_codec::Limits;
+use outside::{MemHost, MemSink, Plan};
+use plain_model::{Memory, Reply};
+use redis_core::{Engine, refusals_change_nothing};
+use resp_frames::{Feeder, spell};
+use row_text::shown;
+use std::alloc::Global;
+
+/// An engine without a key.
+pub fn begun(alloc: Global) -> Result<Engine<PlainStore>, Memory> {
+    Engine::new(alloc, PlainStore::new(alloc), Limits::default(), 7)
+}
+
+/// An engine with the keys of a file of these bytes, and what loading it answered.
+pub fn loaded(
+    alloc: Global,
+    bytes: &[u8],
+    limit: u64,
+    moment: u64,
+) -> Result<(Engine<PlainStore>, String), Memory> {
+    let names = vec![in alloc; String::from_str(alloc, "f")?]?;
+    let files = vec![in alloc; Vec::from_slice(alloc, bytes)?]?;
+    let mut host = MemHost::new(names, files, Vec::new(alloc));
+    refusals_change_nothing();
+    let store = PlainStore::new(alloc);
+    let mut engine = Engine::new(alloc, store, Limits::default(), 7)?;
+    let answer = engine.load(&mut host, "f", limit, moment);
+    let text = format!(in alloc; "{answer:?}")?;
+    Ok((engine, text))
+}
+
+/// The reply to a request, and whether it ends the run; none where the bytes are no whole request.
+pub fn ask(
+    alloc: Global,
+    engine: &mut Engine<PlainStore>,
+    request: &[u8],
+    moment: u64,
+) -> Result<Option<(Reply, bool)>, Memory> {
+    if request.len() > 1000 {
+        return Ok(None);
+    }
+    let mut feeder = Feeder::new(alloc);
+    feeder.feed(request)?;
+    match feeder.next_request() {
+        Ok(true) => {
+            let done = engine.execute(&feeder.current(), moment)?;
+            Ok(Some((done.reply, done.quit)))
+        }
+        _ => Ok(None),
+    }
+}
+
+/// The bytes of the reply to a request.
+pub fn asked(
+    alloc: Global,
+    engine: &mut Engine<PlainStore>,
+    request: &[u8],
+    moment: u64,
+) -> Result<String, Memory> {
+    match ask(alloc, engine, request, moment)? {
+        Some((reply, quits)) => {
+            let mut sink = MemSink::new(vec![in alloc; 0; 200]?, Vec::new(alloc));
+            let fits = spell(&reply, &mut sink).is_ok();
+            let told = shown(alloc, sink.written())?;
+            let end = if quits { " and the end" } else { "" };
+            format!(in alloc; "{told}{end}{}", if fits { "" } else { ".." })
+        }
+        None => String::from_str(alloc, "no request"),
+    }
+}
+
+/// What is done of a plan.
+pub fn planned(
+    alloc: Global,
+    engine: &mut Engine<PlainStore>,
+    plan: Plan,
+    moment: u64,
+) -> Result<String, Memory> {
+    let done = engine.background(plan, moment);
+    format!(in alloc; "{} {} {}", done.rehash, done.defrag, done.expired)
+}
