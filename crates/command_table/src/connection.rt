@@ -10,8 +10,8 @@ ghost use Rattle.command_table.specs.Readings.{Tells, TellsAs, ReadsAs};
 ghost use Rattle.command_table.specs.Rows.{connection_name};
 
 use crate::ReadingFault;
-use crate::options::read_options;
 use crate::kinds::{WRONG_NUMBER, alone, one};
+use crate::options::read_options;
 use crate::table::ConnectionName;
 use crate::words::{database, is_word, plain, steps};
 use plain_model::{ConnectionCommand, Refusal};

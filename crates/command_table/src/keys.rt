@@ -11,10 +11,8 @@ ghost use Rattle.command_table.specs.Rows.{key_name};
 
 use crate::ReadingFault;
 use crate::key_options::{clash, no_copy_options, no_expire_options, no_scan_options};
+use crate::kinds::{WRONG_NUMBER, alone, one, one_and_database, two, two_and_options, words};
 use crate::options::read_options;
-use crate::kinds::{
-    WRONG_NUMBER, alone, one, one_and_database, two, two_and_options, words,
-};
 use crate::table::KeyName;
 use crate::words::{cursor, is_word, number, plain};
 use plain_model::{ExpireOptions, KeyCommand, Refusal, Word};

@@ -73,9 +73,7 @@ pub fn one_and_numbers<'r>(request: &'r Request<'_>) -> Result<(Word<'r>, i64, i
 }
 
 /// Just a word, a time above 0 and a word.
-pub fn one_span_one<'r>(
-    request: &'r Request<'_>,
-) -> Result<(Word<'r>, i64, Word<'r>), ReadingFault>
+pub fn one_span_one<'r>(request: &'r Request<'_>) -> Result<(Word<'r>, i64, Word<'r>), ReadingFault>
     requires { 0 < length request.now }
     ensures { TellsAs (λ a. (a.0, (a.1, (a.2, tt)))) (just (Plain ∷ Span ∷ Plain ∷ []) request.now) result }
 {

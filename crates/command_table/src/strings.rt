@@ -72,11 +72,7 @@ fn set_range<'r>(request: &'r Request<'_>) -> Result<StringCommand<'r>, ReadingF
     if !ends_within(at, request.word(3)) {
         return Err(ReadingFault::Refused(Refusal::ValueOutOfRange));
     }
-    Ok(StringCommand::SetRange(
-        plain(request, 1),
-        at,
-        plain(request, 3),
-    ))
+    Ok(StringCommand::SetRange(plain(request, 1), at, plain(request, 3)))
 }
 
 // DECRBY: a key and a number that has an opposite one.

@@ -148,10 +148,7 @@ const OF_8: [Row; 5] = [
     Row(b"setrange", Strings(SetRange)),
     Row(b"expireat", Keys(KeyName::ExpireAt)),
     Row(b"renamenx", Keys(KeyName::RenameNx)),
-    Row(
-        b"flushall",
-        Connection(ConnectionName::FlushAll),
-    ),
+    Row(b"flushall", Connection(ConnectionName::FlushAll)),
 ];
 
 const OF_9: [Row; 2] = [

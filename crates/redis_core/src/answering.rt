@@ -152,11 +152,7 @@ fn debug_defrag<B: BlockStore>(
 }
 
 // What a reply leads to.
-fn replied(
-    reply: Result<Reply, Memory>,
-    selected: usize,
-    quit: bool,
-) -> Result<Answered, Memory>
+fn replied(reply: Result<Reply, Memory>, selected: usize, quit: bool) -> Result<Answered, Memory>
     ensures { result ≡ answered_with selected quit reply }
 {
     match reply {

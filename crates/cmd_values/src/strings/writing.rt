@@ -355,7 +355,11 @@ pub fn getdel<B: BlockStore>(
 }
 
 // Whether something stands at one of the keys.
-fn is_any_there<B: BlockStore>(keyspace: &Keyspace<B>, at: &Ctx, pairs: &[(Word<'_>, Word<'_>)]) -> bool
+fn is_any_there<B: BlockStore>(
+    keyspace: &Keyspace<B>,
+    at: &Ctx,
+    pairs: &[(Word<'_>, Word<'_>)],
+) -> bool
     requires ready { Ready B.blocks keyspace.now at.now }
     ensures { result ≡ any_there (sight B.blocks keyspace.now at.now) pairs.now }
 {
