@@ -1,18 +1,27 @@
 -- How commands leave the encodings of values (Redis command reference, "OBJECT ENCODING").
-use Rattle.std.specs.Prelude.{◌≡◌, ℕ, List, Some, is_some, if◌then◌else◌}
+use Rattle.std.specs.Prelude.{◌≡◌, ◌⊎◌, ℕ, List, [], ◌∷◌, length, drop, Bool, true, false, Option, None, Some, is_some, bytes_eq, if◌then◌else◌}
 use Rattle.blocks.specs.Blocks.{Blocks}
-use Rattle.plain_world.specs.Worlds.{World, look}
+use Rattle.plain_world.specs.Worlds.{World, Entry, look}
 use Rattle.plain_model.specs.declared.command.Command.{Command}
-use Rattle.plain_model.specs.declared.command.Command.TheVariants.{Strings, Keys, Connection}
+use Rattle.plain_model.specs.declared.command.Command.TheVariants.{Strings, Lists, Keys, Connection}
 use Rattle.plain_model.specs.declared.command.StringCommand.{StringCommand}
 use Rattle.plain_model.specs.declared.command.StringCommand.TheVariants as strings
+use Rattle.plain_model.specs.declared.list_command.ListCommand.{ListCommand}
+use Rattle.plain_model.specs.declared.list_command.ListCommand.TheVariants as lists
 use Rattle.plain_model.specs.declared.keys.KeyCommand.{KeyCommand}
 use Rattle.plain_model.specs.declared.keys.KeyCommand.TheVariants as keys
+use Rattle.plain_model.specs.OfType.{list_in}
+use Rattle.plain_model.specs.ListSteps.{Elements, or_none, added, from_end, place_of, replaced, inserted_beside}
+use Rattle.plain_model.specs.declared.list_command.ListEnd.{ListEnd}
+use Rattle.plain_model.specs.declared.list_command.ListEnd.TheVariants.{Head, Tail}
+use Rattle.object_codec.specs.Forms.{IsLeast, IsLeastFrom, FitsList}
+use Rattle.object_codec.specs.declared.form.Form as codec
+use Rattle.quicklist.specs.Nodes.{pack_len}
 use Rattle.held.specs.Calls.{HasValue}
 use Rattle.held.specs.Table.{Element, item}
 use Rattle.held.specs.Written as held
 use Rattle.keyspace.specs.Databases.{Bases, Keyspace, table_at}
-use Rattle.keyspace.specs.Values.{value_refs, IsWhole, IsRaw, IsLike}
+use Rattle.keyspace.specs.Values.{value_refs, encoding_of, OfForm, IsWhole, IsRaw, IsLike}
 use Rattle.keyspace.specs.declared.value.Value.{Value}
 
 -- every value is encoded as one written whole
@@ -20,13 +29,31 @@ abbrev pub AreWhole : Bases → Type 0
 AreWhole bases =
     (db at : ℕ) (element : Element Value) → item (table_at bases db) at ≡ Some element → IsWhole element.value
 
--- how a value is encoded that a command writes: as one written whole, as one of which a part was changed, or as the
--- value that stood at a key of a database; or no value is written
+-- the form of the list that stands at a key, or of a new one where nothing stands there
+abbrev pub IsFormAt : Bool → Bases → Blocks → ℕ → List ℕ → codec.Form → Type 0
+IsFormAt true old m db key form =
+    (source : Value) × HasValue old m db key source × (encoding_of source ≡ OfForm form)
+IsFormAt false old m db key form = IsLeast (FitsList 7) form
+
+-- A list that takes so many bytes as one listpack has the least form that fits, and not one below that of what stood at
+-- the key, or of a new one.
+pub record IsRisenAt (there : Bool) (long db : ℕ) (key : List ℕ) (old : Bases) (m : Blocks) (value : Value) : Type 0 where
+  pub from : codec.Form
+  pub form : codec.Form
+  pub at : IsFormAt there old m db key from
+  pub is : encoding_of value ≡ OfForm form
+  pub risen : IsLeastFrom from (FitsList long) form
+
+-- how a value is encoded that a command writes: as one written whole, as one of which a part was changed, as the value
+-- that stood at a key of a database, or as the list that stood there, or a new one, to which was written; or in either
+-- of two ways; or no value is written
 pub data Form : Type 0 where
   Unwritten : Form
   Whole : Form
   Raw : Form
   AsAt : ℕ → List ℕ → Form
+  Risen : Bool → ℕ → ℕ → List ℕ → Form
+  Either : Form → Form → Form
 
 -- a value has a form, where these databases stood before
 abbrev pub HasForm : Form → Bases → Blocks → Value → Type 0
@@ -34,6 +61,8 @@ HasForm Unwritten old m value = ⊥
 HasForm Whole old m value = IsWhole value
 HasForm Raw old m value = IsRaw value
 HasForm (AsAt db key) old m value = (source : Value) × HasValue old m db key source × IsLike source value
+HasForm (Risen there long db key) old m value = IsRisenAt there long db key old m value
+HasForm (Either form other) old m value = HasForm form old m value ⊎ HasForm other old m value
 
 -- Each element stood there before, with its key and its value as they were, or its value has this form.
 abbrev pub Forms : Form → Bases → Bases → Blocks → Blocks → Type 0
@@ -60,6 +89,52 @@ string_form world (strings.IncrBy key n) = Whole
 string_form world (strings.DecrBy key n) = Whole
 string_form world other = Unwritten
 
+-- the list that stands at a key, without an element where none does
+abbrev pub list_of : Option Entry → Elements
+list_of None = []
+list_of (Some entry) = or_none (list_in entry.value)
+
+abbrev pub list_at : World → List ℕ → Elements
+list_at world key = list_of (look world key)
+
+-- the list at a key, or a new one, becomes this one by elements that are written
+abbrev pub risen_to : ℕ → World → List ℕ → Elements → Form
+risen_to db world key list = Risen (is_some (look world key)) (pack_len list) db key
+
+abbrev pub set_to : ℕ → World → List ℕ → List ℕ → Option ℕ → Form
+set_to db world key element None = Unwritten
+set_to db world key element (Some n) = risen_to db world key (replaced (list_at world key) n element)
+
+abbrev pub inserted_to : ℕ → World → List ℕ → Option Elements → Form
+inserted_to db world key None = Unwritten
+inserted_to db world key (Some list) = risen_to db world key list
+
+-- an element that was taken off a list is written to another one, or to the same one
+abbrev pub moved_to : ℕ → World → List ℕ → List ℕ → ListEnd → ListEnd → Elements → Form
+moved_to db world from to end other [] = Unwritten
+moved_to db world from to end other (element ∷ met) =
+    let rest = if bytes_eq from to then from_end end met else list_at world to in
+    Either (AsAt db from) (risen_to db world to (added other rest (element ∷ [])))
+
+-- what is put into a list is written element by element, and what is left of one keeps its form
+abbrev pub list_form : ℕ → World → ListCommand → Form
+list_form db world (lists.LPush key elements) = risen_to db world key (added Head (list_at world key) elements)
+list_form db world (lists.RPush key elements) = risen_to db world key (added Tail (list_at world key) elements)
+list_form db world (lists.LPushX key elements) = risen_to db world key (added Head (list_at world key) elements)
+list_form db world (lists.RPushX key elements) = risen_to db world key (added Tail (list_at world key) elements)
+list_form db world (lists.LPop key n) = AsAt db key
+list_form db world (lists.RPop key n) = AsAt db key
+list_form db world (lists.LSet key index element) =
+    set_to db world key element (place_of (length (list_at world key)) index)
+list_form db world (lists.LTrim key a b) = AsAt db key
+list_form db world (lists.LInsert key side pivot element) =
+    inserted_to db world key (inserted_beside side pivot element (list_at world key))
+list_form db world (lists.LRem key n element) = AsAt db key
+list_form db world (lists.LMove from to end other) =
+    moved_to db world from to end other (from_end end (list_at world from))
+list_form db world (lists.RPopLPush from to) = moved_to db world from to Tail Head (from_end Tail (list_at world from))
+list_form db world other = Unwritten
+
 -- what is copied or moved is encoded as before
 abbrev pub key_form : ℕ → KeyCommand → Form
 key_form db (keys.Rename from to) = AsAt db from
@@ -71,5 +146,6 @@ key_form db other = Unwritten
 -- the form of what a command writes in a world, where this database is selected
 abbrev pub form_of : ℕ → World → Command → Form
 form_of db world (Strings command) = string_form world command
+form_of db world (Lists command) = list_form db world command
 form_of db world (Keys command) = key_form db command
 form_of db world (Connection command) = Unwritten

@@ -3,9 +3,11 @@ use Rattle.std.specs.Prelude.{ℕ, List, map, Option, Some, None}
 use Rattle.blocks.specs.Blocks.{Blocks}
 use Rattle.held.specs.Scopes as held
 use Rattle.plain_model.specs.declared.command.Command.{Command}
-use Rattle.plain_model.specs.declared.command.Command.TheVariants.{Strings, Keys, Connection}
+use Rattle.plain_model.specs.declared.command.Command.TheVariants.{Strings, Lists, Keys, Connection}
 use Rattle.plain_model.specs.declared.command.StringCommand.{StringCommand}
 use Rattle.plain_model.specs.declared.command.StringCommand.TheVariants as strings
+use Rattle.plain_model.specs.declared.list_command.ListCommand.{ListCommand}
+use Rattle.plain_model.specs.declared.list_command.ListCommand.TheVariants as lists
 use Rattle.plain_model.specs.declared.keys.KeyCommand.{KeyCommand}
 use Rattle.plain_model.specs.declared.keys.KeyCommand.TheVariants as keys
 use Rattle.plain_model.specs.declared.connection.ConnectionCommand.{ConnectionCommand}
@@ -42,6 +44,24 @@ string_scope db (strings.Incr key) = one_key db key
 string_scope db (strings.Decr key) = one_key db key
 string_scope db (strings.IncrBy key n) = one_key db key
 string_scope db (strings.DecrBy key n) = one_key db key
+
+abbrev pub list_scope : ℕ → ListCommand → Scope
+list_scope db (lists.LPush key elements) = one_key db key
+list_scope db (lists.RPush key elements) = one_key db key
+list_scope db (lists.LPushX key elements) = one_key db key
+list_scope db (lists.RPushX key elements) = one_key db key
+list_scope db (lists.LPop key n) = one_key db key
+list_scope db (lists.RPop key n) = one_key db key
+list_scope db (lists.LLen key) = untouched
+list_scope db (lists.LIndex key index) = untouched
+list_scope db (lists.LSet key index element) = one_key db key
+list_scope db (lists.LRange key a b) = untouched
+list_scope db (lists.LTrim key a b) = one_key db key
+list_scope db (lists.LInsert key side pivot element) = one_key db key
+list_scope db (lists.LRem key n element) = one_key db key
+list_scope db (lists.LPos key element options) = untouched
+list_scope db (lists.LMove from to end other) = two_keys db from db to
+list_scope db (lists.RPopLPush from to) = two_keys db from db to
 
 -- the database of this number, or else the selected one
 abbrev pub number_or : ℕ → Option ℕ → ℕ
@@ -88,5 +108,6 @@ connection_scope db (connection.DebugDefrag n) = untouched
 -- changes, it doesn't write.
 abbrev pub scope_of : ℕ → Command → Scope
 scope_of db (Strings command) = string_scope db command
+scope_of db (Lists command) = list_scope db command
 scope_of db (Keys command) = key_scope db command
 scope_of db (Connection command) = connection_scope db command

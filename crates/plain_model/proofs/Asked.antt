@@ -6,15 +6,18 @@ use Rattle.std.specs.Str.Parse.{digits_value}
 use Rattle.std.proofs.lemmas.Bool.Decides.{Decides-eqb}
 use Rattle.std.proofs.lemmas.Bool.{leb-true, ltb-true}
 use Rattle.plain_world.specs.Words.{Words, longest, in_lower_case}
-use Rattle.plain_model.specs.Shapes.{Kind, Plain, Whole, Offset, Span, Database, Count, Steps, Cursor, Told, told, AllTold, and_then, whole, span, database, count, steps, are_digits, cursor, all_told, Row, fixed, second_read, by_second, repeated, NamedOption, option_of, read_option, options_read, with_options}
+use Rattle.plain_model.specs.Shapes.{Kind, Plain, Whole, Offset, Span, Database, Count, Steps, Cursor, Amount, Rank, OnSide, AtEnd, Told, told, AllTold, and_then, whole, span, database, count, steps, are_digits, cursor, all_told, Row, fixed, second_read, by_second, repeated, NamedOption, option_of, read_option, options_read, with_options}
 use Rattle.plain_model.specs.StringWords.{set_options, no_set_options, getex_options, no_getex_options, pairs_of, string_rows, set_of, getex_of, set_range_of, decrease_of}
 use Rattle.plain_model.specs.KeyWords.{expire_options, no_expire_options, expire_of, clash, copy_options, no_copy_options, scan_options, no_scan_options, object_rows, key_rows}
+use Rattle.plain_model.specs.ListWords.{pop_words, push_words, position_options, no_position_options, list_rows}
+use Rattle.plain_model.specs.declared.list_command.ListCommand.{ListCommand}
+use Rattle.plain_model.specs.declared.list_command.ListCommand.TheVariants as lists
 use Rattle.plain_model.specs.ConnectionWords.{ping_words, flush_options, memory_rows, debug_rows, connection_rows}
 use Rattle.std.specs.Prelude.{neg_ℤ}
 use Rattle.int_text.specs.Decimal.{is_i64, number_of}
 use Rattle.plain_model.specs.Meant.{of_family, rows, read_by, meant}
 use Rattle.plain_model.specs.declared.command.Command.{Command}
-use Rattle.plain_model.specs.declared.command.Command.TheVariants.{Strings, Keys, Connection}
+use Rattle.plain_model.specs.declared.command.Command.TheVariants.{Strings, Lists, Keys, Connection}
 use Rattle.plain_model.specs.declared.command.SetOptionsRead.{SetOptionsRead}
 use Rattle.plain_model.specs.declared.command.GetExOptionsRead.{GetExOptionsRead}
 use Rattle.plain_model.specs.declared.command.StringCommand.{StringCommand}
@@ -73,6 +76,10 @@ Keeps Database n = n < 16
 Keeps Count n = 0 < n
 Keeps Steps n = n ≤ 1000000
 Keeps Cursor n = n < 2 ^ 64
+Keeps Amount n = Unit {0}
+Keeps Rank n = Unit {0}
+Keeps OnSide side = Unit {0}
+Keeps AtEnd end = Unit {0}
 
 -- what words of these kinds keep, each by its own kind
 abbrev pub AllKeep : (kinds : List Kind) → AllTold kinds → Type 0
@@ -119,6 +126,10 @@ told_keeps Database word a e = then_told (Keeps Database) (whole (number_of word
 told_keeps Count word a e = then_told (Keeps Count) (whole (number_of word)) count (λ n is b f. count_keeps n b f) a e
 told_keeps Steps word a e = then_told (Keeps Steps) (whole (number_of word)) steps (λ n is b f. steps_keep n b f) a e
 told_keeps Cursor word a e = cursor_keeps word a e
+told_keeps Amount word a e = tt
+told_keeps Rank word a e = tt
+told_keeps OnSide word a e = tt
+told_keeps AtEnd word a e = tt
 
 -- what several words tell is in the range of each one's kind
 all_told_keep : (kinds : List Kind) (words : Words) (a : AllTold kinds) → all_told kinds words ≡ Ok a → AllKeep kinds a
@@ -238,9 +249,18 @@ FitsConnection (connection.DebugRehash n) = n ≤ 1000000
 FitsConnection (connection.DebugDefrag n) = n ≤ 1000000
 FitsConnection other = Unit {0}
 
+-- what is pushed has an element
+abbrev pub FitsLists : ListCommand → Type 0
+FitsLists (lists.LPush key elements) = 0 < length elements
+FitsLists (lists.RPush key elements) = 0 < length elements
+FitsLists (lists.LPushX key elements) = 0 < length elements
+FitsLists (lists.RPushX key elements) = 0 < length elements
+FitsLists other = Unit {0}
+
 -- a command of any family has its numbers and pieces in range
 abbrev pub FitsCommand : Command → Type 0
 FitsCommand (Strings c) = Fits c
+FitsCommand (Lists c) = FitsLists c
 FitsCommand (Keys c) = FitsKeys c
 FitsCommand (Connection c) = FitsConnection c
 
@@ -323,13 +343,39 @@ family_alone family P fits [] h = tt
 family_alone family P fits (row ∷ own) h =
     (λ words c e. then_told FitsCommand (row.read words) (λ command. Ok (family command)) (λ a is b f. made FitsCommand (family a) b (fits a (h.0 words a is)) f) c e, family_alone family P fits own h.1)
 
+-- where two tests hold together the first one holds
+first_holds : (a b : Bool) → (a && b) ≡ true → a ≡ true
+first_holds true b e = refl
+first_holds false b e = cc
+
+-- a command that pushes has an element
+push_fits : (make : List ℕ → Words → ListCommand) → ((key : List ℕ) (elements : Words) → 0 < length elements → FitsLists (make key elements)) → (words : Words) (c : ListCommand) → push_words make words ≡ Ok c → FitsLists c
+push_fits make h [] c e = cc
+push_fits make h (key ∷ rest) c e =
+    let least = nat_lt 1 (length (key ∷ rest)) in
+    let whole = (length (key ∷ rest) - 1) % 1 == 0 in
+    if_true FitsLists (least && whole) (Ok (make key rest)) WrongNumberOfArguments (λ t b f. made FitsLists (make key rest) b (h key rest (omega (arith, ltb-true 1 (length (key ∷ rest)) (first_holds least whole t)))) f) c e
+
+-- whatever LPOP and RPOP make of words has what is asked of them
+pop_fits : (make : List ℕ → Option ℕ → ListCommand) → ((key : List ℕ) (n : Option ℕ) → FitsLists (make key n)) → (words : Words) (c : ListCommand) → pop_words make words ≡ Ok c → FitsLists c
+pop_fits make h [] c e = cc
+pop_fits make h (key ∷ []) c e = made FitsLists (make key None) c (h key None) e
+pop_fits make h (key ∷ n ∷ []) c e = then_told FitsLists (told Amount n) (λ a. Ok (make key (Some a))) (λ a is b f. made FitsLists (make key (Some a)) b (h key (Some a)) f) c e
+pop_fits make h (key ∷ n ∷ more ∷ words) c e = cc
+
+-- the rows of commands on lists make only commands that push an element at least, if they push
+list_rows_fit : AllByRecursion (RowFits FitsLists) list_rows
+list_rows_fit = (push_fits lists.LPush (λ key elements some. some), (push_fits lists.RPush (λ key elements some. some), (push_fits lists.LPushX (λ key elements some. some), (push_fits lists.RPushX (λ key elements some. some), (pop_fits lists.LPop (λ key n. tt), (pop_fits lists.RPop (λ key n. tt), (fixed_fits FitsLists (Plain ∷ []) (λ a. Ok (lists.LLen a.0)) (λ a keeps c. made FitsLists (lists.LLen a.0) c tt), (fixed_fits FitsLists (Plain ∷ Whole ∷ []) (λ a. Ok (lists.LIndex a.0 a.1.0)) (λ a keeps c. made FitsLists (lists.LIndex a.0 a.1.0) c tt), (fixed_fits FitsLists (Plain ∷ Whole ∷ Plain ∷ []) (λ a. Ok (lists.LSet a.0 a.1.0 a.1.1.0)) (λ a keeps c. made FitsLists (lists.LSet a.0 a.1.0 a.1.1.0) c tt), (fixed_fits FitsLists (Plain ∷ Whole ∷ Whole ∷ []) (λ a. Ok (lists.LRange a.0 a.1.0 a.1.1.0)) (λ a keeps c. made FitsLists (lists.LRange a.0 a.1.0 a.1.1.0) c tt), (fixed_fits FitsLists (Plain ∷ Whole ∷ Whole ∷ []) (λ a. Ok (lists.LTrim a.0 a.1.0 a.1.1.0)) (λ a keeps c. made FitsLists (lists.LTrim a.0 a.1.0 a.1.1.0) c tt), (fixed_fits FitsLists (Plain ∷ OnSide ∷ Plain ∷ Plain ∷ []) (λ a. Ok (lists.LInsert a.0 a.1.0 a.1.1.0 a.1.1.1.0)) (λ a keeps c. made FitsLists (lists.LInsert a.0 a.1.0 a.1.1.0 a.1.1.1.0) c tt), (fixed_fits FitsLists (Plain ∷ Whole ∷ Plain ∷ []) (λ a. Ok (lists.LRem a.0 a.1.0 a.1.1.0)) (λ a keeps c. made FitsLists (lists.LRem a.0 a.1.0 a.1.1.0) c tt), (with_options_fits FitsLists (Plain ∷ Plain ∷ []) position_options no_position_options (λ a o. Ok (lists.LPos a.0 a.1.0 o)) (λ o. Unit {0}) ((λ own o keeps q. tt, (λ own o keeps q. tt, (λ own o keeps q. tt, tt))), tt) (λ a keeps o q c. made FitsLists (lists.LPos a.0 a.1.0 o) c tt), (fixed_fits FitsLists (Plain ∷ Plain ∷ AtEnd ∷ AtEnd ∷ []) (λ a. Ok (lists.LMove a.0 a.1.0 a.1.1.0 a.1.1.1.0)) (λ a keeps c. made FitsLists (lists.LMove a.0 a.1.0 a.1.1.0 a.1.1.1.0) c tt), (fixed_fits FitsLists (Plain ∷ Plain ∷ []) (λ a. Ok (lists.RPopLPush a.0 a.1.0)) (λ a keeps c. made FitsLists (lists.RPopLPush a.0 a.1.0) c tt), tt))))))))))))))))
+
 -- the rows of all commands make only commands whose numbers and pieces are in range
 rows_fit : AllByRecursion (RowFits FitsCommand) rows
 rows_fit =
     let last = map (of_family Connection) connection_rows in
-    family_fits Strings Fits (λ a h. h) string_rows string_rows_fit (map (of_family Keys) key_rows ++ last)
+    let behind = map (of_family Keys) key_rows ++ last in
+    family_fits Strings Fits (λ a h. h) string_rows string_rows_fit (map (of_family Lists) list_rows ++ behind)
+    (family_fits Lists FitsLists (λ a h. h) list_rows list_rows_fit behind
     (family_fits Keys FitsKeys (λ a h. h) key_rows key_rows_fit last
-    (family_alone Connection FitsConnection (λ a h. h) connection_rows connection_rows_fit))
+    (family_alone Connection FitsConnection (λ a h. h) connection_rows connection_rows_fit)))
 
 -- what the row of a name makes of words is in range, if all rows make only commands that are
 found_fits : (all : List (Row Command)) → AllByRecursion (RowFits FitsCommand) all → (name : List ℕ) (words : Words) (c : Command) → read_by all name words ≡ Ok c → FitsCommand c
@@ -344,3 +390,7 @@ command_fits (name ∷ words) c e = found_fits rows rows_fit (in_lower_case name
 -- a string command that words mean has its times above 0 and its piece within the greatest length
 pub meant_fits : (words : Words) (c : StringCommand) → meant words ≡ Ok (Strings c) → Fits c
 meant_fits words c e = command_fits words (Strings c) e
+
+-- a command on lists that words mean pushes an element at least, if it pushes
+pub lists_fit : (words : Words) (c : ListCommand) → meant words ≡ Ok (Lists c) → FitsLists c
+lists_fit words c e = command_fits words (Lists c) e

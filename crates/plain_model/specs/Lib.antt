@@ -2,12 +2,15 @@ pub mod Shapes
 pub mod StringWords
 pub mod KeyWords
 pub mod ConnectionWords
+pub mod ListWords
 pub mod Outcomes
 pub mod Deadlines
 pub mod StringSteps
 pub mod Types
 pub mod Scans
 pub mod KeySteps
+pub mod OfType
+pub mod ListSteps
 pub mod ConnectionSteps
 pub mod Meant
 pub mod Steps

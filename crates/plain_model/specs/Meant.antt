@@ -4,9 +4,10 @@ use Rattle.plain_world.specs.Words.{Words, IsRequest, in_lower_case}
 use Rattle.plain_model.specs.Shapes.{and_then, Row}
 use Rattle.plain_model.specs.StringWords.{string_rows}
 use Rattle.plain_model.specs.KeyWords.{key_rows}
+use Rattle.plain_model.specs.ListWords.{list_rows}
 use Rattle.plain_model.specs.ConnectionWords.{connection_rows}
 use Rattle.plain_model.specs.declared.command.Command.{Command}
-use Rattle.plain_model.specs.declared.command.Command.TheVariants.{Strings, Keys, Connection}
+use Rattle.plain_model.specs.declared.command.Command.TheVariants.{Strings, Lists, Keys, Connection}
 use Rattle.plain_model.specs.declared.connection.ConnectionCommand.TheVariants.{Quit}
 use Rattle.plain_world.specs.declared.refusal.Refusal.{Refusal}
 use Rattle.plain_world.specs.declared.refusal.Refusal.TheVariants.{UnknownCommand}
@@ -18,8 +19,8 @@ of_family family row =
 
 -- the rows of all commands
 abbrev pub rows : List (Row Command)
-rows = map (of_family Strings) string_rows ++ map (of_family Keys) key_rows
-    ++ map (of_family Connection) connection_rows
+rows = map (of_family Strings) string_rows ++ map (of_family Lists) list_rows
+    ++ map (of_family Keys) key_rows ++ map (of_family Connection) connection_rows
 
 -- the row of this name, in lower case, reads the words
 abbrev pub read_by : List (Row Command) → List ℕ → Words → Result Command Refusal

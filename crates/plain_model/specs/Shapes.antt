@@ -2,11 +2,15 @@
 --
 -- First their number is looked at, then they are read from left to right, and each is refused where it stands. What
 -- words break together comes last. A command is a row: the kinds of its first words, and what may follow them.
-use Rattle.std.specs.Prelude.{ℕ, zero, suc, ◌-◌, ◌%◌, ◌==◌, List, [], ◌∷◌, length, drop, ℤ, pos, negsuc, Option, Some, None, Bool, ◌&&◌, ◌^◌, nat_le, nat_lt, int_lt, bytes_eq, Result, Ok, Err, if◌then◌else◌}
+use Rattle.std.specs.Prelude.{ℕ, zero, suc, ◌-◌, ◌%◌, ◌==◌, List, [], ◌∷◌, length, drop, ℤ, pos, negsuc, Option, Some, None, Bool, ◌&&◌, ◌^◌, nat_le, nat_lt, int_lt, bytes_eq, codes, Result, Ok, Err, if◌then◌else◌}
 use Rattle.std.specs.Str.{all_ascii_digits}
 use Rattle.std.specs.Str.Parse.{digits_value}
 use Rattle.plain_world.specs.Words.{Words, in_lower_case}
-use Rattle.int_text.specs.Decimal.{number_of}
+use Rattle.int_text.specs.Decimal.{is_i64, number_of}
+use Rattle.plain_model.specs.declared.list_command.Side.{Side}
+use Rattle.plain_model.specs.declared.list_command.Side.TheVariants.{Before, After}
+use Rattle.plain_model.specs.declared.list_command.ListEnd.{ListEnd}
+use Rattle.plain_model.specs.declared.list_command.ListEnd.TheVariants.{Head, Tail}
 use Rattle.plain_world.specs.declared.refusal.Refusal.{Refusal}
 use Rattle.plain_world.specs.declared.refusal.Refusal.TheVariants.{WrongNumberOfArguments, Syntax, NotAnInteger, IndexOutOfRange, InvalidExpireTime, InvalidCursor, DatabaseOutOfRange, ValueOutOfRange}
 
@@ -33,6 +37,14 @@ pub data Kind : Type 0 where
   Steps : Kind
   -- decimal digits of a number of 64 bits, as a cursor
   Cursor : Kind
+  -- a whole number from 0 on, as how many are asked for
+  Amount : Kind
+  -- a whole number that has an opposite one and isn't 0, as which match is meant
+  Rank : Kind
+  -- BEFORE or AFTER, whatever the case
+  OnSide : Kind
+  -- LEFT or RIGHT, whatever the case
+  AtEnd : Kind
 
 -- what a word of this kind tells
 abbrev pub Told : Kind → Type 0
@@ -44,6 +56,10 @@ Told Database = ℕ
 Told Count = ℕ
 Told Steps = ℕ
 Told Cursor = ℕ
+Told Amount = ℕ
+Told Rank = ℤ
+Told OnSide = Side
+Told AtEnd = ListEnd
 
 abbrev pub whole : Option ℤ → Result ℤ Refusal
 whole None = Err NotAnInteger
@@ -68,6 +84,24 @@ abbrev pub steps : ℤ → Result ℕ Refusal
 steps (pos n) = if nat_le n 1000000 then Ok n else Err ValueOutOfRange
 steps (negsuc n) = Err ValueOutOfRange
 
+abbrev pub amount : ℤ → Result ℕ Refusal
+amount (pos n) = Ok n
+amount (negsuc n) = Err ValueOutOfRange
+
+abbrev pub rank : ℤ → Result ℤ Refusal
+rank (pos n) = if nat_lt 0 n then Ok (pos n) else Err ValueOutOfRange
+rank (negsuc n) = if is_i64 (pos (suc n)) then Ok (negsuc n) else Err ValueOutOfRange
+
+abbrev pub side : List ℕ → Result Side Refusal
+side word =
+    if bytes_eq word (codes "before") then Ok Before
+    else (if bytes_eq word (codes "after") then Ok After else Err Syntax)
+
+abbrev pub end : List ℕ → Result ListEnd Refusal
+end word =
+    if bytes_eq word (codes "left") then Ok Head
+    else (if bytes_eq word (codes "right") then Ok Tail else Err Syntax)
+
 -- one digit or more, and nothing else
 abbrev pub are_digits : List ℕ → Bool
 are_digits word = nat_lt 0 (length word) && all_ascii_digits word
@@ -86,6 +120,10 @@ told Database word = and_then (whole (number_of word)) database
 told Count word = and_then (whole (number_of word)) count
 told Steps word = and_then (whole (number_of word)) steps
 told Cursor word = cursor word
+told Amount word = and_then (whole (number_of word)) amount
+told Rank word = and_then (whole (number_of word)) rank
+told OnSide word = side (in_lower_case word)
+told AtEnd word = end (in_lower_case word)
 
 -- what words of these kinds tell
 abbrev pub AllTold : List Kind → Type 0

@@ -4,10 +4,11 @@ use Rattle.plain_world.specs.Words.{Words}
 use Rattle.plain_world.specs.Worlds.{World, live}
 use Rattle.plain_model.specs.Meant.{meant}
 use Rattle.plain_model.specs.StringSteps.{may_strings}
+use Rattle.plain_model.specs.ListSteps.{may_lists}
 use Rattle.plain_model.specs.KeySteps.{may_keys}
 use Rattle.plain_model.specs.ConnectionSteps.{may_connection}
 use Rattle.plain_model.specs.declared.command.Command.{Command}
-use Rattle.plain_model.specs.declared.command.Command.TheVariants.{Strings, Keys, Connection}
+use Rattle.plain_model.specs.declared.command.Command.TheVariants.{Strings, Lists, Keys, Connection}
 use Rattle.plain_world.specs.declared.reply.Part.{Part}
 use Rattle.plain_world.specs.declared.reply.Part.TheVariants.{Refused}
 
@@ -15,6 +16,7 @@ use Rattle.plain_world.specs.declared.reply.Part.TheVariants.{Refused}
 -- leave the new world
 abbrev pub may : ℕ → World → ℕ → Command → List Part → World → Type 0
 may seed old moment (Strings command) reply new = may_strings old moment command reply new
+may seed old moment (Lists command) reply new = may_lists old command reply new
 may seed old moment (Keys command) reply new = may_keys seed old moment command reply new
 may seed old moment (Connection command) reply new = may_connection old moment command reply new
 

@@ -1,11 +1,14 @@
 //! Commands, with their words, which are lent by the request: a family for each type of value, one for keys of any type, and one for the connection.
 
-use crate::{ConnectionCommand, KeyCommand, Lifetime, PairList, Renewal, Word, WordList};
+use crate::{
+    ConnectionCommand, KeyCommand, Lifetime, ListCommand, PairList, Renewal, Word, WordList,
+};
 
 /// A command with its words.
 #[derive(Drop)]
 pub enum Command<'a> {
     Strings(StringCommand<'a>),
+    Lists(ListCommand<'a>),
     Keys(KeyCommand<'a>),
     Connection(ConnectionCommand<'a>),
 }
