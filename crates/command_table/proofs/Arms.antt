@@ -1,19 +1,21 @@
 -- What reading answers, from what the words of a shape tell. One lemma for each shape, whatever is made of the words.
-use Rattle.std.proofs.Common.{◌≡◌, ℕ, List, [], ◌∷◌, length, drop, Bool, true, false, Result, Ok, Err, refl, sym, ap, subst, ◌∙◌}
+use Rattle.std.proofs.Common.{◌≡◌, ℕ, List, [], ◌∷◌, length, drop, Bool, true, false, Option, Some, None, Result, Ok, Err, refl, sym, ap, subst, ◌∙◌}
 use Rattle.std.specs.Prelude.{ℤ, ◌==◌, ◌&&◌, ◌-◌, ◌%◌, nat_le, nat_lt, if◌then◌else◌}
 use Rattle.std.specs.Result.{MatchResult, IsOkAnd}
 use Rattle.plain_world.specs.Words.{Words}
-use Rattle.plain_model.specs.Shapes.{Kind, Plain, Whole, AllTold, all_told, and_then, fixed, repeated, with_options, NamedOption, options_read}
+use Rattle.plain_model.specs.Shapes.{Kind, Plain, Whole, Amount, told, AllTold, all_told, and_then, fixed, repeated, with_options, NamedOption, options_read}
 use Rattle.plain_model.specs.KeyWords.{expire_words, expire_of, clash, expire_options, no_expire_options}
 use Rattle.plain_model.specs.declared.command.Command.{Command}
-use Rattle.plain_model.specs.declared.command.Command.TheVariants.{Keys}
+use Rattle.plain_model.specs.declared.command.Command.TheVariants.{Lists, Keys}
+use Rattle.plain_model.specs.declared.list_command.ListCommand.{ListCommand}
+use Rattle.plain_model.specs.ListWords.{push_words, pop_words}
 use Rattle.plain_model.specs.declared.keys.KeyCommand.{KeyCommand}
 use Rattle.plain_model.specs.declared.keys.ExpireOptions.{ExpireOptions}
 use Rattle.plain_world.specs.declared.refusal.Refusal.{Refusal}
 use Rattle.plain_world.specs.declared.refusal.Refusal.TheVariants.{WrongNumberOfArguments, Syntax}
 use Rattle.command_table.specs.declared.fault.ReadingFault.{ReadingFault}
 use Rattle.command_table.specs.declared.fault.ReadingFault.TheVariants.{Refused, Memory}
-use Rattle.command_table.specs.Readings.{Tells, TellsAs, Gathers, just, and_options, expire_parts, keeps_list, ReadsAs}
+use Rattle.command_table.specs.Readings.{Tells, TellsAs, Gathers, just, and_options, one_and_some, one_and_amount, expire_parts, keeps_list, ReadsAs}
 
 -- what a row makes is made of what its words tell
 
@@ -132,6 +134,59 @@ module _ {L C : Type 0} (family : C → Command) (size : ℕ) (own : Words → L
   pub gathered : (words : Words) (first : Result L ReadingFault) (answer : Result C ReadingFault) → Gathers (repeated [] size (λ a w. Ok (own w)) (drop 1 words)) first → MatchResult first (λ a. IsOkAnd answer (λ b. b ≡ make a)) (λ e. answer ≡ Err e) → ReadsAs family (and_then (repeated [] size (λ a w. Ok (make (own w))) (drop 1 words)) (λ command. Ok (family command))) answer
   gathered words (Ok list) answer h m = gathered_ok _ _ list answer h m
   gathered words (Err fault) answer h m = gathered_err _ _ fault answer h m
+
+-- a command that keeps a list, from what its reader gathers
+module _ {L C : Type 0} (family : C → Command) (make : L → C) (keeps : (list : L) → keeps_list (family (make list)) ≡ true) where
+  abbrev wrapped : L → Result Command Refusal
+  wrapped list = Ok (family (make list))
+
+  kept_ok : (means : Result L Refusal) (list : L) (answer : Result C ReadingFault) → means ≡ Ok list → IsOkAnd answer (λ c. c ≡ make list) → ReadsAs family (and_then means wrapped) answer
+  kept_ok means list (Ok c) e h = ap (λ r. and_then r wrapped) e ∙ ap (λ c. Ok (family c)) (sym h)
+  kept_ok means list (Err fault) e h = absurd h
+
+  kept_err : (means : Result L Refusal) (fault : ReadingFault) (answer : Result C ReadingFault) → Gathers means (Err fault) → answer ≡ Err fault → ReadsAs family (and_then means wrapped) answer
+  kept_err means (Refused refusal) answer h e = subst (ReadsAs family (and_then means wrapped)) (sym e) (ap (λ r. and_then r wrapped) h)
+  kept_err means Memory answer h e = subst (ReadsAs family (and_then means wrapped)) (sym e) (subst (λ r. IsOkAnd (and_then r wrapped) (λ command. keeps_list command ≡ true)) (sym h.1) (keeps h.0))
+
+  pub kept : (means : Result L Refusal) (first : Result L ReadingFault) (answer : Result C ReadingFault) → Gathers means first → MatchResult first (λ a. IsOkAnd answer (λ b. b ≡ make a)) (λ e. answer ≡ Err e) → ReadsAs family (and_then means wrapped) answer
+  kept means (Ok list) answer h m = kept_ok means list answer h m
+  kept means (Err fault) answer h m = kept_err means fault answer h m
+
+-- a key and one element or more
+module _ (make : List ℕ → Words → ListCommand) where
+  abbrev pushing : List ℕ × Words → Result Command Refusal
+  pushing parts = Ok (Lists (make parts.0 parts.1))
+
+  push_if : (b : Bool) (key : List ℕ) (rest : Words) → and_then (if b then Ok (make key rest) else Err WrongNumberOfArguments) (λ c. Ok (Lists c)) ≡ and_then (if b then Ok (key, rest) else Err WrongNumberOfArguments) pushing
+  push_if true key rest = refl
+  push_if false key rest = refl
+
+  push_then : (words : Words) → and_then (push_words make words) (λ c. Ok (Lists c)) ≡ and_then (repeated (Plain ∷ []) 1 (λ a own. Ok (a.0, own)) words) pushing
+  push_then [] = refl
+  push_then (key ∷ rest) = push_if (nat_lt 1 (length (key ∷ rest)) && ((length (key ∷ rest) - 1) % 1 == 0)) key rest
+
+  pub pushed_made : (keeps : (key : List ℕ) (elements : Words) → keeps_list (Lists (make key elements)) ≡ true) (words : Words) (first : Result (List ℕ × Words) ReadingFault) (answer : Result ListCommand ReadingFault) → Gathers (one_and_some words) first → MatchResult first (λ a. IsOkAnd answer (λ b. b ≡ make a.0 a.1)) (λ e. answer ≡ Err e) → ReadsAs Lists (and_then (push_words make (drop 1 words)) (λ c. Ok (Lists c))) answer
+  pushed_made keeps words first answer h m =
+      subst (λ r. ReadsAs Lists r answer) (sym (push_then (drop 1 words))) (kept Lists (λ (parts : List ℕ × Words). make parts.0 parts.1) (λ parts. keeps parts.0 parts.1) (one_and_some words) first answer h m)
+
+-- a key, and a number or none
+module _ (make : List ℕ → Option ℕ → ListCommand) where
+  abbrev popping : List ℕ × Option ℕ → Result ListCommand Refusal
+  popping parts = Ok (make parts.0 parts.1)
+
+  pop_told : (key : List ℕ) (r : Result ℕ Refusal) → and_then r (λ a. Ok (make key (Some a))) ≡ and_then (and_then r (λ a. Ok (key, Some a))) popping
+  pop_told key (Ok n) = refl
+  pop_told key (Err refusal) = refl
+
+  pop_then : (words : Words) → pop_words make words ≡ and_then (one_and_amount words) popping
+  pop_then [] = refl
+  pop_then (key ∷ []) = refl
+  pop_then (key ∷ n ∷ []) = pop_told key (told Amount n)
+  pop_then (key ∷ n ∷ more ∷ words) = refl
+
+  pub popped_made : (words : Words) (first : Result (List ℕ × Option ℕ) ReadingFault) (answer : Result ListCommand ReadingFault) → Tells (one_and_amount (drop 1 words)) first → MatchResult first (λ a. IsOkAnd answer (λ b. b ≡ make a.0 a.1)) (λ e. answer ≡ Err e) → ReadsAs Lists (and_then (pop_words make (drop 1 words)) (λ c. Ok (Lists c))) answer
+  popped_made words first answer h m =
+      subst (λ r. ReadsAs Lists (and_then r (λ c. Ok (Lists c))) answer) (sym (pop_then (drop 1 words))) (made Lists (λ (a : List ℕ × Option ℕ). a) popping (λ a. make a.0 a.1) (λ a. refl) (one_and_amount (drop 1 words)) first answer h m)
 
 -- a command that its own reader made of the words
 pub lifted : {C : Type 0} (family : C → Command) (means : Result C Refusal) (answer : Result C ReadingFault) → Tells means answer → ReadsAs family (and_then means (λ command. Ok (family command))) answer

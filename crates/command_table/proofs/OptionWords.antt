@@ -1,13 +1,15 @@
 -- Options, read one by one.
-use Rattle.std.proofs.Common.{◌≡◌, ℕ, zero, suc, ◌+◌, ◌<◌, ◌≤◌, List, [], ◌∷◌, length, drop, true, false, Result, Ok, Err, Option, Some, None, refl, ap, subst, ◌∙◌}
+use Rattle.std.proofs.Common.{◌≡◌, ℕ, zero, suc, ◌+◌, ◌<◌, ◌≤◌, List, [], ◌∷◌, length, drop, Bool, true, false, Result, Ok, Err, Option, Some, None, refl, ap, subst, ◌∙◌}
 use Rattle.std.proofs.lemmas.List.{drop-drop}
 use Rattle.std.specs.Prelude.{nat_le, if◌then◌else◌}
 use Rattle.std.proofs.lemmas.Bool.{leb-true}
 use Rattle.plain_world.specs.Words.{Words, in_lower_case}
-use Rattle.plain_model.specs.Shapes.{AllTold, all_told, and_then, NamedOption, option_of, read_option, options_read}
+use Rattle.plain_model.specs.Shapes.{Kind, AllTold, all_told, and_then, NamedOption, option_of, read_option, options_read}
 use Rattle.plain_world.specs.declared.refusal.Refusal.{Refusal}
 use Rattle.plain_world.specs.declared.refusal.Refusal.TheVariants.{Syntax}
-use Rattle.command_table.specs.Readings.{at}
+use Rattle.command_table.specs.declared.fault.ReadingFault.{ReadingFault}
+use Rattle.command_table.specs.declared.fault.ReadingFault.TheVariants.{Refused, Memory}
+use Rattle.command_table.specs.Readings.{Tells, at, own_word}
 use Rattle.command_table.proofs.Shapes.{from_place}
 
 module _ {A : Type 0} (named : List (NamedOption A)) where
@@ -44,3 +46,14 @@ module _ {A : Type 0} (named : List (NamedOption A)) where
 
   pub own_within : (before after : A) (own : ℕ) (words : Words) (i : ℕ) → read_option before (option_of named (in_lower_case (at words i))) (drop (i + 1) words) ≡ Ok (after, own) → own ≤ length (drop (i + 1) words)
   own_within before after own words i e = read_option_within before after own (option_of named (in_lower_case (at words i))) (drop (i + 1) words) e
+
+-- an option whose one word is refused is refused
+module _ {A : Type 0} (before : A) (kind : Kind) (sets : AllTold (kind ∷ []) → A → A) where
+  fails : (b : Bool) (x : Result (AllTold (kind ∷ [])) Refusal) (refusal : Refusal) → (if b then and_then x (λ own. Ok own.0) else Err Syntax) ≡ Err refusal → (if b then and_then {B = A × ℕ} x (λ own. Ok (sets own before, 1)) else Err Syntax) ≡ Err refusal
+  fails true (Ok a) refusal e = absurd (cc e)
+  fails true (Err q) refusal e = let same : q ≡ refusal = cc in ap Err same
+  fails false x refusal e = let same : Syntax ≡ refusal = cc in ap Err same
+
+  pub one_word_refused : (named : List (NamedOption A)) (name lower : List ℕ) (words : Words) (fault : ReadingFault) → option_of named lower ≡ Some (record { name = name; kinds = kind ∷ []; sets = sets }) → Tells (own_word kind words) (Err fault) → Tells (read_option before (option_of named lower) words) (Err fault)
+  one_word_refused named name lower words (Refused refusal) e h = ap (λ o. read_option before o words) e ∙ fails (nat_le 1 (length words)) (all_told (kind ∷ []) words) refusal h
+  one_word_refused named name lower words Memory e h = absurd h

@@ -5,11 +5,12 @@ use Rattle.std.specs.Prelude.{◌%◌, ◌-◌, ◌==◌, ◌&&◌, nat_le, nat_
 use Rattle.std.proofs.Math.Seq.{drop-cons}
 use Rattle.std.proofs.lemmas.Bool.{eqb-true, leb-true, lt-ltb, eq-eqb}
 use Rattle.plain_world.specs.Words.{Words}
-use Rattle.plain_model.specs.Shapes.{Kind, AllTold, told, all_told, and_then, fixed, with_options, NamedOption, options_read}
+use Rattle.std.proofs.lemmas.List.{drop-drop}
+use Rattle.plain_model.specs.Shapes.{Kind, Plain, AllTold, told, all_told, and_then, fixed, with_options, NamedOption, options_read}
 use Rattle.plain_world.specs.declared.refusal.Refusal.{Refusal}
 use Rattle.plain_world.specs.declared.refusal.Refusal.TheVariants.{WrongNumberOfArguments}
 use Rattle.plain_model.specs.StringWords.{pairs_of}
-use Rattle.command_table.specs.Readings.{at, some_words, some_pairs}
+use Rattle.command_table.specs.Readings.{at, one_and_some, some_words, some_pairs}
 
 -- the words from a place on: the one there, and those behind it
 pub from_place : (words : Words) (i : ℕ) → i < length words → drop i words ≡ at words i ∷ drop (i + 1) words
@@ -61,3 +62,10 @@ pairs_kept words many odd =
     let some : 0 < own = omega (arith, many, length-drop 1 words) in
     let even : (own - 0) % 2 ≡ 0 = omega (arith, many, odd, length-drop 1 words) in
     rw (lt-ltb 0 own some, eq-eqb ((own - 0) % 2) 0 even) refl
+
+-- a word behind the name, and one or more behind it
+pub one_and_words_kept : (words : Words) → 3 ≤ length words → one_and_some words ≡ Ok (at words 1, drop 2 words)
+one_and_words_kept words many =
+    let own = length (drop 1 words) in
+    let some : 1 < own = omega (arith, many, length-drop 1 words) in
+    rw (lt-ltb 1 own some, eq-eqb ((own - 1) % 1) 0 (mod-one (own - 1)), all_told_at (Plain ∷ []) words 1 (omega (arith, some)), drop-drop 1 1 words) refl

@@ -3,11 +3,12 @@ use Rattle.std.specs.Prelude.{◌≡◌, ℕ, List, [], ◌∷◌, length, drop,
 use Rattle.std.specs.Prelude.{Some, None, Result, Ok, Err, if◌then◌else◌}
 use Rattle.std.specs.Result.{IsOkAnd}
 use Rattle.plain_world.specs.Words.{Words, in_lower_case}
-use Rattle.plain_model.specs.Shapes.{Kind, Plain, Whole, Span, Told, AllTold, all_told, and_then, fixed, repeated, with_options, NamedOption, option_of}
+use Rattle.plain_model.specs.Shapes.{Kind, Plain, Whole, Span, Amount, Told, told, AllTold, all_told, and_then, fixed, repeated, with_options, NamedOption, option_of}
 use Rattle.plain_model.specs.Meant.{meant}
 use Rattle.plain_model.specs.StringWords.{pairs_of, time_options, set_options, getex_options}
 use Rattle.plain_model.specs.declared.command.Command.{Command}
-use Rattle.plain_model.specs.declared.command.Command.TheVariants.{Strings, Keys}
+use Rattle.plain_model.specs.declared.command.Command.TheVariants.{Strings, Lists, Keys}
+use Rattle.plain_model.specs.declared.list_command.ListCommand.TheVariants as lists
 use Rattle.plain_model.specs.declared.command.StringCommand.TheVariants as strings
 use Rattle.plain_model.specs.declared.keys.KeyCommand.TheVariants as keys
 use Rattle.plain_model.specs.KeyWords.{expire_options, no_expire_options, clash}
@@ -18,7 +19,7 @@ use Rattle.plain_model.specs.declared.times.TimeUnit.TheVariants.{Seconds, Milli
 use Rattle.plain_model.specs.declared.times.TimeOrigin.{TimeOrigin}
 use Rattle.plain_model.specs.declared.times.TimeOrigin.TheVariants.{Now, Epoch}
 use Rattle.plain_world.specs.declared.refusal.Refusal.{Refusal}
-use Rattle.plain_world.specs.declared.refusal.Refusal.TheVariants.{Syntax}
+use Rattle.plain_world.specs.declared.refusal.Refusal.TheVariants.{WrongNumberOfArguments, Syntax}
 use Rattle.command_table.specs.declared.times.SetOption.{SetOption}
 use Rattle.command_table.specs.declared.times.SetOption.TheVariants as set
 use Rattle.command_table.specs.declared.times.GetExOption.{GetExOption}
@@ -53,6 +54,17 @@ just kinds words = fixed kinds (λ a. Ok a) (drop 1 words)
 abbrev pub and_options : {C : Type 0} (kinds : List Kind) → List (NamedOption C) → C → Words
     → Result (AllTold kinds × C) Refusal
 and_options kinds named none words = with_options kinds named none (λ a c. Ok (a, c)) (drop 1 words)
+
+-- a word and one or more words behind it
+abbrev pub one_and_some : Words → Result (List ℕ × Words) Refusal
+one_and_some words = repeated (Plain ∷ []) 1 (λ a own. Ok (a.0, own)) (drop 1 words)
+
+-- a word, and a number from 0 on or none
+abbrev pub one_and_amount : Words → Result (List ℕ × Option ℕ) Refusal
+one_and_amount [] = Err WrongNumberOfArguments
+one_and_amount (word ∷ []) = Ok (word, None)
+one_and_amount (word ∷ n ∷ []) = and_then (told Amount n) (λ a. Ok (word, Some a))
+one_and_amount (word ∷ n ∷ more ∷ words) = Err WrongNumberOfArguments
 
 -- one or more words behind the name, and one or more pairs
 abbrev pub some_words : Words → Result Words Refusal
@@ -108,6 +120,10 @@ abbrev pub keeps_list : Command → Bool
 keeps_list (Strings (strings.MGet words)) = true
 keeps_list (Strings (strings.MSet pairs)) = true
 keeps_list (Strings (strings.MSetNx pairs)) = true
+keeps_list (Lists (lists.LPush key elements)) = true
+keeps_list (Lists (lists.RPush key elements)) = true
+keeps_list (Lists (lists.LPushX key elements)) = true
+keeps_list (Lists (lists.RPushX key elements)) = true
 keeps_list (Keys (keys.Del words)) = true
 keeps_list (Keys (keys.Unlink words)) = true
 keeps_list (Keys (keys.Exists words)) = true

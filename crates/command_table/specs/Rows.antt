@@ -6,13 +6,15 @@ use Rattle.plain_model.specs.Meant.{rows, meant}
 use Rattle.plain_world.specs.declared.refusal.Refusal.TheVariants.{UnknownCommand}
 use Rattle.command_table.specs.declared.table.StringName.{StringName}
 use Rattle.command_table.specs.declared.table.StringName.TheVariants as string
+use Rattle.command_table.specs.declared.table.ListName.{ListName}
+use Rattle.command_table.specs.declared.table.ListName.TheVariants as list
 use Rattle.command_table.specs.declared.table.KeyName.{KeyName}
 use Rattle.command_table.specs.declared.table.KeyName.TheVariants as key
 use Rattle.command_table.specs.declared.table.ConnectionName.{ConnectionName}
 use Rattle.command_table.specs.declared.table.ConnectionName.TheVariants as connection
 use Rattle.command_table.specs.declared.table.Row.{Row}
 use Rattle.command_table.specs.declared.table.Name.{Name}
-use Rattle.command_table.specs.declared.table.Name.TheVariants.{Strings, Keys, Connection}
+use Rattle.command_table.specs.declared.table.Name.TheVariants.{Strings, Lists, Keys, Connection}
 
 -- the name in lower case
 abbrev pub string_name : StringName → List ℕ
@@ -35,6 +37,24 @@ string_name string.Incr = codes "incr"
 string_name string.Decr = codes "decr"
 string_name string.IncrBy = codes "incrby"
 string_name string.DecrBy = codes "decrby"
+
+abbrev pub list_name : ListName → List ℕ
+list_name list.LPush = codes "lpush"
+list_name list.RPush = codes "rpush"
+list_name list.LPushX = codes "lpushx"
+list_name list.RPushX = codes "rpushx"
+list_name list.LPop = codes "lpop"
+list_name list.RPop = codes "rpop"
+list_name list.LLen = codes "llen"
+list_name list.LIndex = codes "lindex"
+list_name list.LSet = codes "lset"
+list_name list.LRange = codes "lrange"
+list_name list.LTrim = codes "ltrim"
+list_name list.LInsert = codes "linsert"
+list_name list.LRem = codes "lrem"
+list_name list.LPos = codes "lpos"
+list_name list.LMove = codes "lmove"
+list_name list.RPopLPush = codes "rpoplpush"
 
 abbrev pub key_name : KeyName → List ℕ
 key_name key.Del = codes "del"
@@ -73,6 +93,7 @@ connection_name connection.Debug = codes "debug"
 
 abbrev pub name_of : Name → List ℕ
 name_of (Strings name) = string_name name
+name_of (Lists name) = list_name name
 name_of (Keys name) = key_name name
 name_of (Connection name) = connection_name name
 

@@ -1,13 +1,13 @@
 //! The words behind a command's name, by their number and their kinds.
 
 ghost use Rattle.std.specs.Prelude.{◌<◌, [], ◌∷◌, length, drop, Ok};
-ghost use Rattle.plain_model.specs.Shapes.{Plain, Whole, Span, Database, fixed};
-ghost use Rattle.command_table.specs.Readings.{Gathers, Tells, TellsAs, and_options, just, some_pairs, some_words};
+ghost use Rattle.plain_model.specs.Shapes.{Plain, Whole, Span, Database, OnSide, AtEnd, fixed};
+ghost use Rattle.command_table.specs.Readings.{Gathers, Tells, TellsAs, and_options, just, one_and_amount, one_and_some, some_pairs, some_words};
 
 use crate::ReadingFault;
 use crate::options::{Options, read_options};
-use crate::words::{database, number, plain, span};
-use plain_model::{PairList, Refusal, Word, WordList};
+use crate::words::{amount, database, end, number, plain, side, span};
+use plain_model::{ListEnd, PairList, Refusal, Side, Word, WordList};
 use resp_frames::Request;
 use std::alloc::Global;
 
@@ -70,6 +70,91 @@ pub fn one_and_numbers<'r>(request: &'r Request<'_>) -> Result<(Word<'r>, i64, i
     let a = number(request, 2)?;
     let b = number(request, 3)?;
     Ok((plain(request, 1), a, b))
+}
+
+/// Just a word, a number and a word.
+pub fn one_number_one<'r>(
+    request: &'r Request<'_>,
+) -> Result<(Word<'r>, i64, Word<'r>), ReadingFault>
+    requires { 0 < length request.now }
+    ensures { TellsAs (λ a. (a.0, (a.1, (a.2, tt)))) (just (Plain ∷ Whole ∷ Plain ∷ []) request.now) result }
+{
+    if request.len() != 4 {
+        return Err(WRONG_NUMBER);
+    }
+    let n = number(request, 2)?;
+    Ok((plain(request, 1), n, plain(request, 3)))
+}
+
+/// Just a word, a side and two words.
+pub fn one_side_two<'r>(
+    request: &'r Request<'_>,
+) -> Result<(Word<'r>, Side, Word<'r>, Word<'r>), ReadingFault>
+    requires { 0 < length request.now }
+    ensures { TellsAs (λ a. (a.0, (a.1, (a.2, (a.3, tt))))) (just (Plain ∷ OnSide ∷ Plain ∷ Plain ∷ []) request.now) result }
+{
+    if request.len() != 5 {
+        return Err(WRONG_NUMBER);
+    }
+    let side = side(request, 2)?;
+    Ok((
+        plain(request, 1),
+        side,
+        plain(request, 3),
+        plain(request, 4),
+    ))
+}
+
+/// Just two words and two ends.
+pub fn two_and_ends<'r>(
+    request: &'r Request<'_>,
+) -> Result<(Word<'r>, Word<'r>, ListEnd, ListEnd), ReadingFault>
+    requires { 0 < length request.now }
+    ensures { TellsAs (λ a. (a.0, (a.1, (a.2, (a.3, tt))))) (just (Plain ∷ Plain ∷ AtEnd ∷ AtEnd ∷ []) request.now) result }
+{
+    if request.len() != 5 {
+        return Err(WRONG_NUMBER);
+    }
+    let first = end(request, 3)?;
+    let second = end(request, 4)?;
+    Ok((plain(request, 1), plain(request, 2), first, second))
+}
+
+/// A word, and a number from 0 on or none.
+pub fn one_and_perhaps<'r>(
+    request: &'r Request<'_>,
+) -> Result<(Word<'r>, Option<u64>), ReadingFault>
+    requires { 0 < length request.now }
+    ensures { Tells (one_and_amount (drop 1 request.now)) result }
+{
+    match request.len() {
+        2 => Ok((plain(request, 1), None)),
+        3 => {
+            let n = amount(request, 2)?;
+            Ok((plain(request, 1), Some(n)))
+        }
+        _ => Err(WRONG_NUMBER),
+    }
+}
+
+/// A word, and one word or more behind it.
+pub fn one_and_words<'r>(
+    alloc: Global,
+    request: &'r Request<'_>,
+) -> Result<(Word<'r>, WordList<'r>), ReadingFault>
+    requires { 0 < length request.now }
+    ensures { Gathers (one_and_some request.now) result }
+{
+    if request.len() < 3 {
+        return Err(WRONG_NUMBER);
+    }
+    let mut list = WordList::new(alloc);
+    for index in 2..request.len() {
+        if list.push(plain(request, index)).is_err() {
+            return Err(ReadingFault::Memory);
+        }
+    }
+    Ok((plain(request, 1), list))
 }
 
 /// Just a word, a time above 0 and a word.

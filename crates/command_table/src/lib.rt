@@ -6,6 +6,7 @@ mod fault;
 mod key_options;
 mod keys;
 mod kinds;
+mod lists;
 mod options;
 mod reading;
 mod strings;

@@ -2,11 +2,11 @@
 
 ghost use Rattle.std.specs.Prelude.{◌≡◌, ◌<◌, ◌≤◌, ◌+◌, List, length, drop};
 ghost use Rattle.plain_world.specs.Words.{in_lower_case};
-ghost use Rattle.plain_model.specs.Shapes.{Plain, Span, Database, Count, NamedOption, option_of, read_option, options_read};
+ghost use Rattle.plain_model.specs.Shapes.{Plain, Span, Database, Count, Amount, Rank, NamedOption, option_of, read_option, options_read};
 ghost use Rattle.command_table.specs.Readings.{Tells, at, own_word};
 
 use crate::ReadingFault;
-use crate::words::{count, database, plain, span};
+use crate::words::{amount, count, database, plain, rank, span};
 use plain_model::{Refusal, Word};
 use resp_frames::Request;
 
@@ -75,6 +75,28 @@ pub fn own_count(request: &Request<'_>, index: usize) -> Result<u64, ReadingFaul
         return Err(ReadingFault::Refused(Refusal::Syntax));
     }
     count(request, index + 1)
+}
+
+/// The one word of the option at a place, which is how many are asked for.
+pub fn own_amount(request: &Request<'_>, index: usize) -> Result<u64, ReadingFault>
+    requires { index < length request.now }
+    ensures { Tells (own_word Amount (drop (index + 1) request.now)) result }
+{
+    if request.len() - index < 2 {
+        return Err(ReadingFault::Refused(Refusal::Syntax));
+    }
+    amount(request, index + 1)
+}
+
+/// The one word of the option at a place, which is the rank of a match.
+pub fn own_rank(request: &Request<'_>, index: usize) -> Result<i64, ReadingFault>
+    requires { index < length request.now }
+    ensures { Tells (own_word Rank (drop (index + 1) request.now)) result }
+{
+    if request.len() - index < 2 {
+        return Err(ReadingFault::Refused(Refusal::Syntax));
+    }
+    rank(request, index + 1)
 }
 
 /// The one word of the option at a place.

@@ -4,7 +4,7 @@ ghost use Rattle.std.specs.Prelude.{◌≡◌, bytes_eq, length};
 ghost use Rattle.plain_world.specs.Words.{in_lower_case};
 ghost use Rattle.command_table.specs.Rows.{found_in, Finds, IsTable};
 
-use self::Name::{Connection, Keys, Strings};
+use self::Name::{Connection, Keys, Lists, Strings};
 use self::StringName::{
     Append, Decr, DecrBy, Get, GetDel, GetEx, GetRange, GetSet, Incr, IncrBy, MGet, MSet, MSetNx,
     PSetEx, Set, SetEx, SetNx, SetRange, StrLen,
@@ -33,6 +33,27 @@ pub enum StringName {
     Decr,
     IncrBy,
     DecrBy,
+}
+
+/// Which command on lists.
+#[derive(Clone, Copy)]
+pub enum ListName {
+    LPush,
+    RPush,
+    LPushX,
+    RPushX,
+    LPop,
+    RPop,
+    LLen,
+    LIndex,
+    LSet,
+    LRange,
+    LTrim,
+    LInsert,
+    LRem,
+    LPos,
+    LMove,
+    RPopLPush,
 }
 
 /// Which command on keys.
@@ -80,6 +101,7 @@ pub enum ConnectionName {
 #[derive(Clone, Copy)]
 pub enum Name {
     Strings(StringName),
+    Lists(ListName),
     Keys(KeyName),
     Connection(ConnectionName),
 }
@@ -94,7 +116,7 @@ const OF_3: [Row; 4] = [
     Row(b"ttl", Keys(KeyName::Ttl)),
 ];
 
-const OF_4: [Row; 13] = [
+const OF_4: [Row; 19] = [
     Row(b"mget", Strings(MGet)),
     Row(b"mset", Strings(MSet)),
     Row(b"incr", Strings(Incr)),
@@ -108,17 +130,27 @@ const OF_4: [Row; 13] = [
     Row(b"ping", Connection(ConnectionName::Ping)),
     Row(b"echo", Connection(ConnectionName::Echo)),
     Row(b"quit", Connection(ConnectionName::Quit)),
+    Row(b"lpop", Lists(ListName::LPop)),
+    Row(b"rpop", Lists(ListName::RPop)),
+    Row(b"llen", Lists(ListName::LLen)),
+    Row(b"lset", Lists(ListName::LSet)),
+    Row(b"lrem", Lists(ListName::LRem)),
+    Row(b"lpos", Lists(ListName::LPos)),
 ];
 
-const OF_5: [Row; 5] = [
+const OF_5: [Row; 9] = [
     Row(b"setnx", Strings(SetNx)),
     Row(b"setex", Strings(SetEx)),
     Row(b"getex", Strings(GetEx)),
     Row(b"touch", Keys(KeyName::Touch)),
     Row(b"debug", Connection(ConnectionName::Debug)),
+    Row(b"lpush", Lists(ListName::LPush)),
+    Row(b"rpush", Lists(ListName::RPush)),
+    Row(b"ltrim", Lists(ListName::LTrim)),
+    Row(b"lmove", Lists(ListName::LMove)),
 ];
 
-const OF_6: [Row; 16] = [
+const OF_6: [Row; 20] = [
     Row(b"getset", Strings(GetSet)),
     Row(b"getdel", Strings(GetDel)),
     Row(b"psetex", Strings(PSetEx)),
@@ -135,12 +167,17 @@ const OF_6: [Row; 16] = [
     Row(b"select", Connection(ConnectionName::Select)),
     Row(b"dbsize", Connection(ConnectionName::DbSize)),
     Row(b"memory", Connection(ConnectionName::Memory)),
+    Row(b"lpushx", Lists(ListName::LPushX)),
+    Row(b"rpushx", Lists(ListName::RPushX)),
+    Row(b"lindex", Lists(ListName::LIndex)),
+    Row(b"lrange", Lists(ListName::LRange)),
 ];
 
-const OF_7: [Row; 3] = [
+const OF_7: [Row; 4] = [
     Row(b"pexpire", Keys(KeyName::PExpire)),
     Row(b"persist", Keys(KeyName::Persist)),
     Row(b"flushdb", Connection(ConnectionName::FlushDb)),
+    Row(b"linsert", Lists(ListName::LInsert)),
 ];
 
 const OF_8: [Row; 5] = [
@@ -151,9 +188,10 @@ const OF_8: [Row; 5] = [
     Row(b"flushall", Connection(ConnectionName::FlushAll)),
 ];
 
-const OF_9: [Row; 2] = [
+const OF_9: [Row; 3] = [
     Row(b"pexpireat", Keys(KeyName::PExpireAt)),
     Row(b"randomkey", Keys(KeyName::RandomKey)),
+    Row(b"rpoplpush", Lists(ListName::RPopLPush)),
 ];
 
 const OF_10: [Row; 1] = [Row(b"expiretime", Keys(KeyName::ExpireTime))];

@@ -2,12 +2,12 @@
 
 ghost use Rattle.std.specs.Prelude.{◌≡◌, ◌<◌, length, bytes_eq};
 ghost use Rattle.plain_world.specs.Words.{in_lower_case};
-ghost use Rattle.plain_model.specs.Shapes.{Whole, Offset, Span, Database, Count, Steps, Cursor, told};
+ghost use Rattle.plain_model.specs.Shapes.{Whole, Offset, Span, Database, Count, Steps, Cursor, Amount, Rank, OnSide, AtEnd, told};
 ghost use Rattle.command_table.specs.Readings.{Tells, at};
 
 use crate::ReadingFault;
 use int_text::{read_i64, read_u64};
-use plain_model::{Refusal, Word};
+use plain_model::{ListEnd, Refusal, Side, Word};
 use resp_frames::Request;
 
 /// Whether a word is this name, whatever the case of either.
@@ -105,4 +105,58 @@ pub fn cursor(request: &Request<'_>, index: usize) -> Result<u64, ReadingFault>
         Some(cursor) => Ok(cursor),
         None => Err(ReadingFault::Refused(Refusal::InvalidCursor)),
     }
+}
+
+/// A word as a whole number from 0 on, which is how many are asked for.
+pub fn amount(request: &Request<'_>, index: usize) -> Result<u64, ReadingFault>
+    requires { index < length request.now }
+    ensures { Tells (told Amount (at request.now index)) result }
+{
+    let n = number(request, index)?;
+    match u64::try_from(n) {
+        Ok(amount) => Ok(amount),
+        Err(_) => Err(ReadingFault::Refused(Refusal::ValueOutOfRange)),
+    }
+}
+
+/// A word as a whole number that isn't 0 and has an opposite one, which is the rank of a match.
+pub fn rank(request: &Request<'_>, index: usize) -> Result<i64, ReadingFault>
+    requires { index < length request.now }
+    ensures { Tells (told Rank (at request.now index)) result }
+{
+    let n = number(request, index)?;
+    if n == 0 || n == i64::MIN {
+        return Err(ReadingFault::Refused(Refusal::ValueOutOfRange));
+    }
+    Ok(n)
+}
+
+/// A word as a side, BEFORE or AFTER.
+pub fn side(request: &Request<'_>, index: usize) -> Result<Side, ReadingFault>
+    requires { index < length request.now }
+    ensures { Tells (told OnSide (at request.now index)) result }
+{
+    let word = request.word(index);
+    if is_word(word, b"before") {
+        return Ok(Side::Before);
+    }
+    if is_word(word, b"after") {
+        return Ok(Side::After);
+    }
+    Err(ReadingFault::Refused(Refusal::Syntax))
+}
+
+/// A word as an end of a list, LEFT or RIGHT.
+pub fn end(request: &Request<'_>, index: usize) -> Result<ListEnd, ReadingFault>
+    requires { index < length request.now }
+    ensures { Tells (told AtEnd (at request.now index)) result }
+{
+    let word = request.word(index);
+    if is_word(word, b"left") {
+        return Ok(ListEnd::Head);
+    }
+    if is_word(word, b"right") {
+        return Ok(ListEnd::Tail);
+    }
+    Err(ReadingFault::Refused(Refusal::Syntax))
 }

@@ -20,94 +20,129 @@ pub use Rattle.held.specs.Scopes.{Scope, untouched, one_key, some_keys, no_key, 
 abbrev pub Within : Scope → Bases → Bases → Blocks → Blocks → Type 0
 Within scope old new m after = held.Within value_refs scope old new m after
 
+-- What a command may change: nothing; in a database, keys that may leave it and deadlines, and no value; the value at a
+-- key too, or at some keys, or at a key of each of two databases; all that a database holds, or all of them.
+pub data Reach : Type 0 where
+  Nothing : Reach
+  NoKey : ℕ → Reach
+  OneKey : ℕ → List ℕ → Reach
+  SomeKeys : ℕ → List (List ℕ) → Reach
+  TwoKeys : ℕ → List ℕ → ℕ → List ℕ → Reach
+  AllKeys : ℕ → Reach
+  Everything : Reach
+
+abbrev pub scope : Reach → Scope
+scope Nothing = untouched
+scope (NoKey db) = no_key db
+scope (OneKey db key) = one_key db key
+scope (SomeKeys db keys) = some_keys db keys
+scope (TwoKeys db key other_db other) = two_keys db key other_db other
+scope (AllKeys db) = all_keys db
+scope Everything = everything
+
 -- the first words of pairs
 abbrev pub first_words : List (List ℕ × List ℕ) → List (List ℕ)
 first_words pairs = map (λ pair. pair.0) pairs
 
+abbrev pub string_reach : ℕ → StringCommand → Reach
+string_reach db (strings.Get key) = Nothing
+string_reach db (strings.Set key value options) = OneKey db key
+string_reach db (strings.SetNx key value) = OneKey db key
+string_reach db (strings.SetEx key n value) = OneKey db key
+string_reach db (strings.PSetEx key n value) = OneKey db key
+string_reach db (strings.GetEx key renewal) = NoKey db
+string_reach db (strings.GetSet key value) = OneKey db key
+string_reach db (strings.GetDel key) = NoKey db
+string_reach db (strings.MGet keys) = Nothing
+string_reach db (strings.MSet pairs) = SomeKeys db (first_words pairs)
+string_reach db (strings.MSetNx pairs) = SomeKeys db (first_words pairs)
+string_reach db (strings.Append key tail) = OneKey db key
+string_reach db (strings.StrLen key) = Nothing
+string_reach db (strings.GetRange key a b) = Nothing
+string_reach db (strings.SetRange key at piece) = OneKey db key
+string_reach db (strings.Incr key) = OneKey db key
+string_reach db (strings.Decr key) = OneKey db key
+string_reach db (strings.IncrBy key n) = OneKey db key
+string_reach db (strings.DecrBy key n) = OneKey db key
+
 abbrev pub string_scope : ℕ → StringCommand → Scope
-string_scope db (strings.Get key) = untouched
-string_scope db (strings.Set key value options) = one_key db key
-string_scope db (strings.SetNx key value) = one_key db key
-string_scope db (strings.SetEx key n value) = one_key db key
-string_scope db (strings.PSetEx key n value) = one_key db key
-string_scope db (strings.GetEx key renewal) = no_key db
-string_scope db (strings.GetSet key value) = one_key db key
-string_scope db (strings.GetDel key) = no_key db
-string_scope db (strings.MGet keys) = untouched
-string_scope db (strings.MSet pairs) = some_keys db (first_words pairs)
-string_scope db (strings.MSetNx pairs) = some_keys db (first_words pairs)
-string_scope db (strings.Append key tail) = one_key db key
-string_scope db (strings.StrLen key) = untouched
-string_scope db (strings.GetRange key a b) = untouched
-string_scope db (strings.SetRange key at piece) = one_key db key
-string_scope db (strings.Incr key) = one_key db key
-string_scope db (strings.Decr key) = one_key db key
-string_scope db (strings.IncrBy key n) = one_key db key
-string_scope db (strings.DecrBy key n) = one_key db key
+string_scope db command = scope (string_reach db command)
+
+abbrev pub list_reach : ℕ → ListCommand → Reach
+list_reach db (lists.LPush key elements) = OneKey db key
+list_reach db (lists.RPush key elements) = OneKey db key
+list_reach db (lists.LPushX key elements) = OneKey db key
+list_reach db (lists.RPushX key elements) = OneKey db key
+list_reach db (lists.LPop key n) = OneKey db key
+list_reach db (lists.RPop key n) = OneKey db key
+list_reach db (lists.LLen key) = Nothing
+list_reach db (lists.LIndex key index) = Nothing
+list_reach db (lists.LSet key index element) = OneKey db key
+list_reach db (lists.LRange key a b) = Nothing
+list_reach db (lists.LTrim key a b) = OneKey db key
+list_reach db (lists.LInsert key side pivot element) = OneKey db key
+list_reach db (lists.LRem key n element) = OneKey db key
+list_reach db (lists.LPos key element options) = Nothing
+list_reach db (lists.LMove from to end other) = TwoKeys db from db to
+list_reach db (lists.RPopLPush from to) = TwoKeys db from db to
 
 abbrev pub list_scope : ℕ → ListCommand → Scope
-list_scope db (lists.LPush key elements) = one_key db key
-list_scope db (lists.RPush key elements) = one_key db key
-list_scope db (lists.LPushX key elements) = one_key db key
-list_scope db (lists.RPushX key elements) = one_key db key
-list_scope db (lists.LPop key n) = one_key db key
-list_scope db (lists.RPop key n) = one_key db key
-list_scope db (lists.LLen key) = untouched
-list_scope db (lists.LIndex key index) = untouched
-list_scope db (lists.LSet key index element) = one_key db key
-list_scope db (lists.LRange key a b) = untouched
-list_scope db (lists.LTrim key a b) = one_key db key
-list_scope db (lists.LInsert key side pivot element) = one_key db key
-list_scope db (lists.LRem key n element) = one_key db key
-list_scope db (lists.LPos key element options) = untouched
-list_scope db (lists.LMove from to end other) = two_keys db from db to
-list_scope db (lists.RPopLPush from to) = two_keys db from db to
+list_scope db command = scope (list_reach db command)
 
 -- the database of this number, or else the selected one
 abbrev pub number_or : ℕ → Option ℕ → ℕ
 number_or db None = db
 number_or db (Some number) = number
 
+abbrev pub key_reach : ℕ → KeyCommand → Reach
+key_reach db (keys.Del names) = NoKey db
+key_reach db (keys.Unlink names) = NoKey db
+key_reach db (keys.Exists names) = Nothing
+key_reach db (keys.Touch names) = Nothing
+key_reach db (keys.TypeOf key) = Nothing
+key_reach db (keys.Expire key n options) = NoKey db
+key_reach db (keys.PExpire key n options) = NoKey db
+key_reach db (keys.ExpireAt key n options) = NoKey db
+key_reach db (keys.PExpireAt key n options) = NoKey db
+key_reach db (keys.Ttl key) = Nothing
+key_reach db (keys.PTtl key) = Nothing
+key_reach db (keys.ExpireTime key) = Nothing
+key_reach db (keys.PExpireTime key) = Nothing
+key_reach db (keys.Persist key) = NoKey db
+key_reach db (keys.Rename from to) = TwoKeys db from db to
+key_reach db (keys.RenameNx from to) = TwoKeys db from db to
+key_reach db (keys.Copy from to options) = TwoKeys db from (number_or db options.db) to
+key_reach db (keys.MoveKey key number) = TwoKeys db key number key
+key_reach db keys.RandomKey = Nothing
+key_reach db (keys.ObjectEncoding key) = Nothing
+key_reach db (keys.KeysLike pattern) = Nothing
+key_reach db (keys.Scan cursor options) = Nothing
+
 abbrev pub key_scope : ℕ → KeyCommand → Scope
-key_scope db (keys.Del names) = no_key db
-key_scope db (keys.Unlink names) = no_key db
-key_scope db (keys.Exists names) = untouched
-key_scope db (keys.Touch names) = untouched
-key_scope db (keys.TypeOf key) = untouched
-key_scope db (keys.Expire key n options) = no_key db
-key_scope db (keys.PExpire key n options) = no_key db
-key_scope db (keys.ExpireAt key n options) = no_key db
-key_scope db (keys.PExpireAt key n options) = no_key db
-key_scope db (keys.Ttl key) = untouched
-key_scope db (keys.PTtl key) = untouched
-key_scope db (keys.ExpireTime key) = untouched
-key_scope db (keys.PExpireTime key) = untouched
-key_scope db (keys.Persist key) = no_key db
-key_scope db (keys.Rename from to) = two_keys db from db to
-key_scope db (keys.RenameNx from to) = two_keys db from db to
-key_scope db (keys.Copy from to options) = two_keys db from (number_or db options.db) to
-key_scope db (keys.MoveKey key number) = two_keys db key number key
-key_scope db keys.RandomKey = untouched
-key_scope db (keys.ObjectEncoding key) = untouched
-key_scope db (keys.KeysLike pattern) = untouched
-key_scope db (keys.Scan cursor options) = untouched
+key_scope db command = scope (key_reach db command)
+
+abbrev pub connection_reach : ℕ → ConnectionCommand → Reach
+connection_reach db (connection.Ping text) = Nothing
+connection_reach db (connection.Echo text) = Nothing
+connection_reach db connection.Quit = Nothing
+connection_reach db (connection.Select number) = Nothing
+connection_reach db connection.DbSize = NoKey db
+connection_reach db connection.FlushDb = AllKeys db
+connection_reach db connection.FlushAll = Everything
+connection_reach db connection.MemorySlabs = Nothing
+connection_reach db (connection.DebugRehash n) = Nothing
+connection_reach db (connection.DebugDefrag n) = Nothing
 
 abbrev pub connection_scope : ℕ → ConnectionCommand → Scope
-connection_scope db (connection.Ping text) = untouched
-connection_scope db (connection.Echo text) = untouched
-connection_scope db connection.Quit = untouched
-connection_scope db (connection.Select number) = untouched
-connection_scope db connection.DbSize = no_key db
-connection_scope db connection.FlushDb = all_keys db
-connection_scope db connection.FlushAll = everything
-connection_scope db connection.MemorySlabs = untouched
-connection_scope db (connection.DebugRehash n) = untouched
-connection_scope db (connection.DebugDefrag n) = untouched
+connection_scope db command = scope (connection_reach db command)
 
 -- What a command but DEBUG may change, where this database is selected. A key that it removes, or whose deadline it
 -- changes, it doesn't write.
+abbrev pub reach_of : ℕ → Command → Reach
+reach_of db (Strings command) = string_reach db command
+reach_of db (Lists command) = list_reach db command
+reach_of db (Keys command) = key_reach db command
+reach_of db (Connection command) = connection_reach db command
+
 abbrev pub scope_of : ℕ → Command → Scope
-scope_of db (Strings command) = string_scope db command
-scope_of db (Lists command) = list_scope db command
-scope_of db (Keys command) = key_scope db command
-scope_of db (Connection command) = connection_scope db command
+scope_of db command = scope (reach_of db command)

@@ -5,19 +5,22 @@ use Rattle.std.specs.List.{Contains}
 use Rattle.held.specs.Scopes.{keys_of}
 use Rattle.plain_model.specs.Meant.{IsAsked}
 use Rattle.plain_model.specs.declared.command.Command.{Command}
-use Rattle.plain_model.specs.declared.command.Command.TheVariants.{Strings, Keys, Connection}
+use Rattle.plain_model.specs.declared.command.Command.TheVariants.{Strings, Lists, Keys, Connection}
 use Rattle.plain_model.specs.declared.command.StringCommand.{StringCommand}
 use Rattle.plain_model.specs.declared.command.StringCommand.TheVariants as strings
+use Rattle.plain_model.specs.declared.list_command.ListCommand.{ListCommand}
+use Rattle.plain_model.specs.declared.list_command.ListCommand.TheVariants as lists
 use Rattle.plain_model.specs.declared.keys.KeyCommand.{KeyCommand}
 use Rattle.plain_model.specs.declared.keys.KeyCommand.TheVariants as keys
 use Rattle.plain_model.specs.declared.connection.ConnectionCommand.{ConnectionCommand}
 use Rattle.plain_model.specs.declared.connection.ConnectionCommand.TheVariants as connection
-use Rattle.keyspace.specs.Scopes.{Scope, untouched, two_keys, all_keys, everything, first_words, number_or, string_scope, key_scope, connection_scope, scope_of}
+use Rattle.keyspace.specs.Scopes.{Scope, Reach, untouched, two_keys, all_keys, everything, number_or, scope, string_reach, list_reach, key_reach, connection_reach, reach_of, scope_of}
+use Rattle.keyspace.specs.Scopes as reach
 use Rattle.cmd_keys.specs.Found.{IsDatabase}
 use Rattle.cmd_keys.proofs.KeyLemmas.{asked_copy, asked_move}
 use Rattle.redis_core.specs.declared.settling.Touched.{Touched}
 use Rattle.redis_core.specs.declared.settling.Touched.TheVariants.{Nothing, One, Two, All}
-use Rattle.redis_core.specs.Touched.{covers, AreDatabases, string_touched, key_touched, connection_touched, touched_of}
+use Rattle.redis_core.specs.Touched.{covers, databases, AreDatabases, touched_of}
 
 -- these are the databases that the scope touches, and it writes keys of no others
 pub record Fits (scope : Scope) (touched : Touched) : Type 0 where
@@ -40,68 +43,18 @@ fits_all db = record { into = λ number h. h; from = λ number h. h; tight = λ 
 fits_everything : Fits everything All
 fits_everything = record { into = λ number h. h; from = λ number h. h; tight = λ number key h. absurd h }
 
--- The scope of each command touches the databases that it is said to touch.
-pub string_fits : (db : ℕ) (command : StringCommand) → Fits (string_scope db command) (string_touched db command)
-string_fits db (strings.Get key) = fits_none
-string_fits db (strings.Set key value options) = fits_keys db (λ other. other ≡ key)
-string_fits db (strings.SetNx key value) = fits_keys db (λ other. other ≡ key)
-string_fits db (strings.SetEx key n value) = fits_keys db (λ other. other ≡ key)
-string_fits db (strings.PSetEx key n value) = fits_keys db (λ other. other ≡ key)
-string_fits db (strings.GetEx key renewal) = fits_keys db (λ other. ⊥)
-string_fits db (strings.GetSet key value) = fits_keys db (λ other. other ≡ key)
-string_fits db (strings.GetDel key) = fits_keys db (λ other. ⊥)
-string_fits db (strings.MGet keys) = fits_none
-string_fits db (strings.MSet pairs) = fits_keys db (Contains (first_words pairs))
-string_fits db (strings.MSetNx pairs) = fits_keys db (Contains (first_words pairs))
-string_fits db (strings.Append key tail) = fits_keys db (λ other. other ≡ key)
-string_fits db (strings.StrLen key) = fits_none
-string_fits db (strings.GetRange key a b) = fits_none
-string_fits db (strings.SetRange key at piece) = fits_keys db (λ other. other ≡ key)
-string_fits db (strings.Incr key) = fits_keys db (λ other. other ≡ key)
-string_fits db (strings.Decr key) = fits_keys db (λ other. other ≡ key)
-string_fits db (strings.IncrBy key n) = fits_keys db (λ other. other ≡ key)
-string_fits db (strings.DecrBy key n) = fits_keys db (λ other. other ≡ key)
-
-pub key_fits : (db : ℕ) (command : KeyCommand) → Fits (key_scope db command) (key_touched db command)
-key_fits db (keys.Del names) = fits_keys db (λ other. ⊥)
-key_fits db (keys.Unlink names) = fits_keys db (λ other. ⊥)
-key_fits db (keys.Exists names) = fits_none
-key_fits db (keys.Touch names) = fits_none
-key_fits db (keys.TypeOf key) = fits_none
-key_fits db (keys.Expire key n options) = fits_keys db (λ other. ⊥)
-key_fits db (keys.PExpire key n options) = fits_keys db (λ other. ⊥)
-key_fits db (keys.ExpireAt key n options) = fits_keys db (λ other. ⊥)
-key_fits db (keys.PExpireAt key n options) = fits_keys db (λ other. ⊥)
-key_fits db (keys.Ttl key) = fits_none
-key_fits db (keys.PTtl key) = fits_none
-key_fits db (keys.ExpireTime key) = fits_none
-key_fits db (keys.PExpireTime key) = fits_none
-key_fits db (keys.Persist key) = fits_keys db (λ other. ⊥)
-key_fits db (keys.Rename from to) = fits_two db from db to
-key_fits db (keys.RenameNx from to) = fits_two db from db to
-key_fits db (keys.Copy from to options) = fits_two db from (number_or db options.db) to
-key_fits db (keys.MoveKey key number) = fits_two db key number key
-key_fits db keys.RandomKey = fits_none
-key_fits db (keys.ObjectEncoding key) = fits_none
-key_fits db (keys.KeysLike pattern) = fits_none
-key_fits db (keys.Scan cursor options) = fits_none
-
-pub connection_fits : (db : ℕ) (command : ConnectionCommand) → Fits (connection_scope db command) (connection_touched db command)
-connection_fits db (connection.Ping text) = fits_none
-connection_fits db (connection.Echo text) = fits_none
-connection_fits db connection.Quit = fits_none
-connection_fits db (connection.Select number) = fits_none
-connection_fits db connection.DbSize = fits_keys db (λ other. ⊥)
-connection_fits db connection.FlushDb = fits_all db
-connection_fits db connection.FlushAll = fits_everything
-connection_fits db connection.MemorySlabs = fits_none
-connection_fits db (connection.DebugRehash n) = fits_none
-connection_fits db (connection.DebugDefrag n) = fits_none
+-- The scope of what may change touches its databases.
+pub fits : (reach : Reach) → Fits (scope reach) (databases reach)
+fits reach.Nothing = fits_none
+fits (reach.NoKey db) = fits_keys db (λ other. ⊥)
+fits (reach.OneKey db key) = fits_keys db (λ other. other ≡ key)
+fits (reach.SomeKeys db keys) = fits_keys db (Contains keys)
+fits (reach.TwoKeys db key other_db other) = fits_two db key other_db other
+fits (reach.AllKeys db) = fits_all db
+fits reach.Everything = fits_everything
 
 pub fits_of : (db : ℕ) (command : Command) → Fits (scope_of db command) (touched_of db command)
-fits_of db (Strings command) = string_fits db command
-fits_of db (Keys command) = key_fits db command
-fits_of db (Connection command) = connection_fits db command
+fits_of db command = fits (reach_of db command)
 
 -- ---- they are databases
 
@@ -109,7 +62,7 @@ copied : (db : ℕ) → db < 16 → (number : Option ℕ) → IsDatabase number 
 copied db below None is = below
 copied db below (Some number) is = is
 
-pub string_databases : (db : ℕ) → db < 16 → (command : StringCommand) → AreDatabases (string_touched db command)
+pub string_databases : (db : ℕ) → db < 16 → (command : StringCommand) → AreDatabases (databases (string_reach db command))
 string_databases db below (strings.Get key) = tt
 string_databases db below (strings.Set key value options) = below
 string_databases db below (strings.SetNx key value) = below
@@ -130,7 +83,25 @@ string_databases db below (strings.Decr key) = below
 string_databases db below (strings.IncrBy key n) = below
 string_databases db below (strings.DecrBy key n) = below
 
-pub key_databases : (db : ℕ) → db < 16 → (command : KeyCommand) → IsAsked (Keys command) → AreDatabases (key_touched db command)
+pub list_databases : (db : ℕ) → db < 16 → (command : ListCommand) → AreDatabases (databases (list_reach db command))
+list_databases db below (lists.LPush key elements) = below
+list_databases db below (lists.RPush key elements) = below
+list_databases db below (lists.LPushX key elements) = below
+list_databases db below (lists.RPushX key elements) = below
+list_databases db below (lists.LPop key n) = below
+list_databases db below (lists.RPop key n) = below
+list_databases db below (lists.LLen key) = tt
+list_databases db below (lists.LIndex key index) = tt
+list_databases db below (lists.LSet key index element) = below
+list_databases db below (lists.LRange key a b) = tt
+list_databases db below (lists.LTrim key a b) = below
+list_databases db below (lists.LInsert key side pivot element) = below
+list_databases db below (lists.LRem key n element) = below
+list_databases db below (lists.LPos key element options) = tt
+list_databases db below (lists.LMove from to end other) = (below, below)
+list_databases db below (lists.RPopLPush from to) = (below, below)
+
+pub key_databases : (db : ℕ) → db < 16 → (command : KeyCommand) → IsAsked (Keys command) → AreDatabases (databases (key_reach db command))
 key_databases db below (keys.Del names) asked = below
 key_databases db below (keys.Unlink names) asked = below
 key_databases db below (keys.Exists names) asked = tt
@@ -154,7 +125,7 @@ key_databases db below (keys.ObjectEncoding key) asked = tt
 key_databases db below (keys.KeysLike pattern) asked = tt
 key_databases db below (keys.Scan cursor options) asked = tt
 
-pub connection_databases : (db : ℕ) → db < 16 → (command : ConnectionCommand) → AreDatabases (connection_touched db command)
+pub connection_databases : (db : ℕ) → db < 16 → (command : ConnectionCommand) → AreDatabases (databases (connection_reach db command))
 connection_databases db below (connection.Ping text) = tt
 connection_databases db below (connection.Echo text) = tt
 connection_databases db below connection.Quit = tt
@@ -168,6 +139,7 @@ connection_databases db below (connection.DebugDefrag n) = tt
 
 pub databases_of : (db : ℕ) → db < 16 → (command : Command) → IsAsked command → AreDatabases (touched_of db command)
 databases_of db below (Strings command) asked = string_databases db below command
+databases_of db below (Lists command) asked = list_databases db below command
 databases_of db below (Keys command) asked = key_databases db below command asked
 databases_of db below (Connection command) asked = connection_databases db below command
 

@@ -19,6 +19,13 @@ use Rattle.plain_model.specs.declared.times.Lifetime.{Lifetime}
 use Rattle.plain_model.specs.declared.times.Lifetime.TheVariants as lifetimes
 use Rattle.plain_model.specs.declared.times.Renewal.{Renewal}
 use Rattle.plain_model.specs.declared.times.Renewal.TheVariants as renewals
+use Rattle.plain_model.specs.OfType.{of_type, on_type, list_in}
+use Rattle.plain_model.specs.ListSteps.{Elements, from_end, first_or_null, push_there, pop_of, set_place, set_at, trim, insert_there, insert_beside, inserted_beside, remove_equal, place_of, move_first, move_there, list_outcome}
+use Rattle.plain_model.specs.declared.list_command.Side.{Side}
+use Rattle.plain_model.specs.declared.list_command.ListEnd.{ListEnd}
+use Rattle.plain_model.specs.declared.list_command.ListEnd.TheVariants.{Head, Tail}
+use Rattle.plain_model.specs.declared.list_command.ListCommand.{ListCommand}
+use Rattle.plain_model.specs.declared.list_command.ListCommand.TheVariants as lists
 use Rattle.plain_model.specs.declared.keys.KeyCommand.{KeyCommand}
 use Rattle.plain_model.specs.declared.keys.KeyCommand.TheVariants as keys
 use Rattle.plain_model.specs.declared.keys.ExpireOptions.{ExpireOptions}
@@ -27,7 +34,7 @@ use Rattle.plain_model.specs.declared.connection.ConnectionCommand.TheVariants a
 use Rattle.plain_world.specs.Words.{longest}
 use Rattle.plain_model.specs.declared.command.Command.{Command}
 use Rattle.plain_model.specs.declared.command.Condition.{Condition}
-use Rattle.plain_model.specs.declared.command.Command.TheVariants.{Strings, Keys, Connection}
+use Rattle.plain_model.specs.declared.command.Command.TheVariants.{Strings, Lists, Keys, Connection}
 use Rattle.plain_model.specs.declared.command.StringCommand.{StringCommand}
 use Rattle.plain_model.specs.declared.command.StringCommand.TheVariants as strings
 use Rattle.plain_world.specs.declared.refusal.Refusal.{Refusal}
@@ -162,6 +169,82 @@ module _ (old : World) where
   keys_keep seed moment (keys.KeysLike pattern) reply new m r = m.1
   keys_keep seed moment (keys.Scan cursor options) reply new m r = m.1
 
+  of_type_keeps : {A : Type 0} (own : Option A) (answer : Option A → Outcome) → ((before : Option A) → Keeps (answer before)) → Keeps (of_type old own answer)
+  of_type_keeps None answer h = λ r. refl
+  of_type_keeps (Some own) answer h = h (Some own)
+
+  on_type_keeps : {A : Type 0} (in_value : Value → Option A) (entry : Option Entry) (answer : Option A → Outcome) → ((before : Option A) → Keeps (answer before)) → Keeps (on_type in_value old entry answer)
+  on_type_keeps in_value None answer h = h None
+  on_type_keeps in_value (Some entry) answer h = of_type_keeps (in_value entry.value) answer h
+
+  -- what is answered of the list at a key
+  on_list_keeps : (key : List ℕ) (answer : Option Elements → Outcome) → ((before : Option Elements) → Keeps (answer before)) → Keeps (on_type list_in old (look old key) answer)
+  on_list_keeps key answer h = on_type_keeps list_in (look old key) answer h
+
+  no_first : {X : Type 0} (list : Elements) → IsRefusal (first_or_null list ∷ []) → X
+  no_first [] r = absurd r
+  no_first (element ∷ list) r = absurd r
+
+  pushx_keeps : (end : ListEnd) (key : List ℕ) (elements : Elements) (before : Option Elements) → Keeps (push_there old end key elements before)
+  pushx_keeps end key elements None = λ r. absurd r
+  pushx_keeps end key elements (Some list) = λ r. absurd r
+
+  pop_keeps : (end : ListEnd) (key : List ℕ) (n : Option ℕ) (before : Option Elements) → Keeps (pop_of old end key n before)
+  pop_keeps end key None None = λ r. absurd r
+  pop_keeps end key None (Some list) = λ r. no_first (from_end end list) r
+  pop_keeps end key (Some n) None = λ r. absurd r
+  pop_keeps end key (Some n) (Some list) = λ r. absurd r
+
+  place_keeps : (key element : List ℕ) (list : Elements) (place : Option ℕ) → Keeps (set_place old key element list place)
+  place_keeps key element list None = λ r. refl
+  place_keeps key element list (Some n) = λ r. absurd r
+
+  set_keeps_list : (key : List ℕ) (index : ℤ) (element : List ℕ) (before : Option Elements) → Keeps (set_at old key index element before)
+  set_keeps_list key index element None = λ r. refl
+  set_keeps_list key index element (Some list) = place_keeps key element list (place_of (length list) index)
+
+  trim_keeps : (key : List ℕ) (a b : ℤ) (before : Option Elements) → Keeps (trim old key a b before)
+  trim_keeps key a b None = λ r. absurd r
+  trim_keeps key a b (Some list) = λ r. absurd r
+
+  inserted_keeps : (key : List ℕ) (list : Option Elements) → Keeps (insert_there old key list)
+  inserted_keeps key None = λ r. absurd r
+  inserted_keeps key (Some list) = λ r. absurd r
+
+  insert_keeps : (key : List ℕ) (side : Side) (pivot element : List ℕ) (before : Option Elements) → Keeps (insert_beside old key side pivot element before)
+  insert_keeps key side pivot element None = λ r. absurd r
+  insert_keeps key side pivot element (Some list) = inserted_keeps key (inserted_beside side pivot element list)
+
+  removal_keeps : (key : List ℕ) (n : ℤ) (element : List ℕ) (before : Option Elements) → Keeps (remove_equal old key n element before)
+  removal_keeps key n element None = λ r. absurd r
+  removal_keeps key n element (Some list) = λ r. absurd r
+
+  first_keeps : (from to : List ℕ) (end other : ListEnd) (list met : Elements) → Keeps (move_first old from to end other list met)
+  first_keeps from to end other list [] = λ r. absurd r
+  first_keeps from to end other list (element ∷ met) = either (bytes_eq from to) _ _ (λ r. absurd r) (on_list_keeps to _ (λ before r. absurd r))
+
+  move_keeps : (from to : List ℕ) (end other : ListEnd) (before : Option Elements) → Keeps (move_there old from to end other before)
+  move_keeps from to end other None = λ r. absurd r
+  move_keeps from to end other (Some list) = first_keeps from to end other list (from_end end list)
+
+  lists_keep : (command : ListCommand) → Keeps (list_outcome old command)
+  lists_keep (lists.LPush key elements) = on_list_keeps key _ (λ before r. absurd r)
+  lists_keep (lists.RPush key elements) = on_list_keeps key _ (λ before r. absurd r)
+  lists_keep (lists.LPushX key elements) = on_list_keeps key _ (pushx_keeps Head key elements)
+  lists_keep (lists.RPushX key elements) = on_list_keeps key _ (pushx_keeps Tail key elements)
+  lists_keep (lists.LPop key n) = on_list_keeps key _ (pop_keeps Head key n)
+  lists_keep (lists.RPop key n) = on_list_keeps key _ (pop_keeps Tail key n)
+  lists_keep (lists.LLen key) = on_list_keeps key _ (λ before r. refl)
+  lists_keep (lists.LIndex key index) = on_list_keeps key _ (λ before r. refl)
+  lists_keep (lists.LSet key index element) = on_list_keeps key _ (set_keeps_list key index element)
+  lists_keep (lists.LRange key a b) = on_list_keeps key _ (λ before r. refl)
+  lists_keep (lists.LTrim key a b) = on_list_keeps key _ (trim_keeps key a b)
+  lists_keep (lists.LInsert key side pivot element) = on_list_keeps key _ (insert_keeps key side pivot element)
+  lists_keep (lists.LRem key n element) = on_list_keeps key _ (removal_keeps key n element)
+  lists_keep (lists.LPos key element options) = on_list_keeps key _ (λ before r. refl)
+  lists_keep (lists.LMove from to end other) = on_list_keeps from _ (move_keeps from to end other)
+  lists_keep (lists.RPopLPush from to) = on_list_keeps from _ (move_keeps from to Tail Head)
+
   connection_keeps : (moment : ℕ) (command : ConnectionCommand) (reply : List Part) (new : World) → may_connection old moment command reply new → IsRefusal reply → new ≡ old
   connection_keeps moment (connection.Ping text) reply new m r = m.1
   connection_keeps moment (connection.Echo text) reply new m r = m.1
@@ -176,6 +259,7 @@ module _ (old : World) where
 
   command_keeps : (seed moment : ℕ) (command : Command) (reply : List Part) (new : World) → may seed old moment command reply new → IsRefusal reply → new ≡ old
   command_keeps seed moment (Strings command) reply new m r = m.1 ∙ outcome_keeps moment command (subst IsRefusal m.0 r)
+  command_keeps seed moment (Lists command) reply new m r = m.1 ∙ lists_keep command (subst IsRefusal m.0 r)
   command_keeps seed moment (Keys command) reply new m r = keys_keep seed moment command reply new m r
   command_keeps seed moment (Connection command) reply new m r = connection_keeps moment command reply new m r
 

@@ -9,12 +9,7 @@ use Rattle.plain_world.specs.Worlds.{World}
 use Rattle.plain_world.specs.declared.refusal.Refusal.{Refusal}
 use Rattle.plain_model.specs.Steps.{may}
 use Rattle.plain_model.specs.declared.command.Command.{Command}
-use Rattle.plain_model.specs.declared.command.Command.TheVariants.{Strings, Keys, Connection}
-use Rattle.plain_model.specs.declared.command.StringCommand.{StringCommand}
-use Rattle.plain_model.specs.declared.command.StringCommand.TheVariants as strings
-use Rattle.plain_model.specs.declared.keys.KeyCommand.{KeyCommand}
-use Rattle.plain_model.specs.declared.keys.KeyCommand.TheVariants as keys
-use Rattle.plain_model.specs.declared.connection.ConnectionCommand.{ConnectionCommand}
+use Rattle.plain_model.specs.declared.command.Command.TheVariants.{Strings, Lists, Keys, Connection}
 use Rattle.plain_model.specs.declared.connection.ConnectionCommand.TheVariants as connection
 use Rattle.keyspace.specs.Databases.{Bases, Keyspace}
 use Rattle.keyspace.specs.Shown.{Shows}
@@ -23,7 +18,8 @@ use Rattle.cmd_keys.specs.Found as found
 use Rattle.plain_model.specs.declared.ctx.Ctx.{Ctx}
 use Rattle.plain_world.specs.declared.reply.Part.{Part}
 use Rattle.plain_world.specs.declared.reply.Part.TheVariants.{Refused}
-use Rattle.keyspace.specs.Scopes.{Scope, untouched, number_or, scope_of}
+use Rattle.keyspace.specs.Scopes.{Scope, Reach, untouched, reach_of, scope_of}
+use Rattle.keyspace.specs.Scopes as reach
 use Rattle.redis_core.specs.declared.settling.Touched.{Touched}
 use Rattle.redis_core.specs.declared.settling.Touched.TheVariants.{Nothing, One, Two, All}
 
@@ -43,67 +39,18 @@ AreDatabases (One db) = db < 16
 AreDatabases (Two db other) = (db < 16) × (other < 16)
 AreDatabases All = Unit {0}
 
-abbrev pub string_touched : ℕ → StringCommand → Touched
-string_touched db (strings.Get key) = Nothing
-string_touched db (strings.Set key value options) = One db
-string_touched db (strings.SetNx key value) = One db
-string_touched db (strings.SetEx key n value) = One db
-string_touched db (strings.PSetEx key n value) = One db
-string_touched db (strings.GetEx key renewal) = One db
-string_touched db (strings.GetSet key value) = One db
-string_touched db (strings.GetDel key) = One db
-string_touched db (strings.MGet keys) = Nothing
-string_touched db (strings.MSet pairs) = One db
-string_touched db (strings.MSetNx pairs) = One db
-string_touched db (strings.Append key tail) = One db
-string_touched db (strings.StrLen key) = Nothing
-string_touched db (strings.GetRange key a b) = Nothing
-string_touched db (strings.SetRange key at piece) = One db
-string_touched db (strings.Incr key) = One db
-string_touched db (strings.Decr key) = One db
-string_touched db (strings.IncrBy key n) = One db
-string_touched db (strings.DecrBy key n) = One db
-
-abbrev pub key_touched : ℕ → KeyCommand → Touched
-key_touched db (keys.Del names) = One db
-key_touched db (keys.Unlink names) = One db
-key_touched db (keys.Exists names) = Nothing
-key_touched db (keys.Touch names) = Nothing
-key_touched db (keys.TypeOf key) = Nothing
-key_touched db (keys.Expire key n options) = One db
-key_touched db (keys.PExpire key n options) = One db
-key_touched db (keys.ExpireAt key n options) = One db
-key_touched db (keys.PExpireAt key n options) = One db
-key_touched db (keys.Ttl key) = Nothing
-key_touched db (keys.PTtl key) = Nothing
-key_touched db (keys.ExpireTime key) = Nothing
-key_touched db (keys.PExpireTime key) = Nothing
-key_touched db (keys.Persist key) = One db
-key_touched db (keys.Rename from to) = Two db db
-key_touched db (keys.RenameNx from to) = Two db db
-key_touched db (keys.Copy from to options) = Two db (number_or db options.db)
-key_touched db (keys.MoveKey key number) = Two db number
-key_touched db keys.RandomKey = Nothing
-key_touched db (keys.ObjectEncoding key) = Nothing
-key_touched db (keys.KeysLike pattern) = Nothing
-key_touched db (keys.Scan cursor options) = Nothing
-
-abbrev pub connection_touched : ℕ → ConnectionCommand → Touched
-connection_touched db (connection.Ping text) = Nothing
-connection_touched db (connection.Echo text) = Nothing
-connection_touched db connection.Quit = Nothing
-connection_touched db (connection.Select number) = Nothing
-connection_touched db connection.DbSize = One db
-connection_touched db connection.FlushDb = One db
-connection_touched db connection.FlushAll = All
-connection_touched db connection.MemorySlabs = Nothing
-connection_touched db (connection.DebugRehash n) = Nothing
-connection_touched db (connection.DebugDefrag n) = Nothing
+-- the databases of what a command may change
+abbrev pub databases : Reach → Touched
+databases reach.Nothing = Nothing
+databases (reach.NoKey db) = One db
+databases (reach.OneKey db key) = One db
+databases (reach.SomeKeys db keys) = One db
+databases (reach.TwoKeys db key other_db other) = Two db other_db
+databases (reach.AllKeys db) = One db
+databases reach.Everything = All
 
 abbrev pub touched_of : ℕ → Command → Touched
-touched_of db (Strings command) = string_touched db command
-touched_of db (Keys command) = key_touched db command
-touched_of db (Connection command) = connection_touched db command
+touched_of db command = databases (reach_of db command)
 
 -- calls of `shrink` alone, in these databases
 abbrev pub shrinking : Touched → Scope
@@ -130,6 +77,7 @@ form_meant db world (Err refusal) = Unwritten
 -- the command runs over the keyspace alone, and what it may answer is one outcome in the world
 abbrev pub IsCommon : Command → Type 0
 IsCommon (Strings command) = Unit {0}
+IsCommon (Lists command) = Unit {0}
 IsCommon (Keys command) = Unit {0}
 IsCommon (Connection command) = found.IsCommon command
 

@@ -3,14 +3,13 @@
 ghost use Rattle.std.specs.Prelude.{◌≡◌, ◌<◌, ℕ, OnOk, IfSome, IfNone};
 ghost use Rattle.keyspace.specs.Databases.{means};
 ghost use Rattle.keyspace.specs.Sound.{Sound};
-ghost use Rattle.keyspace.specs.Scopes.{no_key, number_or, AreSettled};
+ghost use Rattle.keyspace.specs.Scopes.{no_key, number_or, AreSettled, string_reach, list_reach, key_reach, connection_reach};
 ghost use Rattle.keyspace.specs.Commands.{Held};
-ghost use Rattle.redis_core.specs.Touched as touched;
-ghost use Rattle.redis_core.specs.Touched.{covers, shrinking, AreDatabases};
+ghost use Rattle.redis_core.specs.Touched.{covers, databases, shrinking, touched_of, AreDatabases};
 
 use blocks::BlockStore;
 use keyspace::Keyspace;
-use plain_model::{Command, ConnectionCommand, KeyCommand, Memory, StringCommand};
+use plain_model::{Command, ConnectionCommand, KeyCommand, ListCommand, Memory, StringCommand};
 
 // How many databases there are.
 const DATABASES: usize = 16;
@@ -25,7 +24,7 @@ pub enum Touched {
 }
 
 fn touched_by_strings(command: &StringCommand<'_>, db: usize) -> Touched
-    ensures { result ≡ touched.string_touched db command.now }
+    ensures { result ≡ databases (string_reach db command.now) }
 {
     match command {
         StringCommand::Get(_) => Touched::Nothing,
@@ -50,6 +49,29 @@ fn touched_by_strings(command: &StringCommand<'_>, db: usize) -> Touched
     }
 }
 
+fn touched_by_lists(command: &ListCommand<'_>, db: usize) -> Touched
+    ensures { result ≡ databases (list_reach db command.now) }
+{
+    match command {
+        ListCommand::LPush(_, _) => Touched::One(db),
+        ListCommand::RPush(_, _) => Touched::One(db),
+        ListCommand::LPushX(_, _) => Touched::One(db),
+        ListCommand::RPushX(_, _) => Touched::One(db),
+        ListCommand::LPop(_, _) => Touched::One(db),
+        ListCommand::RPop(_, _) => Touched::One(db),
+        ListCommand::LLen(_) => Touched::Nothing,
+        ListCommand::LIndex(_, _) => Touched::Nothing,
+        ListCommand::LSet(_, _, _) => Touched::One(db),
+        ListCommand::LRange(_, _, _) => Touched::Nothing,
+        ListCommand::LTrim(_, _, _) => Touched::One(db),
+        ListCommand::LInsert(_, _, _, _) => Touched::One(db),
+        ListCommand::LRem(_, _, _) => Touched::One(db),
+        ListCommand::LPos(_, _, _) => Touched::Nothing,
+        ListCommand::LMove(_, _, _, _) => Touched::Two(db, db),
+        ListCommand::RPopLPush(_, _) => Touched::Two(db, db),
+    }
+}
+
 // The database of this number, or else the selected one.
 fn number_of(db: usize, number: Option<usize>) -> usize
     ensures { result ≡ number_or db number }
@@ -61,7 +83,7 @@ fn number_of(db: usize, number: Option<usize>) -> usize
 }
 
 fn touched_by_keys(command: &KeyCommand<'_>, db: usize) -> Touched
-    ensures { result ≡ touched.key_touched db command.now }
+    ensures { result ≡ databases (key_reach db command.now) }
 {
     match command {
         KeyCommand::Del(_) => Touched::One(db),
@@ -90,7 +112,7 @@ fn touched_by_keys(command: &KeyCommand<'_>, db: usize) -> Touched
 }
 
 fn touched_by_connection(command: &ConnectionCommand<'_>, db: usize) -> Touched
-    ensures { result ≡ touched.connection_touched db command.now }
+    ensures { result ≡ databases (connection_reach db command.now) }
 {
     match command {
         ConnectionCommand::Ping(_) => Touched::Nothing,
@@ -108,10 +130,11 @@ fn touched_by_connection(command: &ConnectionCommand<'_>, db: usize) -> Touched
 
 /// The databases that a command may change, where this one is selected.
 pub fn touched_by(command: &Command<'_>, db: usize) -> Touched
-    ensures { result ≡ touched.touched_of db command.now }
+    ensures { result ≡ touched_of db command.now }
 {
     match command {
         Command::Strings(own) => touched_by_strings(own, db),
+        Command::Lists(own) => touched_by_lists(own, db),
         Command::Keys(own) => touched_by_keys(own, db),
         Command::Connection(own) => touched_by_connection(own, db),
     }

@@ -23,3 +23,12 @@ returns-in-MSet c = rw c.in-MSet.is (gathered Strings 2 pairs_of strings.MSet (�
 
 pub returns-in-MSetNx : goal.returns-in-MSetNx
 returns-in-MSetNx c = rw c.in-MSetNx.is (gathered Strings 2 pairs_of strings.MSetNx (λ list. refl) c.args.request.now c.pairs-in-MSetNx.result _ c.pairs-in-MSetNx.ensures (search rules))
+
+pub returns-in-SetNx : goal.returns-in-SetNx
+returns-in-SetNx c = rw c.in-SetNx.is (fixed_made Strings (Plain ∷ Plain ∷ []) (λ a. (a.0, (a.1, tt))) (λ a. Ok (strings.SetNx a.0 a.1.0)) (λ a. strings.SetNx a.0 a.1) (λ a. refl) c.args.request.now c.two.result _ c.two.ensures (search rules))
+
+pub returns-in-GetSet : goal.returns-in-GetSet
+returns-in-GetSet c = rw c.in-GetSet.is (fixed_made Strings (Plain ∷ Plain ∷ []) (λ a. (a.0, (a.1, tt))) (λ a. Ok (strings.GetSet a.0 a.1.0)) (λ a. strings.GetSet a.0 a.1) (λ a. refl) c.args.request.now c.two-in-GetSet.result _ c.two-in-GetSet.ensures (search rules))
+
+pub returns-in-Append : goal.returns-in-Append
+returns-in-Append c = rw c.in-Append.is (fixed_made Strings (Plain ∷ Plain ∷ []) (λ a. (a.0, (a.1, tt))) (λ a. Ok (strings.Append a.0 a.1.0)) (λ a. strings.Append a.0 a.1) (λ a. refl) c.args.request.now c.two-in-Append.result _ c.two-in-Append.ensures (search rules))
