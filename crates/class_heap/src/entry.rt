@@ -1,4 +1,4 @@
-ghost use Rattle.std.specs.Prelude.{◌≡◌, ℕ, ◌+◌, ◌<◌, ◌≤◌, ◌&&◌, Bool, false, Some, None, IsSome, IsTrue, length, replicate, unwrap_or, [], IfSome, OnOk, map};
+ghost use Rattle.std.specs.Prelude.{◌≡◌, ℕ, ◌+◌, ◌<◌, ◌≤◌, ◌&&◌, Bool, false, Some, None, IsSome, is_some, length, replicate, unwrap_or, [], IfSome, OnOk, map};
 ghost use Rattle.blocks.specs.Blocks.{overwritten, widened};
 ghost use Rattle.blocks.specs.Slabs.{per_slab, is_of, is_other, released, used_in};
 ghost use Rattle.class_heap.specs.Placing.{returned};
@@ -58,9 +58,8 @@ impl Entry {
     }
 
     /// Whether a block stands in the slot.
-    #[cfg(test)]
     pub(crate) fn is_live(&self, slot: u32) -> bool
-        ensures { IsTrue result → IsSome (block_in self.now slot) }
+        ensures { result ≡ is_some (block_in self.now slot) }
     {
         match self {
             Entry::Vacant => false,

@@ -1,4 +1,4 @@
-ghost use Rattle.std.specs.Prelude.{◌≡◌, ◌≢◌, ℕ, ◌+◌, ◌<◌, ◌≤◌, Bool, true, false, Some, None, IsSome, IfOk, IsTrue, OnOk, OnErr, length, slice_index_or};
+ghost use Rattle.std.specs.Prelude.{◌≡◌, ◌≢◌, ℕ, ◌+◌, ◌<◌, ◌≤◌, Bool, true, false, Some, None, IsSome, is_some, IfOk, OnOk, OnErr, length, slice_index_or};
 ghost use Rattle.blocks.specs.declared.BlockRef.{BlockRef};
 ghost use Rattle.blocks.specs.Blocks.{no_blocks, with_block, bytes_at};
 ghost use Rattle.blocks.specs.Slabs.{no_slabs, IsClassOf, Moves, spare_of, waiting_of, wants};
@@ -67,10 +67,9 @@ impl ClassHeap {
         }
     }
 
-    /// Whether the reference is live, for tests that keep their own list of blocks.
-    #[cfg(test)]
-    pub(crate) fn is_live(&self, at: BlockRef) -> bool
-        ensures { IsTrue result → IsSome (heap_blocks self.now at) }
+    /// Whether the reference names a live block, for callers that keep no account of their blocks.
+    pub fn is_live(&self, at: BlockRef) -> bool
+        ensures { result ≡ is_some (heap_blocks self.now at) }
     {
         at.slab < self.entries.len() && self.entries[at.slab].is_live(at.slot)
     }

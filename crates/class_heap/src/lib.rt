@@ -8,12 +8,8 @@ mod entry;
 mod heap;
 mod held;
 mod marks;
-#[cfg(test)]
-mod model;
 mod slab;
 mod slab_mem;
-#[cfg(test)]
-mod tests;
 
 pub use heap::ClassHeap;
 pub use slab_mem::SlabMem;

@@ -1,4 +1,4 @@
-ghost use Rattle.std.specs.Prelude.{◌≡◌, ◌≢◌, ℕ, ◌+◌, ◌*◌, ◌^◌, ◌<◌, ◌≤◌, Some, None, IsSome, IsTrue, IfOk, length, replicate, unwrap_or, [], if◌then◌else◌};
+ghost use Rattle.std.specs.Prelude.{◌≡◌, ◌≢◌, ℕ, ◌+◌, ◌*◌, ◌^◌, ◌<◌, ◌≤◌, Some, None, IsSome, is_some, IfOk, length, replicate, unwrap_or, [], if◌then◌else◌};
 ghost use Rattle.blocks.specs.Blocks.{overwritten};
 ghost use Rattle.blocks.specs.Slabs.{per_slab, IsClassOf, one_more_in};
 ghost use Rattle.class_heap.specs.Slots.{IsSlab};
@@ -79,9 +79,8 @@ impl Slab {
     }
 
     /// Whether a block stands in the slot.
-    #[cfg(test)]
     pub(crate) fn is_live(&self, slot: usize) -> bool
-        ensures { IsTrue result → IsSome (block_at self.now slot) }
+        ensures { result ≡ is_some (block_at self.now slot) }
     {
         slot < self.words.len() && self.words[slot] < FREE
     }

@@ -1,11 +1,11 @@
-// A plain model of slabs, for tests: which number a block gets, and what a pass keeps.
+//! A plain model of slabs: which number a block gets, and what a pass keeps.
 
 use blocks::CLASS_SIZES;
 use std::alloc::{AllocError, Global};
 
 /// A slab: its class, its blocks, and whether it is kept.
 #[derive(Clone, Copy)]
-pub(crate) struct PlainSlab {
+pub struct PlainSlab {
     class: usize,
     used: u64,
     kept: bool,
@@ -21,13 +21,13 @@ enum Stands {
 
 /// The slabs by number.
 #[derive(Drop)]
-pub(crate) struct Slabs {
+pub struct Slabs {
     passing: bool,
     numbers: Vec<Stands>,
 }
 
 /// How many blocks of a class a slab has room for.
-pub(crate) fn per_slab(class: usize) -> u64 {
+pub fn per_slab(class: usize) -> u64 {
     match CLASS_SIZES.get(class) {
         Some(size) if *size > 0 => 65_536 / u64::from(*size),
         _ => 1,
@@ -45,7 +45,7 @@ fn class_of(len: usize) -> Option<usize> {
 }
 
 impl Slabs {
-    pub(crate) fn new(alloc: Global) -> Slabs {
+    pub fn new(alloc: Global) -> Slabs {
         Slabs {
             passing: false,
             numbers: Vec::new(alloc),
@@ -124,7 +124,7 @@ impl Slabs {
     }
 
     /// How many slabs a class has, and how many blocks.
-    pub(crate) fn use_of(&self, class: usize) -> (u64, u64) {
+    pub fn use_of(&self, class: usize) -> (u64, u64) {
         let mut slabs: u64 = 0;
         let mut used: u64 = 0;
         for number in 0..self.numbers.len() {
@@ -137,7 +137,7 @@ impl Slabs {
     }
 
     /// The number that a new block of so many bytes gets.
-    pub(crate) fn place(&mut self, len: usize) -> Result<usize, AllocError> {
+    pub fn place(&mut self, len: usize) -> Result<usize, AllocError> {
         let Some(class) = class_of(len) else {
             return self.put(Stands::Alone);
         };
@@ -156,7 +156,7 @@ impl Slabs {
     }
 
     /// A block at the number comes back.
-    pub(crate) fn give_back(&mut self, number: usize) {
+    pub fn give_back(&mut self, number: usize) {
         match self.slab(number) {
             Some(slab) if slab.used > 1 || slab.kept => self.add(number, u64::MAX),
             _ => self.set(number, Stands::Nothing),
@@ -164,7 +164,7 @@ impl Slabs {
     }
 
     /// Whether a block at the number wants to move.
-    pub(crate) fn wants_move(&self, number: usize) -> bool {
+    pub fn wants_move(&self, number: usize) -> bool {
         match self.slab(number) {
             Some(slab) => self.passing && !slab.kept,
             None => false,
@@ -172,7 +172,7 @@ impl Slabs {
     }
 
     /// Whether no block wants to move.
-    pub(crate) fn is_calm(&self) -> bool {
+    pub fn is_calm(&self) -> bool {
         for number in 0..self.numbers.len() {
             if self.wants_move(number) {
                 return false;
@@ -182,7 +182,7 @@ impl Slabs {
     }
 
     /// Moves a block that wants it; the answer is its new number.
-    pub(crate) fn move_block(&mut self, number: usize) -> Option<usize> {
+    pub fn move_block(&mut self, number: usize) -> Option<usize> {
         let slab = self.slab(number)?;
         let target = self.first(slab.class)?;
         self.add(target, 1);
@@ -209,7 +209,7 @@ impl Slabs {
         }
     }
 
-    pub(crate) fn begin_pass(&mut self) {
+    pub fn begin_pass(&mut self) {
         self.end_pass();
         self.passing = true;
         for class in 0..36 {
@@ -220,7 +220,7 @@ impl Slabs {
         }
     }
 
-    pub(crate) fn end_pass(&mut self) {
+    pub fn end_pass(&mut self) {
         self.passing = false;
         for number in 0..self.numbers.len() {
             match self.slab(number) {
