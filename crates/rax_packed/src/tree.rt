@@ -203,6 +203,3 @@ impl PackedTree {
         }
     }
 }
-
-#[cfg(test)]
-mod tests;

@@ -8,8 +8,6 @@
 #![tactic(auto)]
 
 mod radix;
-#[cfg(test)]
-mod tests;
 mod tree;
 
 pub use crate::tree::Tree;

@@ -11,8 +11,6 @@ mod group;
 mod groups;
 mod pendings;
 mod tally;
-#[cfg(test)]
-mod tests;
 mod waiting;
 
 pub use bytes::Bytes;

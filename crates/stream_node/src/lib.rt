@@ -30,6 +30,3 @@ pub use marking::mark_deleted;
 pub use node::{Node, check};
 pub use pairs::Pairs;
 pub use room::{has_room, room_is_enough};
-
-#[cfg(test)]
-mod tests;

@@ -1,9 +1,9 @@
 use Rattle.std.proofs.Common.{List, ℕ, subst, arith}
 use Rattle.listpack.specs.Pack.{IsPack, texts}
-use Rattle.stream_node.specs.declared.tests.TheConstants.{KEY}
+use Rattle.stream_rows.specs.declared.nodes.writing.TheConstants.{KEY}
 use Rattle.stream_node.specs.Marked.{CanMark}
 use Rattle.stream_node.proofs.Rooms.{room_enough}
-use Rattle.stream_node.proofs.tests.mark_first.Goals as goal
+use Rattle.stream_rows.proofs.nodes.writing.mark_first.Goals as goal
 
 pub mark_deleted-requires-clause-packed : goal.mark_deleted-requires-clause-packed
 mark_deleted-requires-clause-packed c = let both = c.can_mark.ensures c.if-not-can_mark.false in subst IsPack c.deref.ensures.value both.0

@@ -1,9 +1,9 @@
 use Rattle.std.proofs.Common.{List, ℕ, subst}
-use Rattle.stream_node.specs.declared.tests.TheConstants.{KEY}
+use Rattle.stream_rows.specs.declared.nodes.writing.TheConstants.{KEY}
 use Rattle.stream_node.specs.Room.{IsRoomy}
 use Rattle.stream_node.proofs.Rooms.{room_enough}
 use Rattle.stream_node.proofs.Appendings.{last_appended}
-use Rattle.stream_node.proofs.tests.write.Goals as goal
+use Rattle.stream_rows.proofs.nodes.writing.write.Goals as goal
 
 pub append-requires-clause-room : goal.append-requires-clause-room
 append-requires-clause-room c =

@@ -3,7 +3,7 @@ use Rattle.blocks.specs.Blocks.{Changes}
 use Rattle.class_heap.specs.Heap.{heap_blocks}
 use Rattle.rax_packed.specs.Maps.{refs_of, IsSound}
 use Rattle.rax_packed.proofs.Copied.{original_sound, copy_sound}
-use Rattle.rax_packed.proofs.tree.tests.Held.copy.Goals as goal
+use Rattle.stream_rows.proofs.packed.held.Held.copy.Goals as goal
 
 pub release-requires : goal.release-requires
 release-requires c =

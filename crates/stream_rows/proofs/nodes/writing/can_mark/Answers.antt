@@ -1,11 +1,11 @@
 use Rattle.std.proofs.Common.{◌≡◌, Bool, true, false, not, List, ℕ, refl, sym, ap, subst, ◌∙◌}
 use Rattle.std.specs.Prelude.{slice_get}
 use Rattle.listpack.specs.Pack.{texts}
-use Rattle.stream_node.specs.declared.tests.TheConstants.{KEY}
+use Rattle.stream_rows.specs.declared.nodes.writing.TheConstants.{KEY}
 use Rattle.stream_node.specs.Entry.{Stored}
 use Rattle.stream_node.specs.Entries.{IsNode, entries_of}
 use Rattle.stream_node.specs.View.{stored}
-use Rattle.stream_node.proofs.tests.can_mark.Goals as goal
+use Rattle.stream_rows.proofs.nodes.writing.can_mark.Goals as goal
 
 unmarked : (b : Bool) → not b ≡ true → b ≡ false
 unmarked true e = let never : ⊥ = cc in absurd never
