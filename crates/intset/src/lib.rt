@@ -11,8 +11,6 @@
 
 mod edits;
 mod ints;
-#[cfg(test)]
-mod tests;
 
 pub use crate::edits::{add, empty, remove};
 pub use crate::ints::{Ints, IntsetFault, check, known};

@@ -19,6 +19,3 @@ pub use encoding::Element;
 pub use fault::PackFault;
 pub use spelling::{entry_size, fits, spelling_is_read_back};
 pub use walks::Pack;
-
-#[cfg(test)]
-mod tests;
