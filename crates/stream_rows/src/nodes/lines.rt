@@ -1,7 +1,7 @@
 //! What each line answers.
 
 use super::reading::{fault_of, first_of, pack_of, pairs_of};
-use super::writing::{KEY, mark_first, written};
+use super::writing::{KEY, counted, mark_first, written};
 use row_words::{number, shown, told, unknown};
 use std::alloc::Global;
 use stream_node::{Id, Memory, Node, NodeFault, check};
@@ -78,6 +78,10 @@ pub fn answer(alloc: Global, words: &[&str]) -> Result<String, Memory> {
     match words {
         ["order"] => shown(alloc, Some(u64::from(NodeFault::Order.number()))),
         ["below", a, b, c, d] => told(alloc, below([*a, *b, *c, *d])),
+        ["fields", words @ ..] => {
+            let count = counted(alloc, words)?;
+            shown(alloc, Some(count as u64))
+        }
         ["write", words @ ..] => bytes_written(alloc, false, words),
         ["mark", words @ ..] => bytes_written(alloc, true, words),
         ["check", words @ ..] => {

@@ -123,3 +123,14 @@ pub fn written(alloc: Global, words: &[&str]) -> Result<Vec<u8>, Memory> {
     }
     Ok(writer.pack)
 }
+
+/// How many fields and values stand in these words, two for each, when they are put behind each other.
+pub fn counted(alloc: Global, words: &[&str]) -> Result<usize, Memory> {
+    let mut pairs = Pairs::new(alloc);
+    for pair in words.chunks(2) {
+        if let [field, value] = pair {
+            pairs.push(field.as_bytes(), value.as_bytes())?;
+        }
+    }
+    Ok(pairs.len())
+}
