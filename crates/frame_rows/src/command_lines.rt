@@ -6,8 +6,8 @@ use plain_model::{
 };
 use std::alloc::{AllocError, Global};
 
-// A command's name, and its words, each after a space.
-fn line(alloc: Global, name: &str, words: &[&[u8]]) -> Result<Vec<u8>, AllocError> {
+/// A command's name, and its words, each after a space.
+pub fn line(alloc: Global, name: &str, words: &[&[u8]]) -> Result<Vec<u8>, AllocError> {
     let mut bytes = Vec::from_slice(alloc, name.as_bytes())?;
     for word in words {
         bytes.push(b' ')?;
@@ -16,7 +16,7 @@ fn line(alloc: Global, name: &str, words: &[&[u8]]) -> Result<Vec<u8>, AllocErro
     Ok(bytes)
 }
 
-fn list_line(alloc: Global, name: &str, list: &WordList<'_>) -> Result<Vec<u8>, AllocError> {
+pub fn list_line(alloc: Global, name: &str, list: &WordList<'_>) -> Result<Vec<u8>, AllocError> {
     let mut bytes = Vec::from_slice(alloc, name.as_bytes())?;
     for word in list.as_slice() {
         bytes.push(b' ')?;

@@ -8,6 +8,7 @@ mod counting;
 mod due;
 mod frame_lines;
 mod frames;
+mod list_lines;
 mod served;
 mod serving_lines;
 
