@@ -1,16 +1,27 @@
 -- How commands leave the encodings of values (Redis command reference, "OBJECT ENCODING").
-use Rattle.std.specs.Prelude.{◌≡◌, ◌⊎◌, ℕ, List, [], ◌∷◌, length, drop, Bool, true, false, Option, None, Some, is_some, bytes_eq, if◌then◌else◌}
+use Rattle.std.specs.Prelude.{◌≡◌, ◌⊎◌, ℕ, List, [], ◌∷◌, length, drop, Bool, true, false, Option, None, Some, is_some, bytes_eq, ℤ, ◌+ℤ◌, if◌then◌else◌}
 use Rattle.blocks.specs.Blocks.{Blocks}
 use Rattle.plain_world.specs.Worlds.{World, Entry, look}
 use Rattle.plain_model.specs.declared.command.Command.{Command}
-use Rattle.plain_model.specs.declared.command.Command.TheVariants.{Strings, Lists, Keys, Connection}
+use Rattle.plain_model.specs.declared.command.Command.TheVariants.{Strings, Lists, Sets, Hashes, Keys, Connection}
 use Rattle.plain_model.specs.declared.command.StringCommand.{StringCommand}
 use Rattle.plain_model.specs.declared.command.StringCommand.TheVariants as strings
 use Rattle.plain_model.specs.declared.list_command.ListCommand.{ListCommand}
 use Rattle.plain_model.specs.declared.list_command.ListCommand.TheVariants as lists
+use Rattle.plain_model.specs.declared.set_command.SetCommand.{SetCommand}
+use Rattle.plain_model.specs.declared.set_command.SetCommand.TheVariants as sets
+use Rattle.plain_model.specs.declared.hash_command.HashCommand.{HashCommand}
+use Rattle.plain_model.specs.declared.hash_command.HashCommand.TheVariants as hashes
 use Rattle.plain_model.specs.declared.keys.KeyCommand.{KeyCommand}
 use Rattle.plain_model.specs.declared.keys.KeyCommand.TheVariants as keys
-use Rattle.plain_model.specs.OfType.{list_in}
+use Rattle.std.specs.FinMap.{empty, get, insert}
+use Rattle.object_codec.specs.declared.limits.Limits.{Limits}
+use Rattle.hash_object.specs.Maps.{FitsFields}
+use Rattle.set_object.specs.Strings.{FitsMembers}
+use Rattle.int_text.specs.Decimal.{canonical}
+use Rattle.plain_model.specs.OfType.{list_in, set_in, hash_in}
+use Rattle.plain_model.specs.SetSteps.{Members, or_no_members, has}
+use Rattle.plain_model.specs.HashSteps.{Fields, or_no_fields, number_in}
 use Rattle.plain_model.specs.ListSteps.{Elements, or_none, added, from_end, place_of, replaced, inserted_beside}
 use Rattle.plain_model.specs.declared.list_command.ListEnd.{ListEnd}
 use Rattle.plain_model.specs.declared.list_command.ListEnd.TheVariants.{Head, Tail}
@@ -44,15 +55,65 @@ pub record IsRisenAt (there : Bool) (long db : ℕ) (key : List ℕ) (old : Base
   pub is : encoding_of value ≡ OfForm form
   pub risen : IsLeastFrom from (FitsList long) form
 
+-- the form of a hash after each of these values was set at its field, one after the other: each time the least one that
+-- fits and isn't below the one before
+abbrev pub RisesBy : Limits → codec.Form → Fields → List (List ℕ × List ℕ) → codec.Form → Type 0
+RisesBy limits from fields [] form = form ≡ from
+RisesBy limits from fields (pair ∷ pairs) form =
+    (mid : codec.Form) × IsLeastFrom from (FitsFields limits (insert fields pair.0 pair.1)) mid
+    × RisesBy limits mid (insert fields pair.0 pair.1) pairs form
+
+-- the same of a set of these members, where the last one was there, or is new
+abbrev pub RisesIf : Bool → Limits → codec.Form → Members → codec.Form → Type 0
+RisesIf true limits from members form = form ≡ from
+RisesIf false limits from members form = IsLeastFrom from (FitsMembers limits members) form
+
+-- the same of a set after one more member
+abbrev pub RisesTo : Limits → codec.Form → Members → List ℕ → codec.Form → Type 0
+RisesTo limits from members member form = RisesIf (has members member) limits from (insert members member tt) form
+
+-- the same of a set after each of these members was added, one after the other; one that is there changes nothing
+abbrev pub RisesWith : Limits → codec.Form → Members → List (List ℕ) → codec.Form → Type 0
+RisesWith limits from members [] form = form ≡ from
+RisesWith limits from members (member ∷ others) form =
+    (mid : codec.Form) × RisesTo limits from members member mid
+    × RisesWith limits mid (insert members member tt) others form
+
+-- the form of the value that stands at a key, or the least form of one without an element where nothing stands there
+abbrev pub IsSourceForm : Bool → (codec.Form → Type 0) → Bases → Blocks → ℕ → List ℕ → codec.Form → Type 0
+IsSourceForm true least old m db key form =
+    (source : Value) × HasValue old m db key source × (encoding_of source ≡ OfForm form)
+IsSourceForm false least old m db key form = IsLeast least form
+
+-- A hash of these fields, that stood at the key or is a new one, rose by the values that were set.
+pub record IsHashRisen (there : Bool) (fields : Fields) (pairs : List (List ℕ × List ℕ)) (db : ℕ) (key : List ℕ)
+    (old : Bases) (m : Blocks) (value : Value) : Type 0 where
+  pub from : codec.Form
+  pub form : codec.Form
+  pub at : IsSourceForm there (FitsFields old.limits empty) old m db key from
+  pub is : encoding_of value ≡ OfForm form
+  pub risen : RisesBy old.limits from fields pairs form
+
+-- A set of these members, that stood at the key or is a new one, rose by the members that were added.
+pub record IsSetRisen (there : Bool) (members : Members) (others : List (List ℕ)) (db : ℕ) (key : List ℕ) (old : Bases)
+    (m : Blocks) (value : Value) : Type 0 where
+  pub from : codec.Form
+  pub form : codec.Form
+  pub at : IsSourceForm there (FitsMembers old.limits empty) old m db key from
+  pub is : encoding_of value ≡ OfForm form
+  pub risen : RisesWith old.limits from members others form
+
 -- how a value is encoded that a command writes: as one written whole, as one of which a part was changed, as the value
--- that stood at a key of a database, or as the list that stood there, or a new one, to which was written; or in either
--- of two ways; or no value is written
+-- that stood at a key of a database, or as the list, hash or set that stood there, or a new one, to which was written; or
+-- in either of two ways; or no value is written
 pub data Form : Type 0 where
   Unwritten : Form
   Whole : Form
   Raw : Form
   AsAt : ℕ → List ℕ → Form
   Risen : Bool → ℕ → ℕ → List ℕ → Form
+  HashRisen : Bool → Fields → List (List ℕ × List ℕ) → ℕ → List ℕ → Form
+  SetRisen : Bool → Members → List (List ℕ) → ℕ → List ℕ → Form
   Either : Form → Form → Form
 
 -- a value has a form, where these databases stood before
@@ -62,6 +123,8 @@ HasForm Whole old m value = IsWhole value
 HasForm Raw old m value = IsRaw value
 HasForm (AsAt db key) old m value = (source : Value) × HasValue old m db key source × IsLike source value
 HasForm (Risen there long db key) old m value = IsRisenAt there long db key old m value
+HasForm (HashRisen there fields pairs db key) old m value = IsHashRisen there fields pairs db key old m value
+HasForm (SetRisen there members others db key) old m value = IsSetRisen there members others db key old m value
 HasForm (Either form other) old m value = HasForm form old m value ⊎ HasForm other old m value
 
 -- Each element stood there before, with its key and its value as they were, or its value has this form.
@@ -135,6 +198,51 @@ list_form db world (lists.LMove from to end other) =
 list_form db world (lists.RPopLPush from to) = moved_to db world from to Tail Head (from_end Tail (list_at world from))
 list_form db world other = Unwritten
 
+-- the hash that stands at a key, without a field where none does
+abbrev pub hash_of : Option Entry → Fields
+hash_of None = empty
+hash_of (Some entry) = or_no_fields (hash_in entry.value)
+
+abbrev pub hash_at : World → List ℕ → Fields
+hash_at world key = hash_of (look world key)
+
+-- the hash at a key, or a new one, becomes another by values that are set
+abbrev pub hash_to : ℕ → World → List ℕ → List (List ℕ × List ℕ) → Form
+hash_to db world key pairs = HashRisen (is_some (look world key)) (hash_at world key) pairs db key
+
+abbrev pub counted_to : ℕ → World → List ℕ → List ℕ → ℤ → Option ℤ → Form
+counted_to db world key field by None = Unwritten
+counted_to db world key field by (Some n) = hash_to db world key ((field, canonical (n +ℤ by)) ∷ [])
+
+-- what is set in a hash is written field by field, and what is left of one keeps its form
+abbrev pub hash_form : ℕ → World → HashCommand → Form
+hash_form db world (hashes.HSet key pairs) = hash_to db world key pairs
+hash_form db world (hashes.HMSet key pairs) = hash_to db world key pairs
+hash_form db world (hashes.HSetNx key field value) = hash_to db world key ((field, value) ∷ [])
+hash_form db world (hashes.HDel key others) = AsAt db key
+hash_form db world (hashes.HIncrBy key field by) =
+    counted_to db world key field by (number_in (get (hash_at world key) field))
+hash_form db world other = Unwritten
+
+-- the set that stands at a key, without a member where none does
+abbrev pub set_of : Option Entry → Members
+set_of None = empty
+set_of (Some entry) = or_no_members (set_in entry.value)
+
+abbrev pub set_at : World → List ℕ → Members
+set_at world key = set_of (look world key)
+
+-- the set at a key, or a new one, becomes another by members that are added
+abbrev pub set_with : ℕ → World → List ℕ → List (List ℕ) → Form
+set_with db world key others = SetRisen (is_some (look world key)) (set_at world key) others db key
+
+-- what is added to a set is written member by member, and what is left of one keeps its form
+abbrev pub set_form : ℕ → World → SetCommand → Form
+set_form db world (sets.SAdd key others) = set_with db world key others
+set_form db world (sets.SRem key others) = AsAt db key
+set_form db world (sets.SMove from to member) = Either (AsAt db from) (set_with db world to (member ∷ []))
+set_form db world other = Unwritten
+
 -- what is copied or moved is encoded as before
 abbrev pub key_form : ℕ → KeyCommand → Form
 key_form db (keys.Rename from to) = AsAt db from
@@ -147,5 +255,7 @@ key_form db other = Unwritten
 abbrev pub form_of : ℕ → World → Command → Form
 form_of db world (Strings command) = string_form world command
 form_of db world (Lists command) = list_form db world command
+form_of db world (Sets command) = set_form db world command
+form_of db world (Hashes command) = hash_form db world command
 form_of db world (Keys command) = key_form db command
 form_of db world (Connection command) = Unwritten

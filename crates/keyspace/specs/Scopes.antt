@@ -3,11 +3,15 @@ use Rattle.std.specs.Prelude.{ℕ, List, map, Option, Some, None}
 use Rattle.blocks.specs.Blocks.{Blocks}
 use Rattle.held.specs.Scopes as held
 use Rattle.plain_model.specs.declared.command.Command.{Command}
-use Rattle.plain_model.specs.declared.command.Command.TheVariants.{Strings, Lists, Keys, Connection}
+use Rattle.plain_model.specs.declared.command.Command.TheVariants.{Strings, Lists, Sets, Hashes, Keys, Connection}
 use Rattle.plain_model.specs.declared.command.StringCommand.{StringCommand}
 use Rattle.plain_model.specs.declared.command.StringCommand.TheVariants as strings
 use Rattle.plain_model.specs.declared.list_command.ListCommand.{ListCommand}
 use Rattle.plain_model.specs.declared.list_command.ListCommand.TheVariants as lists
+use Rattle.plain_model.specs.declared.set_command.SetCommand.{SetCommand}
+use Rattle.plain_model.specs.declared.set_command.SetCommand.TheVariants as sets
+use Rattle.plain_model.specs.declared.hash_command.HashCommand.{HashCommand}
+use Rattle.plain_model.specs.declared.hash_command.HashCommand.TheVariants as hashes
 use Rattle.plain_model.specs.declared.keys.KeyCommand.{KeyCommand}
 use Rattle.plain_model.specs.declared.keys.KeyCommand.TheVariants as keys
 use Rattle.plain_model.specs.declared.connection.ConnectionCommand.{ConnectionCommand}
@@ -89,6 +93,32 @@ list_reach db (lists.RPopLPush from to) = TwoKeys db from db to
 abbrev pub list_scope : ℕ → ListCommand → Scope
 list_scope db command = scope (list_reach db command)
 
+abbrev pub set_reach : ℕ → SetCommand → Reach
+set_reach db (sets.SAdd key others) = OneKey db key
+set_reach db (sets.SRem key others) = OneKey db key
+set_reach db (sets.SIsMember key member) = Nothing
+set_reach db (sets.SMIsMember key others) = Nothing
+set_reach db (sets.SCard key) = Nothing
+set_reach db (sets.SMove from to member) = TwoKeys db from db to
+
+abbrev pub set_scope : ℕ → SetCommand → Scope
+set_scope db command = scope (set_reach db command)
+
+abbrev pub hash_reach : ℕ → HashCommand → Reach
+hash_reach db (hashes.HSet key pairs) = OneKey db key
+hash_reach db (hashes.HMSet key pairs) = OneKey db key
+hash_reach db (hashes.HSetNx key field value) = OneKey db key
+hash_reach db (hashes.HGet key field) = Nothing
+hash_reach db (hashes.HMGet key others) = Nothing
+hash_reach db (hashes.HDel key others) = OneKey db key
+hash_reach db (hashes.HExists key field) = Nothing
+hash_reach db (hashes.HLen key) = Nothing
+hash_reach db (hashes.HStrLen key field) = Nothing
+hash_reach db (hashes.HIncrBy key field n) = OneKey db key
+
+abbrev pub hash_scope : ℕ → HashCommand → Scope
+hash_scope db command = scope (hash_reach db command)
+
 -- the database of this number, or else the selected one
 abbrev pub number_or : ℕ → Option ℕ → ℕ
 number_or db None = db
@@ -141,6 +171,8 @@ connection_scope db command = scope (connection_reach db command)
 abbrev pub reach_of : ℕ → Command → Reach
 reach_of db (Strings command) = string_reach db command
 reach_of db (Lists command) = list_reach db command
+reach_of db (Sets command) = set_reach db command
+reach_of db (Hashes command) = hash_reach db command
 reach_of db (Keys command) = key_reach db command
 reach_of db (Connection command) = connection_reach db command
 

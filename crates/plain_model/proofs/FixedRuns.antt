@@ -16,7 +16,7 @@ use Rattle.plain_model.specs.Runs.{Call, Turn, calls_of, replies_of, run}
 use Rattle.plain_world.specs.Laws.{IsHeld}
 use Rattle.plain_world.specs.Spelling.{spelled}
 use Rattle.plain_model.specs.declared.command.Command.{Command}
-use Rattle.plain_model.specs.declared.command.Command.TheVariants.{Strings, Lists, Keys, Connection}
+use Rattle.plain_model.specs.declared.command.Command.TheVariants.{Strings, Lists, Sets, Hashes, Keys, Connection}
 use Rattle.plain_world.specs.declared.refusal.Refusal.{Refusal}
 use Rattle.plain_world.specs.declared.reply.Part.{Part}
 use Rattle.plain_world.specs.declared.reply.Part.TheVariants.{Refused}
@@ -40,6 +40,8 @@ connection_fixed old moment c r new other a b = a.1 ∙ sym b.1
 may_fixed : (seed : ℕ) (old : World) (moment : ℕ) (c : Command) (r : List Part) (new other : World) → may seed old moment c r new → may seed old moment c r other → new ≡ other
 may_fixed seed old moment (Strings c) r new other a b = a.1 ∙ sym b.1
 may_fixed seed old moment (Lists c) r new other a b = a.1 ∙ sym b.1
+may_fixed seed old moment (Sets c) r new other a b = a.1 ∙ sym b.1
+may_fixed seed old moment (Hashes c) r new other a b = a.1 ∙ sym b.1
 may_fixed seed old moment (Keys c) r new other a b = keys_fixed seed old moment c r new other a b
 may_fixed seed old moment (Connection c) r new other a b = connection_fixed old moment c r new other a b
 

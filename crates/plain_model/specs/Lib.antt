@@ -3,6 +3,8 @@ pub mod StringWords
 pub mod KeyWords
 pub mod ConnectionWords
 pub mod ListWords
+pub mod HashWords
+pub mod SetWords
 pub mod Outcomes
 pub mod Deadlines
 pub mod StringSteps
@@ -11,6 +13,8 @@ pub mod Scans
 pub mod KeySteps
 pub mod OfType
 pub mod ListSteps
+pub mod HashSteps
+pub mod SetSteps
 pub mod ConnectionSteps
 pub mod Meant
 pub mod Steps

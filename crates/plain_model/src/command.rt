@@ -1,7 +1,8 @@
 //! Commands, with their words, which are lent by the request: a family for each type of value, one for keys of any type, and one for the connection.
 
 use crate::{
-    ConnectionCommand, KeyCommand, Lifetime, ListCommand, PairList, Renewal, Word, WordList,
+    ConnectionCommand, HashCommand, KeyCommand, Lifetime, ListCommand, PairList, Renewal,
+    SetCommand, Word, WordList,
 };
 
 /// A command with its words.
@@ -9,6 +10,8 @@ use crate::{
 pub enum Command<'a> {
     Strings(StringCommand<'a>),
     Lists(ListCommand<'a>),
+    Sets(SetCommand<'a>),
+    Hashes(HashCommand<'a>),
     Keys(KeyCommand<'a>),
     Connection(ConnectionCommand<'a>),
 }

@@ -4,10 +4,12 @@
 mod command;
 mod connection;
 mod ctx;
+mod hash_command;
 mod keys;
 mod laws;
 mod list_command;
 mod lists;
+mod set_command;
 mod times;
 mod word;
 
@@ -16,10 +18,12 @@ pub use command::{
 };
 pub use connection::ConnectionCommand;
 pub use ctx::Ctx;
+pub use hash_command::HashCommand;
 pub use keys::{CopyOptions, ExpireOptions, KeyCommand, ScanOptions};
 pub use laws::{replies_fix_the_run, runs_are_covered};
 pub use list_command::{ListCommand, ListEnd, PositionOptions, Side};
 pub use lists::{PairList, WordList};
 pub use plain_world::{Bytes, LONGEST, Line, Memory, Part, Parts, Refusal, Reply};
+pub use set_command::SetCommand;
 pub use times::{Lifetime, Renewal, Time, TimeOrigin, TimeUnit};
 pub use word::Word;

@@ -1,0 +1,28 @@
+//! Commands on hashes.
+
+use crate::{PairList, Word, WordList};
+
+/// A command on hashes.
+#[derive(Drop)]
+pub enum HashCommand<'a> {
+    /// `HSET key field value..`
+    HSet(Word<'a>, PairList<'a>),
+    /// `HMSET key field value..`
+    HMSet(Word<'a>, PairList<'a>),
+    /// `HSETNX key field value`
+    HSetNx(Word<'a>, Word<'a>, Word<'a>),
+    /// `HGET key field`
+    HGet(Word<'a>, Word<'a>),
+    /// `HMGET key field..`
+    HMGet(Word<'a>, WordList<'a>),
+    /// `HDEL key field..`
+    HDel(Word<'a>, WordList<'a>),
+    /// `HEXISTS key field`
+    HExists(Word<'a>, Word<'a>),
+    /// `HLEN key`
+    HLen(Word<'a>),
+    /// `HSTRLEN key field`
+    HStrLen(Word<'a>, Word<'a>),
+    /// `HINCRBY key field n`
+    HIncrBy(Word<'a>, Word<'a>, i64),
+}
