@@ -7,3 +7,5 @@ pub mod Calls
 pub mod Moving
 pub mod Forming
 pub mod Editing
+pub mod Founding
+pub mod Absent

@@ -1,19 +1,22 @@
 //! Values changed in their place.
 
-ghost use Rattle.std.specs.Prelude.{◌≡◌, ℕ, Some, OnOk};
+ghost use Rattle.std.specs.Prelude.{◌≡◌, ℕ, [], Some, OnOk};
 ghost use Rattle.blocks.specs.Blocks.{Changes, Owned, Served};
 ghost use Rattle.object_codec.specs.declared.limits.Limits.{Limits};
-ghost use Rattle.plain_world.specs.Worlds.{Entry, look};
+ghost use Rattle.plain_world.specs.Worlds.{Entry, look, remove};
 ghost use Rattle.plain_world.specs.Worlds as model;
-ghost use Rattle.held.specs.Calls.{StandsAt};
+ghost use Rattle.held.specs.Calls.{AllAt, StandsAt, Seeks};
+ghost use Rattle.rehash_dict.specs.Keyed.{hash_of};
 ghost use Rattle.keyspace.specs.Values.{value_of, value_refs, IsSound};
-ghost use Rattle.keyspace.specs.Scopes.{one_key};
+ghost use Rattle.keyspace.specs.Scopes.{one_key, no_key};
 ghost use Rattle.keyspace.specs.Commands.{Ready, Held, sight};
-ghost use Rattle.keyspace.specs.Edits.{Shape, shape, Edits};
+ghost use Rattle.keyspace.specs.Edits.{Shape, shape, Edits, MakesNew};
 
 use crate::{Keyspace, Lifted, Value};
 use blocks::{BlockStore, Memory};
+use held::Sought;
 use plain_model::Ctx;
+use stored::Stored;
 
 /// What is done to a value in its place. It may keep an answer.
 pub trait Edit {
@@ -59,4 +62,42 @@ pub fn edit_there<E: Edit, B: BlockStore>(
         Ok(()) => Ok(()),
         Err(error) => Err(error),
     }
+}
+
+/// Puts a value at a key, without a deadline, which is made of this one that owns no block.
+pub fn edit_new<E: Edit, B: BlockStore>(
+    keyspace: &mut Keyspace<B>,
+    at: &Ctx,
+    key: &[u8],
+    sought: Sought,
+    fresh: Value,
+    edit: &mut E,
+) -> Result<(), Memory>
+    requires ready { Ready B.blocks keyspace.old at.now }
+    requires seeks { Seeks keyspace.old.bases (B.blocks keyspace.old.store) at.now.db key.now sought }
+    requires blank { value_refs (B.blocks keyspace.old.store) fresh ≡ [] }
+    requires sound { IsSound keyspace.old.bases.limits keyspace.old.bases.seed (B.blocks keyspace.old.store) fresh }
+    requires takes { E.takes edit.old (value_of (B.blocks keyspace.old.store) fresh) }
+    ensures made { OnOk result (MakesNew E.makes edit.old edit.new B.blocks keyspace.old keyspace.new at.now key.now fresh) }
+    ensures held { Held B.blocks B.step (one_key at.now.db key.now) keyspace.old keyspace.new }
+{
+    let mut value = fresh;
+    match edit.edit(&mut value, &mut keyspace.store) {
+        Ok(()) => keyspace.put_sought(at.db, key, sought, value, None),
+        Err(error) => {
+            value.release(&mut keyspace.store);
+            Err(error)
+        }
+    }
+}
+
+/// Removes a key with its value, by its hash.
+pub fn drop_sought<B: BlockStore>(keyspace: &mut Keyspace<B>, at: &Ctx, key: &[u8], hash: u64)
+    requires ready { Ready B.blocks keyspace.old at.now }
+    requires hashed { hash ≡ hash_of keyspace.old.bases.seed key.now }
+    ensures world { sight B.blocks keyspace.new at.now ≡ remove (sight B.blocks keyspace.old at.now) key.now }
+    ensures gone { AllAt (λ value. ⊥) keyspace.new.bases (B.blocks keyspace.new.store) at.now.db key.now }
+    ensures held { Held B.blocks B.step (no_key at.now.db) keyspace.old keyspace.new }
+{
+    let _ = keyspace.drop_hashed(at.db, hash, key);
 }

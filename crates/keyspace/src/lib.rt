@@ -9,7 +9,7 @@ mod look;
 mod value;
 
 pub use deadlines::{deadline_at, expire_sought, persist_sought, seek};
-pub use edit::{Edit, edit_there};
+pub use edit::{Edit, drop_sought, edit_new, edit_there};
 pub use held::{Sought, SoughtAt};
 pub use look::Look;
 pub use value::Value;
