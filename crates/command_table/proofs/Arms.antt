@@ -8,14 +8,14 @@ use Rattle.plain_model.specs.KeyWords.{expire_words, expire_of, clash, expire_op
 use Rattle.plain_model.specs.declared.command.Command.{Command}
 use Rattle.plain_model.specs.declared.command.Command.TheVariants.{Lists, Keys}
 use Rattle.plain_model.specs.declared.list_command.ListCommand.{ListCommand}
-use Rattle.plain_model.specs.ListWords.{push_words, pop_words}
+use Rattle.plain_model.specs.ListWords.{pop_words}
 use Rattle.plain_model.specs.declared.keys.KeyCommand.{KeyCommand}
 use Rattle.plain_model.specs.declared.keys.ExpireOptions.{ExpireOptions}
 use Rattle.plain_world.specs.declared.refusal.Refusal.{Refusal}
 use Rattle.plain_world.specs.declared.refusal.Refusal.TheVariants.{WrongNumberOfArguments, Syntax}
 use Rattle.command_table.specs.declared.fault.ReadingFault.{ReadingFault}
 use Rattle.command_table.specs.declared.fault.ReadingFault.TheVariants.{Refused, Memory}
-use Rattle.command_table.specs.Readings.{Tells, TellsAs, Gathers, just, and_options, one_and_some, one_and_amount, expire_parts, keeps_list, ReadsAs}
+use Rattle.command_table.specs.Readings.{Tells, TellsAs, Gathers, just, and_options, one_and_amount, expire_parts, keeps_list, ReadsAs}
 
 -- what a row makes is made of what its words tell
 
@@ -152,22 +152,22 @@ module _ {L C : Type 0} (family : C → Command) (make : L → C) (keeps : (list
   kept means (Ok list) answer h m = kept_ok means list answer h m
   kept means (Err fault) answer h m = kept_err means fault answer h m
 
--- a key and one element or more
-module _ (make : List ℕ → Words → ListCommand) where
-  abbrev pushing : List ℕ × Words → Result Command Refusal
-  pushing parts = Ok (Lists (make parts.0 parts.1))
+-- a key, and one or more groups of words behind it, which are kept in a list
+module _ {L C : Type 0} (family : C → Command) (size : ℕ) (own : Words → L) (make : List ℕ → L → C) where
+  abbrev keyed : List ℕ × L → Result Command Refusal
+  keyed parts = Ok (family (make parts.0 parts.1))
 
-  push_if : (b : Bool) (key : List ℕ) (rest : Words) → and_then (if b then Ok (make key rest) else Err WrongNumberOfArguments) (λ c. Ok (Lists c)) ≡ and_then (if b then Ok (key, rest) else Err WrongNumberOfArguments) pushing
-  push_if true key rest = refl
-  push_if false key rest = refl
+  keyed_if : (b : Bool) (key : List ℕ) (rest : Words) → and_then (if b then Ok (make key (own rest)) else Err WrongNumberOfArguments) (λ c. Ok (family c)) ≡ and_then (if b then Ok (key, own rest) else Err WrongNumberOfArguments) keyed
+  keyed_if true key rest = refl
+  keyed_if false key rest = refl
 
-  push_then : (words : Words) → and_then (push_words make words) (λ c. Ok (Lists c)) ≡ and_then (repeated (Plain ∷ []) 1 (λ a own. Ok (a.0, own)) words) pushing
-  push_then [] = refl
-  push_then (key ∷ rest) = push_if (nat_lt 1 (length (key ∷ rest)) && ((length (key ∷ rest) - 1) % 1 == 0)) key rest
+  keyed_then : (words : Words) → and_then (repeated (Plain ∷ []) size (λ a w. Ok (make a.0 (own w))) words) (λ c. Ok (family c)) ≡ and_then (repeated (Plain ∷ []) size (λ a w. Ok (a.0, own w)) words) keyed
+  keyed_then [] = refl
+  keyed_then (key ∷ rest) = keyed_if (nat_lt 1 (length (key ∷ rest)) && ((length (key ∷ rest) - 1) % size == 0)) key rest
 
-  pub pushed_made : (keeps : (key : List ℕ) (elements : Words) → keeps_list (Lists (make key elements)) ≡ true) (words : Words) (first : Result (List ℕ × Words) ReadingFault) (answer : Result ListCommand ReadingFault) → Gathers (one_and_some words) first → MatchResult first (λ a. IsOkAnd answer (λ b. b ≡ make a.0 a.1)) (λ e. answer ≡ Err e) → ReadsAs Lists (and_then (push_words make (drop 1 words)) (λ c. Ok (Lists c))) answer
-  pushed_made keeps words first answer h m =
-      subst (λ r. ReadsAs Lists r answer) (sym (push_then (drop 1 words))) (kept Lists (λ (parts : List ℕ × Words). make parts.0 parts.1) (λ parts. keeps parts.0 parts.1) (one_and_some words) first answer h m)
+  pub keyed_made : (keeps : (key : List ℕ) (list : L) → keeps_list (family (make key list)) ≡ true) (words : Words) (first : Result (List ℕ × L) ReadingFault) (answer : Result C ReadingFault) → Gathers (repeated (Plain ∷ []) size (λ a w. Ok (a.0, own w)) (drop 1 words)) first → MatchResult first (λ a. IsOkAnd answer (λ b. b ≡ make a.0 a.1)) (λ e. answer ≡ Err e) → ReadsAs family (and_then (repeated (Plain ∷ []) size (λ a w. Ok (make a.0 (own w))) (drop 1 words)) (λ c. Ok (family c))) answer
+  keyed_made keeps words first answer h m =
+      subst (λ r. ReadsAs family r answer) (sym (keyed_then (drop 1 words))) (kept family (λ (parts : List ℕ × L). make parts.0 parts.1) (λ parts. keeps parts.0 parts.1) (repeated (Plain ∷ []) size (λ a w. Ok (a.0, own w)) (drop 1 words)) first answer h m)
 
 -- a key, and a number or none
 module _ (make : List ℕ → Option ℕ → ListCommand) where

@@ -10,7 +10,7 @@ use Rattle.plain_model.specs.Shapes.{Kind, Plain, AllTold, told, all_told, and_t
 use Rattle.plain_world.specs.declared.refusal.Refusal.{Refusal}
 use Rattle.plain_world.specs.declared.refusal.Refusal.TheVariants.{WrongNumberOfArguments}
 use Rattle.plain_model.specs.StringWords.{pairs_of}
-use Rattle.command_table.specs.Readings.{at, one_and_some, some_words, some_pairs}
+use Rattle.command_table.specs.Readings.{at, one_and_pairs, one_and_some, some_words, some_pairs}
 
 -- the words from a place on: the one there, and those behind it
 pub from_place : (words : Words) (i : ℕ) → i < length words → drop i words ≡ at words i ∷ drop (i + 1) words
@@ -69,3 +69,11 @@ one_and_words_kept words many =
     let own = length (drop 1 words) in
     let some : 1 < own = omega (arith, many, length-drop 1 words) in
     rw (lt-ltb 1 own some, eq-eqb ((own - 1) % 1) 0 (mod-one (own - 1)), all_told_at (Plain ∷ []) words 1 (omega (arith, some)), drop-drop 1 1 words) refl
+
+-- a word behind the name, and one or more pairs behind it
+pub one_and_pairs_kept : (words : Words) → 4 ≤ length words → length words % 2 ≢ 1 → one_and_pairs words ≡ Ok (at words 1, pairs_of (drop 2 words))
+one_and_pairs_kept words many odd =
+    let own = length (drop 1 words) in
+    let some : 1 < own = omega (arith, many, length-drop 1 words) in
+    let even : (own - 1) % 2 ≡ 0 = omega (arith, many, odd, length-drop 1 words) in
+    rw (lt-ltb 1 own some, eq-eqb ((own - 1) % 2) 0 even, all_told_at (Plain ∷ []) words 1 (omega (arith, some)), drop-drop 1 1 words) refl

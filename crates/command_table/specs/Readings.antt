@@ -7,7 +7,9 @@ use Rattle.plain_model.specs.Shapes.{Kind, Plain, Whole, Span, Amount, Told, tol
 use Rattle.plain_model.specs.Meant.{meant}
 use Rattle.plain_model.specs.StringWords.{pairs_of, time_options, set_options, getex_options}
 use Rattle.plain_model.specs.declared.command.Command.{Command}
-use Rattle.plain_model.specs.declared.command.Command.TheVariants.{Strings, Lists, Keys}
+use Rattle.plain_model.specs.declared.command.Command.TheVariants.{Strings, Lists, Sets, Hashes, Keys}
+use Rattle.plain_model.specs.declared.set_command.SetCommand.TheVariants as sets
+use Rattle.plain_model.specs.declared.hash_command.HashCommand.TheVariants as hashes
 use Rattle.plain_model.specs.declared.list_command.ListCommand.TheVariants as lists
 use Rattle.plain_model.specs.declared.command.StringCommand.TheVariants as strings
 use Rattle.plain_model.specs.declared.keys.KeyCommand.TheVariants as keys
@@ -58,6 +60,10 @@ and_options kinds named none words = with_options kinds named none (λ a c. Ok (
 -- a word and one or more words behind it
 abbrev pub one_and_some : Words → Result (List ℕ × Words) Refusal
 one_and_some words = repeated (Plain ∷ []) 1 (λ a own. Ok (a.0, own)) (drop 1 words)
+
+-- a word and one or more pairs behind it
+abbrev pub one_and_pairs : Words → Result (List ℕ × List (List ℕ × List ℕ)) Refusal
+one_and_pairs words = repeated (Plain ∷ []) 2 (λ a own. Ok (a.0, pairs_of own)) (drop 1 words)
 
 -- a word, and a number from 0 on or none
 abbrev pub one_and_amount : Words → Result (List ℕ × Option ℕ) Refusal
@@ -124,6 +130,13 @@ keeps_list (Lists (lists.LPush key elements)) = true
 keeps_list (Lists (lists.RPush key elements)) = true
 keeps_list (Lists (lists.LPushX key elements)) = true
 keeps_list (Lists (lists.RPushX key elements)) = true
+keeps_list (Sets (sets.SAdd key own)) = true
+keeps_list (Sets (sets.SRem key own)) = true
+keeps_list (Sets (sets.SMIsMember key own)) = true
+keeps_list (Hashes (hashes.HSet key own)) = true
+keeps_list (Hashes (hashes.HMSet key own)) = true
+keeps_list (Hashes (hashes.HMGet key own)) = true
+keeps_list (Hashes (hashes.HDel key own)) = true
 keeps_list (Keys (keys.Del words)) = true
 keeps_list (Keys (keys.Unlink words)) = true
 keeps_list (Keys (keys.Exists words)) = true

@@ -8,13 +8,17 @@ use Rattle.command_table.specs.declared.table.StringName.{StringName}
 use Rattle.command_table.specs.declared.table.StringName.TheVariants as string
 use Rattle.command_table.specs.declared.table.ListName.{ListName}
 use Rattle.command_table.specs.declared.table.ListName.TheVariants as list
+use Rattle.command_table.specs.declared.table.SetName.{SetName}
+use Rattle.command_table.specs.declared.table.SetName.TheVariants as set
+use Rattle.command_table.specs.declared.table.HashName.{HashName}
+use Rattle.command_table.specs.declared.table.HashName.TheVariants as hash
 use Rattle.command_table.specs.declared.table.KeyName.{KeyName}
 use Rattle.command_table.specs.declared.table.KeyName.TheVariants as key
 use Rattle.command_table.specs.declared.table.ConnectionName.{ConnectionName}
 use Rattle.command_table.specs.declared.table.ConnectionName.TheVariants as connection
 use Rattle.command_table.specs.declared.table.Row.{Row}
 use Rattle.command_table.specs.declared.table.Name.{Name}
-use Rattle.command_table.specs.declared.table.Name.TheVariants.{Strings, Lists, Keys, Connection}
+use Rattle.command_table.specs.declared.table.Name.TheVariants.{Strings, Lists, Sets, Hashes, Keys, Connection}
 
 -- the name in lower case
 abbrev pub string_name : StringName → List ℕ
@@ -56,6 +60,26 @@ list_name list.LPos = codes "lpos"
 list_name list.LMove = codes "lmove"
 list_name list.RPopLPush = codes "rpoplpush"
 
+abbrev pub set_name : SetName → List ℕ
+set_name set.SAdd = codes "sadd"
+set_name set.SRem = codes "srem"
+set_name set.SIsMember = codes "sismember"
+set_name set.SMIsMember = codes "smismember"
+set_name set.SCard = codes "scard"
+set_name set.SMove = codes "smove"
+
+abbrev pub hash_name : HashName → List ℕ
+hash_name hash.HSet = codes "hset"
+hash_name hash.HMSet = codes "hmset"
+hash_name hash.HSetNx = codes "hsetnx"
+hash_name hash.HGet = codes "hget"
+hash_name hash.HMGet = codes "hmget"
+hash_name hash.HDel = codes "hdel"
+hash_name hash.HExists = codes "hexists"
+hash_name hash.HLen = codes "hlen"
+hash_name hash.HStrLen = codes "hstrlen"
+hash_name hash.HIncrBy = codes "hincrby"
+
 abbrev pub key_name : KeyName → List ℕ
 key_name key.Del = codes "del"
 key_name key.Unlink = codes "unlink"
@@ -94,6 +118,8 @@ connection_name connection.Debug = codes "debug"
 abbrev pub name_of : Name → List ℕ
 name_of (Strings name) = string_name name
 name_of (Lists name) = list_name name
+name_of (Sets name) = set_name name
+name_of (Hashes name) = hash_name name
 name_of (Keys name) = key_name name
 name_of (Connection name) = connection_name name
 

@@ -2,7 +2,7 @@
 
 ghost use Rattle.std.specs.Prelude.{◌<◌, [], ◌∷◌, length, drop, Ok};
 ghost use Rattle.plain_model.specs.Shapes.{Plain, Whole, Span, Database, OnSide, AtEnd, fixed};
-ghost use Rattle.command_table.specs.Readings.{Gathers, Tells, TellsAs, and_options, just, one_and_amount, one_and_some, some_pairs, some_words};
+ghost use Rattle.command_table.specs.Readings.{Gathers, Tells, TellsAs, and_options, just, one_and_amount, one_and_pairs, one_and_some, some_pairs, some_words};
 
 use crate::ReadingFault;
 use crate::options::{Options, read_options};
@@ -70,6 +70,54 @@ pub fn one_and_numbers<'r>(request: &'r Request<'_>) -> Result<(Word<'r>, i64, i
     let a = number(request, 2)?;
     let b = number(request, 3)?;
     Ok((plain(request, 1), a, b))
+}
+
+/// Just three words.
+pub fn three<'r>(request: &'r Request<'_>) -> Result<(Word<'r>, Word<'r>, Word<'r>), ReadingFault>
+    requires { 0 < length request.now }
+    ensures { TellsAs (λ a. (a.0, (a.1, (a.2, tt)))) (just (Plain ∷ Plain ∷ Plain ∷ []) request.now) result }
+{
+    if request.len() != 4 {
+        return Err(WRONG_NUMBER);
+    }
+    Ok((plain(request, 1), plain(request, 2), plain(request, 3)))
+}
+
+/// Just two words and a number.
+pub fn two_and_number<'r>(
+    request: &'r Request<'_>,
+) -> Result<(Word<'r>, Word<'r>, i64), ReadingFault>
+    requires { 0 < length request.now }
+    ensures { TellsAs (λ a. (a.0, (a.1, (a.2, tt)))) (just (Plain ∷ Plain ∷ Whole ∷ []) request.now) result }
+{
+    if request.len() != 4 {
+        return Err(WRONG_NUMBER);
+    }
+    let n = number(request, 3)?;
+    Ok((plain(request, 1), plain(request, 2), n))
+}
+
+/// A word, and one pair of words or more behind it.
+pub fn one_and_pairs<'r>(
+    alloc: Global,
+    request: &'r Request<'_>,
+) -> Result<(Word<'r>, PairList<'r>), ReadingFault>
+    requires { 0 < length request.now }
+    ensures { Gathers (one_and_pairs request.now) result }
+{
+    if request.len() < 4 || request.len() % 2 == 1 {
+        return Err(WRONG_NUMBER);
+    }
+    let mut list = PairList::new(alloc);
+    let count = request.len() / 2;
+    for index in 1..count {
+        let first = plain(request, 2 * index);
+        let second = plain(request, 2 * index + 1);
+        if list.push(first, second).is_err() {
+            return Err(ReadingFault::Memory);
+        }
+    }
+    Ok((plain(request, 1), list))
 }
 
 /// Just a word, a number and a word.

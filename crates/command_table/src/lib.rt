@@ -3,12 +3,14 @@
 
 mod connection;
 mod fault;
+mod hashes;
 mod key_options;
 mod keys;
 mod kinds;
 mod lists;
 mod options;
 mod reading;
+mod sets;
 mod strings;
 mod table;
 mod times;

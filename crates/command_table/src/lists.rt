@@ -56,7 +56,7 @@ fn no_position_options() -> PositionOptions
 }
 
 /// Turns the words behind the name of a command on lists into it.
-#[tactic(auto, using(crate::proofs::Arms::fixed_made, crate::proofs::Arms::pushed_made, crate::proofs::Arms::popped_made))]
+#[tactic(auto, using(crate::proofs::Arms::fixed_made, crate::proofs::Arms::keyed_made, crate::proofs::Arms::popped_made))]
 pub fn read_list<'r>(
     alloc: Global,
     name: ListName,

@@ -7,8 +7,10 @@ ghost use Rattle.command_table.specs.Rows.{name_of};
 
 use crate::ReadingFault;
 use crate::connection::read_connection;
+use crate::hashes::read_hash;
 use crate::keys::read_key;
 use crate::lists::read_list;
+use crate::sets::read_set;
 use crate::strings::read_string;
 use crate::table::{Name, find};
 use plain_model::{Command, Refusal};
@@ -28,6 +30,8 @@ fn read_named<'r>(
     match name {
         Name::Strings(name) => read_string(alloc, name, request).map(Command::Strings),
         Name::Lists(name) => read_list(alloc, name, request).map(Command::Lists),
+        Name::Sets(name) => read_set(alloc, name, request).map(Command::Sets),
+        Name::Hashes(name) => read_hash(alloc, name, request).map(Command::Hashes),
         Name::Keys(name) => read_key(alloc, name, request).map(Command::Keys),
         Name::Connection(name) => read_connection(name, request).map(Command::Connection),
     }

@@ -4,7 +4,7 @@ ghost use Rattle.std.specs.Prelude.{◌≡◌, bytes_eq, length};
 ghost use Rattle.plain_world.specs.Words.{in_lower_case};
 ghost use Rattle.command_table.specs.Rows.{found_in, Finds, IsTable};
 
-use self::Name::{Connection, Keys, Lists, Strings};
+use self::Name::{Connection, Hashes, Keys, Lists, Sets, Strings};
 use self::StringName::{
     Append, Decr, DecrBy, Get, GetDel, GetEx, GetRange, GetSet, Incr, IncrBy, MGet, MSet, MSetNx,
     PSetEx, Set, SetEx, SetNx, SetRange, StrLen,
@@ -56,6 +56,32 @@ pub enum ListName {
     RPopLPush,
 }
 
+/// Which command on sets.
+#[derive(Clone, Copy)]
+pub enum SetName {
+    SAdd,
+    SRem,
+    SIsMember,
+    SMIsMember,
+    SCard,
+    SMove,
+}
+
+/// Which command on hashes.
+#[derive(Clone, Copy)]
+pub enum HashName {
+    HSet,
+    HMSet,
+    HSetNx,
+    HGet,
+    HMGet,
+    HDel,
+    HExists,
+    HLen,
+    HStrLen,
+    HIncrBy,
+}
+
 /// Which command on keys.
 #[derive(Clone, Copy)]
 pub enum KeyName {
@@ -102,6 +128,8 @@ pub enum ConnectionName {
 pub enum Name {
     Strings(StringName),
     Lists(ListName),
+    Sets(SetName),
+    Hashes(HashName),
     Keys(KeyName),
     Connection(ConnectionName),
 }
@@ -116,7 +144,7 @@ const OF_3: [Row; 4] = [
     Row(b"ttl", Keys(KeyName::Ttl)),
 ];
 
-const OF_4: [Row; 19] = [
+const OF_4: [Row; 25] = [
     Row(b"mget", Strings(MGet)),
     Row(b"mset", Strings(MSet)),
     Row(b"incr", Strings(Incr)),
@@ -136,9 +164,15 @@ const OF_4: [Row; 19] = [
     Row(b"lset", Lists(ListName::LSet)),
     Row(b"lrem", Lists(ListName::LRem)),
     Row(b"lpos", Lists(ListName::LPos)),
+    Row(b"sadd", Sets(SetName::SAdd)),
+    Row(b"srem", Sets(SetName::SRem)),
+    Row(b"hset", Hashes(HashName::HSet)),
+    Row(b"hget", Hashes(HashName::HGet)),
+    Row(b"hdel", Hashes(HashName::HDel)),
+    Row(b"hlen", Hashes(HashName::HLen)),
 ];
 
-const OF_5: [Row; 9] = [
+const OF_5: [Row; 13] = [
     Row(b"setnx", Strings(SetNx)),
     Row(b"setex", Strings(SetEx)),
     Row(b"getex", Strings(GetEx)),
@@ -148,9 +182,13 @@ const OF_5: [Row; 9] = [
     Row(b"rpush", Lists(ListName::RPush)),
     Row(b"ltrim", Lists(ListName::LTrim)),
     Row(b"lmove", Lists(ListName::LMove)),
+    Row(b"scard", Sets(SetName::SCard)),
+    Row(b"smove", Sets(SetName::SMove)),
+    Row(b"hmset", Hashes(HashName::HMSet)),
+    Row(b"hmget", Hashes(HashName::HMGet)),
 ];
 
-const OF_6: [Row; 20] = [
+const OF_6: [Row; 21] = [
     Row(b"getset", Strings(GetSet)),
     Row(b"getdel", Strings(GetDel)),
     Row(b"psetex", Strings(PSetEx)),
@@ -171,13 +209,17 @@ const OF_6: [Row; 20] = [
     Row(b"rpushx", Lists(ListName::RPushX)),
     Row(b"lindex", Lists(ListName::LIndex)),
     Row(b"lrange", Lists(ListName::LRange)),
+    Row(b"hsetnx", Hashes(HashName::HSetNx)),
 ];
 
-const OF_7: [Row; 4] = [
+const OF_7: [Row; 7] = [
     Row(b"pexpire", Keys(KeyName::PExpire)),
     Row(b"persist", Keys(KeyName::Persist)),
     Row(b"flushdb", Connection(ConnectionName::FlushDb)),
     Row(b"linsert", Lists(ListName::LInsert)),
+    Row(b"hexists", Hashes(HashName::HExists)),
+    Row(b"hstrlen", Hashes(HashName::HStrLen)),
+    Row(b"hincrby", Hashes(HashName::HIncrBy)),
 ];
 
 const OF_8: [Row; 5] = [
@@ -188,13 +230,17 @@ const OF_8: [Row; 5] = [
     Row(b"flushall", Connection(ConnectionName::FlushAll)),
 ];
 
-const OF_9: [Row; 3] = [
+const OF_9: [Row; 4] = [
     Row(b"pexpireat", Keys(KeyName::PExpireAt)),
     Row(b"randomkey", Keys(KeyName::RandomKey)),
     Row(b"rpoplpush", Lists(ListName::RPopLPush)),
+    Row(b"sismember", Sets(SetName::SIsMember)),
 ];
 
-const OF_10: [Row; 1] = [Row(b"expiretime", Keys(KeyName::ExpireTime))];
+const OF_10: [Row; 2] = [
+    Row(b"expiretime", Keys(KeyName::ExpireTime)),
+    Row(b"smismember", Sets(SetName::SMIsMember)),
+];
 
 const OF_11: [Row; 1] = [Row(b"pexpiretime", Keys(KeyName::PExpireTime))];
 

@@ -3,20 +3,20 @@ use Rattle.plain_model.specs.Shapes.{Plain, Whole, OnSide, AtEnd}
 use Rattle.plain_model.specs.ListWords.{position_options, no_position_options}
 use Rattle.plain_model.specs.declared.command.Command.TheVariants.{Lists}
 use Rattle.plain_model.specs.declared.list_command.ListCommand.TheVariants as lists
-use Rattle.command_table.proofs.Arms.{fixed_made, options_made, pushed_made, popped_made}
+use Rattle.command_table.proofs.Arms.{fixed_made, keyed_made, options_made, popped_made}
 use Rattle.command_table.proofs.lists.read_list.Goals as goal
 
 pub returns-in-LPush : goal.returns-in-LPush
-returns-in-LPush c = rw c.in-LPush.is (pushed_made lists.LPush (λ key elements. refl) c.args.request.now c.one_and_words.result _ c.one_and_words.ensures (search rules))
+returns-in-LPush c = rw c.in-LPush.is (keyed_made Lists 1 (λ w. w) lists.LPush (λ key elements. refl) c.args.request.now c.one_and_words.result _ c.one_and_words.ensures (search rules))
 
 pub returns-in-RPush : goal.returns-in-RPush
-returns-in-RPush c = rw c.in-RPush.is (pushed_made lists.RPush (λ key elements. refl) c.args.request.now c.one_and_words-in-RPush.result _ c.one_and_words-in-RPush.ensures (search rules))
+returns-in-RPush c = rw c.in-RPush.is (keyed_made Lists 1 (λ w. w) lists.RPush (λ key elements. refl) c.args.request.now c.one_and_words-in-RPush.result _ c.one_and_words-in-RPush.ensures (search rules))
 
 pub returns-in-LPushX : goal.returns-in-LPushX
-returns-in-LPushX c = rw c.in-LPushX.is (pushed_made lists.LPushX (λ key elements. refl) c.args.request.now c.one_and_words-in-LPushX.result _ c.one_and_words-in-LPushX.ensures (search rules))
+returns-in-LPushX c = rw c.in-LPushX.is (keyed_made Lists 1 (λ w. w) lists.LPushX (λ key elements. refl) c.args.request.now c.one_and_words-in-LPushX.result _ c.one_and_words-in-LPushX.ensures (search rules))
 
 pub returns-in-RPushX : goal.returns-in-RPushX
-returns-in-RPushX c = rw c.in-RPushX.is (pushed_made lists.RPushX (λ key elements. refl) c.args.request.now c.one_and_words-in-RPushX.result _ c.one_and_words-in-RPushX.ensures (search rules))
+returns-in-RPushX c = rw c.in-RPushX.is (keyed_made Lists 1 (λ w. w) lists.RPushX (λ key elements. refl) c.args.request.now c.one_and_words-in-RPushX.result _ c.one_and_words-in-RPushX.ensures (search rules))
 
 pub returns-in-LPop : goal.returns-in-LPop
 returns-in-LPop c = rw c.in-LPop.is (popped_made lists.LPop c.args.request.now c.one_and_perhaps.result _ c.one_and_perhaps.ensures (search rules))
