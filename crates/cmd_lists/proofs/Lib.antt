@@ -1,0 +1,14 @@
+pub mod Looking
+pub mod Ranges
+pub mod Places
+pub mod Removing
+pub mod AtKeys
+pub mod Ends
+pub mod Rising
+pub mod Telling
+pub mod Meeting
+pub mod Setting
+pub mod Running
+pub mod Beside
+pub mod Without
+pub mod Between

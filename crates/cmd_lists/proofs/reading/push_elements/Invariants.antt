@@ -1,0 +1,14 @@
+use Rattle.std.proofs.Common.{◌≡◌, ◌+◌, ◌≤◌, ◌++◌, length, take, drop, map}
+use Rattle.std.specs.Prelude.{MatchOption}
+use Rattle.quicklist.specs.Chain.{elements}
+use Rattle.quicklist.specs.Cursor.{IsCursor}
+use Rattle.plain_world.specs.declared.reply.Part.TheVariants.{Bulk}
+use Rattle.cmd_lists.proofs.reading.push_elements.Given as goal
+
+abbrev pub invariant-loop-index : goal.invariant-loop-index
+invariant-loop-index g l =
+    let m = g.B.BlockStore.blocks l.store in
+    record {
+      next : MatchOption l.place (length (elements m l.list) ≤ l.from + l.index) (λ cursor. IsCursor m l.list cursor × (cursor.index ≡ l.from + l.index));
+      so_far : l.parts ≡ l.fn.parts ++ map Bulk (take l.index (drop l.from (elements m l.list)));
+    }

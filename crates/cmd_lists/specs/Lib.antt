@@ -1,0 +1,9 @@
+pub mod Found
+pub mod Met
+pub mod Changed
+pub mod Pushed
+pub mod Popped
+pub mod Written
+pub mod Inserted
+pub mod Removed
+pub mod Moved
