@@ -1,0 +1,6 @@
+pub mod Looking
+pub mod Telling
+pub mod AtKeys
+pub mod Growing
+pub mod Going
+pub mod Running

@@ -1,0 +1,4 @@
+pub mod Found
+pub mod Changed
+pub mod Edited
+pub mod Moves

@@ -1,0 +1,23 @@
+//! The commands on sets, over a keyspace.
+//!
+//! Each command has a function of its own, named by it in lower case, which takes its words. It is a step of the model on
+//! what the keyspace means; the refusals of the world are replies, and change nothing. After want of memory the keyspace
+//! is sound, and what it means is not said.
+#![tactic(auto)]
+
+mod adding;
+mod changing;
+mod dispatch;
+mod edits;
+mod look;
+mod moving;
+mod reading;
+mod removing;
+
+pub use adding::{Add, sadd};
+pub use changing::{change_set, set_sought};
+pub use dispatch::run_sets;
+pub use edits::{OnSet, SetEdit};
+pub use moving::smove;
+pub use reading::{scard, sismember, smismember};
+pub use removing::{Remove, srem};

@@ -1,0 +1,57 @@
+//! The set at a key.
+
+ghost use Rattle.std.specs.Prelude.{◌≡◌, [], ◌∷◌, pos, None, IfOk};
+ghost use Rattle.plain_world.specs.Worlds.{look};
+ghost use Rattle.plain_world.specs.declared.reply.Part.TheVariants as parts;
+ghost use Rattle.plain_model.specs.HashSteps.{one_if};
+ghost use Rattle.keyspace.specs.Commands.{Ready, sight};
+ghost use Rattle.keyspace.specs.Looks.{IsLook};
+ghost use Rattle.cmd_sets.specs.Found.{FoundSet, FoundOther};
+
+use blocks::BlockStore;
+use keyspace::{Keyspace, Look, Value};
+use plain_model::{Ctx, Memory, Reply};
+use set_object::Members;
+use std::alloc::{AllocError, Global};
+
+/// The set at a key.
+pub fn set_at<'a, B: BlockStore>(
+    keyspace: &'a Keyspace<B>,
+    at: &Ctx,
+    key: &[u8],
+) -> Look<&'a Members>
+    requires ready { Ready B.blocks keyspace.now at.now }
+    ensures { IsLook (look (sight B.blocks keyspace.now at.now) key.now ≡ None) (FoundOther (sight B.blocks keyspace.now at.now) key.now) (λ set. FoundSet (sight B.blocks keyspace.now at.now) (B.blocks keyspace.now.store) key.now set.now) result }
+{
+    match keyspace.look(at.db, key, at.moment) {
+        None => Look::Missing,
+        Some(value) => match value {
+            Value::Set(set) => Look::There(set),
+            Value::Text(_) | Value::List(_) | Value::Hash(_) | Value::Zset(_) => Look::Other,
+        },
+    }
+}
+
+/// A count as a number of a reply. One past 2^63 - 1 is want of memory.
+pub fn reply_number(n: usize) -> Result<i64, Memory>
+    ensures { IfOk result (λ number. number ≡ pos n) }
+{
+    match i64::try_from(n) {
+        Ok(number) => Ok(number),
+        Err(_) => Err(AllocError),
+    }
+}
+
+/// A count as a reply.
+pub fn count_reply(alloc: Global, count: usize) -> Result<Reply, Memory>
+    ensures { IfOk result (λ reply. reply ≡ parts.Number (pos count) ∷ []) }
+{
+    Reply::number(alloc, reply_number(count)?)
+}
+
+/// 1 where something is so, and else 0.
+pub fn number_if(is: bool) -> i64
+    ensures { result ≡ one_if is }
+{
+    if is { 1 } else { 0 }
+}
