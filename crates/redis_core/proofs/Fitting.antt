@@ -5,16 +5,20 @@ use Rattle.std.specs.List.{Contains}
 use Rattle.held.specs.Scopes.{keys_of}
 use Rattle.plain_model.specs.Meant.{IsAsked}
 use Rattle.plain_model.specs.declared.command.Command.{Command}
-use Rattle.plain_model.specs.declared.command.Command.TheVariants.{Strings, Lists, Keys, Connection}
+use Rattle.plain_model.specs.declared.command.Command.TheVariants.{Strings, Lists, Sets, Hashes, Keys, Connection}
 use Rattle.plain_model.specs.declared.command.StringCommand.{StringCommand}
 use Rattle.plain_model.specs.declared.command.StringCommand.TheVariants as strings
+use Rattle.plain_model.specs.declared.set_command.SetCommand.{SetCommand}
+use Rattle.plain_model.specs.declared.set_command.SetCommand.TheVariants as sets
+use Rattle.plain_model.specs.declared.hash_command.HashCommand.{HashCommand}
+use Rattle.plain_model.specs.declared.hash_command.HashCommand.TheVariants as hashes
 use Rattle.plain_model.specs.declared.list_command.ListCommand.{ListCommand}
 use Rattle.plain_model.specs.declared.list_command.ListCommand.TheVariants as lists
 use Rattle.plain_model.specs.declared.keys.KeyCommand.{KeyCommand}
 use Rattle.plain_model.specs.declared.keys.KeyCommand.TheVariants as keys
 use Rattle.plain_model.specs.declared.connection.ConnectionCommand.{ConnectionCommand}
 use Rattle.plain_model.specs.declared.connection.ConnectionCommand.TheVariants as connection
-use Rattle.keyspace.specs.Scopes.{Scope, Reach, untouched, two_keys, all_keys, everything, number_or, scope, string_reach, list_reach, key_reach, connection_reach, reach_of, scope_of}
+use Rattle.keyspace.specs.Scopes.{Scope, Reach, untouched, two_keys, all_keys, everything, number_or, scope, string_reach, list_reach, set_reach, hash_reach, key_reach, connection_reach, reach_of, scope_of}
 use Rattle.keyspace.specs.Scopes as reach
 use Rattle.cmd_keys.specs.Found.{IsDatabase}
 use Rattle.cmd_keys.proofs.KeyLemmas.{asked_copy, asked_move}
@@ -101,6 +105,26 @@ list_databases db below (lists.LPos key element options) = tt
 list_databases db below (lists.LMove from to end other) = (below, below)
 list_databases db below (lists.RPopLPush from to) = (below, below)
 
+pub set_databases : (db : ℕ) → db < 16 → (command : SetCommand) → AreDatabases (databases (set_reach db command))
+set_databases db below (sets.SAdd key others) = below
+set_databases db below (sets.SRem key others) = below
+set_databases db below (sets.SIsMember key member) = tt
+set_databases db below (sets.SMIsMember key others) = tt
+set_databases db below (sets.SCard key) = tt
+set_databases db below (sets.SMove from to member) = (below, below)
+
+pub hash_databases : (db : ℕ) → db < 16 → (command : HashCommand) → AreDatabases (databases (hash_reach db command))
+hash_databases db below (hashes.HSet key pairs) = below
+hash_databases db below (hashes.HMSet key pairs) = below
+hash_databases db below (hashes.HSetNx key field value) = below
+hash_databases db below (hashes.HGet key field) = tt
+hash_databases db below (hashes.HMGet key others) = tt
+hash_databases db below (hashes.HDel key others) = below
+hash_databases db below (hashes.HExists key field) = tt
+hash_databases db below (hashes.HLen key) = tt
+hash_databases db below (hashes.HStrLen key field) = tt
+hash_databases db below (hashes.HIncrBy key field n) = below
+
 pub key_databases : (db : ℕ) → db < 16 → (command : KeyCommand) → IsAsked (Keys command) → AreDatabases (databases (key_reach db command))
 key_databases db below (keys.Del names) asked = below
 key_databases db below (keys.Unlink names) asked = below
@@ -140,6 +164,8 @@ connection_databases db below (connection.DebugDefrag n) = tt
 pub databases_of : (db : ℕ) → db < 16 → (command : Command) → IsAsked command → AreDatabases (touched_of db command)
 databases_of db below (Strings command) asked = string_databases db below command
 databases_of db below (Lists command) asked = list_databases db below command
+databases_of db below (Sets command) asked = set_databases db below command
+databases_of db below (Hashes command) asked = hash_databases db below command
 databases_of db below (Keys command) asked = key_databases db below command asked
 databases_of db below (Connection command) asked = connection_databases db below command
 

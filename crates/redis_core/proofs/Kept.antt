@@ -1,5 +1,6 @@
 -- A refused request leaves the live world.
 use Rattle.std.proofs.Common.{◌≡◌, ℕ, List, [], ◌∷◌, Option, Some, None, Bool, true, false, Result, Ok, Err, refl, subst, ◌∙◌}
+use Rattle.std.specs.FinMap.{get}
 use Rattle.std.specs.Prelude.{MatchResult, is_some, if◌then◌else◌, nat_le, ◌==◌, ◌&&◌, not, bytes_eq, length, ◌++◌, ℤ, pos, ◌+ℤ◌, ◌-ℤ◌}
 use Rattle.plain_world.specs.Words.{Words}
 use Rattle.plain_world.specs.Worlds.{World, Value, Str, Entry, look, live, stand, deadline_of, look_in}
@@ -19,7 +20,14 @@ use Rattle.plain_model.specs.declared.times.Lifetime.{Lifetime}
 use Rattle.plain_model.specs.declared.times.Lifetime.TheVariants as lifetimes
 use Rattle.plain_model.specs.declared.times.Renewal.{Renewal}
 use Rattle.plain_model.specs.declared.times.Renewal.TheVariants as renewals
-use Rattle.plain_model.specs.OfType.{of_type, on_type, list_in}
+use Rattle.plain_model.specs.OfType.{of_type, on_type, list_in, set_in, hash_in}
+use Rattle.plain_model.specs.SetSteps.{Members, or_no_members, has, drop_members, move_to, move_from}
+use Rattle.plain_model.specs.SetSteps as set_steps
+use Rattle.plain_model.specs.HashSteps.{Fields, or_no_fields, set_missing, unset_fields, number_in, count_field, count_on_field, hash_outcome}
+use Rattle.plain_model.specs.declared.set_command.SetCommand.{SetCommand}
+use Rattle.plain_model.specs.declared.set_command.SetCommand.TheVariants as sets
+use Rattle.plain_model.specs.declared.hash_command.HashCommand.{HashCommand}
+use Rattle.plain_model.specs.declared.hash_command.HashCommand.TheVariants as hashes
 use Rattle.plain_model.specs.ListSteps.{Elements, from_end, first_or_null, push_there, pop_of, set_place, set_at, trim, insert_there, insert_beside, inserted_beside, remove_equal, place_of, move_first, move_there, list_outcome}
 use Rattle.plain_model.specs.declared.list_command.Side.{Side}
 use Rattle.plain_model.specs.declared.list_command.ListEnd.{ListEnd}
@@ -34,7 +42,7 @@ use Rattle.plain_model.specs.declared.connection.ConnectionCommand.TheVariants a
 use Rattle.plain_world.specs.Words.{longest}
 use Rattle.plain_model.specs.declared.command.Command.{Command}
 use Rattle.plain_model.specs.declared.command.Condition.{Condition}
-use Rattle.plain_model.specs.declared.command.Command.TheVariants.{Strings, Lists, Keys, Connection}
+use Rattle.plain_model.specs.declared.command.Command.TheVariants.{Strings, Lists, Sets, Hashes, Keys, Connection}
 use Rattle.plain_model.specs.declared.command.StringCommand.{StringCommand}
 use Rattle.plain_model.specs.declared.command.StringCommand.TheVariants as strings
 use Rattle.plain_world.specs.declared.refusal.Refusal.{Refusal}
@@ -245,6 +253,56 @@ module _ (old : World) where
   lists_keep (lists.LMove from to end other) = on_list_keeps from _ (move_keeps from to end other)
   lists_keep (lists.RPopLPush from to) = on_list_keeps from _ (move_keeps from to Tail Head)
 
+  -- what is answered of the set at a key
+  on_set_keeps : (key : List ℕ) (answer : Option Members → Outcome) → ((before : Option Members) → Keeps (answer before)) → Keeps (on_type set_in old (look old key) answer)
+  on_set_keeps key answer h = on_type_keeps set_in (look old key) answer h
+
+  dropped_keeps : (key : List ℕ) (others : List (List ℕ)) (before : Option Members) → Keeps (drop_members old key others before)
+  dropped_keeps key others None = λ r. absurd r
+  dropped_keeps key others (Some members) = λ r. absurd r
+
+  to_keeps : (from to member : List ℕ) (members : Members) (target : Option Members) → Keeps (move_to old from to member members target)
+  to_keeps from to member members target = either (has members member) _ _ (either (bytes_eq from to) _ _ (λ r. absurd r) (λ r. absurd r)) (λ r. absurd r)
+
+  from_keeps : (from to member : List ℕ) (before : Option Members) → Keeps (move_from old from to member before)
+  from_keeps from to member None = λ r. absurd r
+  from_keeps from to member (Some members) = on_set_keeps to _ (to_keeps from to member members)
+
+  sets_keep : (command : SetCommand) → Keeps (set_steps.set_outcome old command)
+  sets_keep (sets.SAdd key others) = on_set_keeps key _ (λ before r. absurd r)
+  sets_keep (sets.SRem key others) = on_set_keeps key _ (dropped_keeps key others)
+  sets_keep (sets.SIsMember key member) = on_set_keeps key _ (λ before r. refl)
+  sets_keep (sets.SMIsMember key others) = on_set_keeps key _ (λ before r. refl)
+  sets_keep (sets.SCard key) = on_set_keeps key _ (λ before r. refl)
+  sets_keep (sets.SMove from to member) = on_set_keeps from _ (from_keeps from to member)
+
+  -- what is answered of the hash at a key
+  on_hash_keeps : (key : List ℕ) (answer : Option Fields → Outcome) → ((before : Option Fields) → Keeps (answer before)) → Keeps (on_type hash_in old (look old key) answer)
+  on_hash_keeps key answer h = on_type_keeps hash_in (look old key) answer h
+
+  missing_keeps : (key field value : List ℕ) (fields : Fields) → Keeps (set_missing old key field value fields)
+  missing_keeps key field value fields = either (is_some (get fields field)) _ _ (λ r. absurd r) (λ r. absurd r)
+
+  unset_keeps : (key : List ℕ) (others : List (List ℕ)) (before : Option Fields) → Keeps (unset_fields old key others before)
+  unset_keeps key others None = λ r. absurd r
+  unset_keeps key others (Some fields) = λ r. absurd r
+
+  field_keeps : (key field : List ℕ) (fields : Fields) (by : ℤ) (n : Option ℤ) → Keeps (count_on_field old key field fields by n)
+  field_keeps key field fields by None = λ r. refl
+  field_keeps key field fields by (Some n) = either (is_i64 (n +ℤ by)) _ _ (λ r. absurd r) (λ r. refl)
+
+  hashes_keep : (command : HashCommand) → Keeps (hash_outcome old command)
+  hashes_keep (hashes.HSet key pairs) = on_hash_keeps key _ (λ before r. absurd r)
+  hashes_keep (hashes.HMSet key pairs) = on_hash_keeps key _ (λ before r. absurd r)
+  hashes_keep (hashes.HSetNx key field value) = on_hash_keeps key _ (λ before. missing_keeps key field value (or_no_fields before))
+  hashes_keep (hashes.HGet key field) = on_hash_keeps key _ (λ before r. refl)
+  hashes_keep (hashes.HMGet key others) = on_hash_keeps key _ (λ before r. refl)
+  hashes_keep (hashes.HDel key others) = on_hash_keeps key _ (unset_keeps key others)
+  hashes_keep (hashes.HExists key field) = on_hash_keeps key _ (λ before r. refl)
+  hashes_keep (hashes.HLen key) = on_hash_keeps key _ (λ before r. refl)
+  hashes_keep (hashes.HStrLen key field) = on_hash_keeps key _ (λ before r. refl)
+  hashes_keep (hashes.HIncrBy key field by) = on_hash_keeps key _ (λ before. field_keeps key field (or_no_fields before) by (number_in (get (or_no_fields before) field)))
+
   connection_keeps : (moment : ℕ) (command : ConnectionCommand) (reply : List Part) (new : World) → may_connection old moment command reply new → IsRefusal reply → new ≡ old
   connection_keeps moment (connection.Ping text) reply new m r = m.1
   connection_keeps moment (connection.Echo text) reply new m r = m.1
@@ -260,6 +318,8 @@ module _ (old : World) where
   command_keeps : (seed moment : ℕ) (command : Command) (reply : List Part) (new : World) → may seed old moment command reply new → IsRefusal reply → new ≡ old
   command_keeps seed moment (Strings command) reply new m r = m.1 ∙ outcome_keeps moment command (subst IsRefusal m.0 r)
   command_keeps seed moment (Lists command) reply new m r = m.1 ∙ lists_keep command (subst IsRefusal m.0 r)
+  command_keeps seed moment (Sets command) reply new m r = m.1 ∙ sets_keep command (subst IsRefusal m.0 r)
+  command_keeps seed moment (Hashes command) reply new m r = m.1 ∙ hashes_keep command (subst IsRefusal m.0 r)
   command_keeps seed moment (Keys command) reply new m r = keys_keep seed moment command reply new m r
   command_keeps seed moment (Connection command) reply new m r = connection_keeps moment command reply new m r
 

@@ -7,7 +7,7 @@ use Rattle.plain_world.specs.Worlds.{World, live}
 use Rattle.plain_model.specs.Meant.{meant, asks_to_quit, IsAsked, is_quit}
 use Rattle.plain_model.specs.Outcomes.{IsRefusal}
 use Rattle.plain_model.proofs.Asked.{FitsCommand, command_fits}
-use Rattle.plain_model.specs.declared.command.Command.TheVariants.{Strings, Lists, Keys, Connection}
+use Rattle.plain_model.specs.declared.command.Command.TheVariants.{Strings, Lists, Sets, Hashes, Keys, Connection}
 use Rattle.plain_model.specs.declared.connection.ConnectionCommand.{ConnectionCommand}
 use Rattle.plain_model.specs.declared.connection.ConnectionCommand.TheVariants as connection
 use Rattle.blocks.specs.Slabs.{Heap}
@@ -64,6 +64,8 @@ common_connection blocks heap old new walk (connection.DebugDefrag n) reply comm
 common_tends : {S : Type 0} (blocks : S → Blocks) (heap : S → Heap) (old new : Keyspace S) (walk : Option Walk) (command : Command) (reply : List Part) → IsCommon command → Tends blocks heap old new walk walk command reply
 common_tends blocks heap old new walk (Strings command) reply common = refl
 common_tends blocks heap old new walk (Lists command) reply common = refl
+common_tends blocks heap old new walk (Sets command) reply common = refl
+common_tends blocks heap old new walk (Hashes command) reply common = refl
 common_tends blocks heap old new walk (Keys command) reply common = refl
 common_tends blocks heap old new walk (Connection command) reply common = common_connection blocks heap old new walk command reply common
 

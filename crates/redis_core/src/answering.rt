@@ -14,8 +14,10 @@ ghost use Rattle.redis_core.specs.Engines.{Answers, own_command, answered_with};
 use crate::background::defragment;
 use crate::settling::{settle, touched_by};
 use blocks::BlockStore;
+use cmd_hashes::run_hashes;
 use cmd_keys::{debug_rehash, memory_slabs, run_connection, run_keys};
 use cmd_lists::run_lists;
+use cmd_sets::run_sets;
 use cmd_values::run_strings;
 use command_table::{ReadingFault, read};
 use defrag::Walk;
@@ -83,6 +85,8 @@ fn run_family<B: BlockStore>(
     match command {
         Command::Strings(own) => run_strings(keyspace, at, own),
         Command::Lists(own) => run_lists(keyspace, at, own),
+        Command::Sets(own) => run_sets(keyspace, at, own),
+        Command::Hashes(own) => run_hashes(keyspace, at, own),
         Command::Keys(own) => run_keys(keyspace, at, own, dice),
         Command::Connection(own) => run_connection(keyspace, at, own),
     }

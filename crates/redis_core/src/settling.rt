@@ -3,13 +3,16 @@
 ghost use Rattle.std.specs.Prelude.{◌≡◌, ◌<◌, ℕ, OnOk, IfSome, IfNone};
 ghost use Rattle.keyspace.specs.Databases.{means};
 ghost use Rattle.keyspace.specs.Sound.{Sound};
-ghost use Rattle.keyspace.specs.Scopes.{no_key, number_or, AreSettled, string_reach, list_reach, key_reach, connection_reach};
+ghost use Rattle.keyspace.specs.Scopes.{no_key, number_or, AreSettled, string_reach, list_reach, set_reach, hash_reach, key_reach, connection_reach};
 ghost use Rattle.keyspace.specs.Commands.{Held};
 ghost use Rattle.redis_core.specs.Touched.{covers, databases, shrinking, touched_of, AreDatabases};
 
 use blocks::BlockStore;
 use keyspace::Keyspace;
-use plain_model::{Command, ConnectionCommand, KeyCommand, ListCommand, Memory, StringCommand};
+use plain_model::{
+    Command, ConnectionCommand, HashCommand, KeyCommand, ListCommand, Memory, SetCommand,
+    StringCommand,
+};
 
 // How many databases there are.
 const DATABASES: usize = 16;
@@ -69,6 +72,36 @@ fn touched_by_lists(command: &ListCommand<'_>, db: usize) -> Touched
         ListCommand::LPos(_, _, _) => Touched::Nothing,
         ListCommand::LMove(_, _, _, _) => Touched::Two(db, db),
         ListCommand::RPopLPush(_, _) => Touched::Two(db, db),
+    }
+}
+
+fn touched_by_sets(command: &SetCommand<'_>, db: usize) -> Touched
+    ensures { result ≡ databases (set_reach db command.now) }
+{
+    match command {
+        SetCommand::SAdd(_, _) => Touched::One(db),
+        SetCommand::SRem(_, _) => Touched::One(db),
+        SetCommand::SIsMember(_, _) => Touched::Nothing,
+        SetCommand::SMIsMember(_, _) => Touched::Nothing,
+        SetCommand::SCard(_) => Touched::Nothing,
+        SetCommand::SMove(_, _, _) => Touched::Two(db, db),
+    }
+}
+
+fn touched_by_hashes(command: &HashCommand<'_>, db: usize) -> Touched
+    ensures { result ≡ databases (hash_reach db command.now) }
+{
+    match command {
+        HashCommand::HSet(_, _) => Touched::One(db),
+        HashCommand::HMSet(_, _) => Touched::One(db),
+        HashCommand::HSetNx(_, _, _) => Touched::One(db),
+        HashCommand::HGet(_, _) => Touched::Nothing,
+        HashCommand::HMGet(_, _) => Touched::Nothing,
+        HashCommand::HDel(_, _) => Touched::One(db),
+        HashCommand::HExists(_, _) => Touched::Nothing,
+        HashCommand::HLen(_) => Touched::Nothing,
+        HashCommand::HStrLen(_, _) => Touched::Nothing,
+        HashCommand::HIncrBy(_, _, _) => Touched::One(db),
     }
 }
 
@@ -135,6 +168,8 @@ pub fn touched_by(command: &Command<'_>, db: usize) -> Touched
     match command {
         Command::Strings(own) => touched_by_strings(own, db),
         Command::Lists(own) => touched_by_lists(own, db),
+        Command::Sets(own) => touched_by_sets(own, db),
+        Command::Hashes(own) => touched_by_hashes(own, db),
         Command::Keys(own) => touched_by_keys(own, db),
         Command::Connection(own) => touched_by_connection(own, db),
     }
