@@ -1,8 +1,14 @@
+pub mod Agains
 pub mod Clears
+pub mod Copies
 pub mod Exchanging
 pub mod Grows
+pub mod Later
 pub mod Losing
 pub mod Marking
 pub mod Nears
 pub mod Parts
+pub mod Picks
+pub mod Rises
 pub mod Trims
+pub mod Walks

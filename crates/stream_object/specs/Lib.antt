@@ -1,6 +1,10 @@
+pub mod Below
+pub mod Copied
 pub mod Found
 pub mod Groups
+pub mod Handing
 pub mod Laws
 pub mod Node
 pub mod Parts
+pub mod Ranges
 pub mod Streams

@@ -33,15 +33,15 @@ pub struct PendingEntry {
     pub count: u64,
 }
 
-// An id as a pair of numbers.
-fn pair(id: Id) -> Pair
+/// An id as a pair of numbers.
+pub(crate) fn pair(id: Id) -> Pair
     ensures { result ≡ pair_of id }
 {
     (id.ms, id.seq)
 }
 
-// A pair of numbers as an id.
-fn id_of(pair: Pair) -> Id
+/// A pair of numbers as an id.
+pub(crate) fn id_of(pair: Pair) -> Id
     ensures { pair_of result ≡ pair }
 {
     Id {

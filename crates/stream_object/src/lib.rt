@@ -1,7 +1,11 @@
 //! Streams: entries by rising ids, in nodes that a packed tree names, with consumer groups beside them.
 #![tactic(auto)]
 
+mod again;
+mod below;
 mod clearing;
+mod copying;
+mod delivering;
 mod fault;
 mod groups;
 mod growing;
@@ -10,14 +14,21 @@ mod looking;
 mod marks;
 mod node;
 mod nodes;
+mod owned;
+mod picking;
+mod ranging;
+mod redelivering;
 mod removing;
 mod spot;
 mod stream;
 mod trimming;
+mod wanted;
 
+pub use again::Again;
 pub use fault::AddFault;
 pub use groups::{Pending, PendingEntry};
 pub use laws::stream_laws;
+pub use owned::Owned;
 pub use stream::Stream;
 pub use stream_groups::{Bytes, Owner};
 pub use stream_node::{Id, Pairs};

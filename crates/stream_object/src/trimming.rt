@@ -2,15 +2,18 @@
 
 ghost use Rattle.std.specs.Prelude.{◌≡◌, ◌+◌, ◌-◌, ◌<◌, ◌≤◌, ℕ, length, IfOk, OnOk, OnErr};
 ghost use Rattle.blocks.specs.Blocks.{Served};
+ghost use Rattle.stream_object.specs.Below.{count_low, from_id};
 ghost use Rattle.stream_object.specs.Streams.{IsChanged, IsStream, dropping, entries, stream_of};
 
 use crate::Memory;
+use crate::below::count_below;
 use crate::node::count_live;
 use crate::nodes::{LEAST, drop_node, near};
 use crate::removing::take_out;
 use crate::spot::Spot;
 use crate::stream::Stream;
 use blocks::BlockStore;
+use stream_node::Id;
 
 impl Stream {
     // Takes out some of the first entries, at most so many: those of the first node together, or one of them. Answers how many.
@@ -70,5 +73,35 @@ impl Stream {
         let count = self.len.saturating_sub(keep);
         self.drop_front(store, count)?;
         Ok(count)
+    }
+
+    // How many entries of the first node are below an id. There are none exactly where no entry at all is below it.
+    fn first_below<B: BlockStore>(&self, store: &B, least: Id) -> u64
+        requires { IsStream (B.blocks store.now) self.now }
+        ensures within { result ≤ count_low least (entries (B.blocks store.now) self.now) }
+        ensures none { result ≡ 0 → count_low least (entries (B.blocks store.now) self.now) ≡ 0 }
+    {
+        match near(store, &self.tree, LEAST, true) {
+            Some(spot) => count_below(spot.key, spot.bytes, least) as u64,
+            None => 0,
+        }
+    }
+
+    /// Takes out the entries below an id, from the front, and answers how many. After `Memory` some of them are out, in order.
+    pub fn trim_id<B: BlockStore>(&mut self, store: &mut B, least: Id) -> Result<u64, Memory>
+        requires { IsStream (B.blocks store.old) self.old }
+        ensures count { IfOk result (λ n. n ≡ count_low least (entries (B.blocks store.old) self.old)) }
+        ensures trimmed { OnOk result (IsChanged (B.blocks store.old) (B.blocks store.new) self.old self.new (from_id (stream_of (B.blocks store.old) self.old) least)) }
+        ensures served { Served B.step store.old store.new }
+        ensures err_some { OnErr result ((n : ℕ) × (n ≤ count_low least (entries (B.blocks store.old) self.old)) × IsChanged (B.blocks store.old) (B.blocks store.new) self.old self.new (dropping (stream_of (B.blocks store.old) self.old) n)) }
+    {
+        let len = self.len;
+        'nodes: loop {
+            let low = self.first_below(store, least);
+            if low == 0 {
+                return Ok(len - self.len);
+            }
+            self.drop_front(store, low)?;
+        }
     }
 }

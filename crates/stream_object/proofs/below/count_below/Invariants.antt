@@ -1,0 +1,11 @@
+use Rattle.std.proofs.Common.{◌≡◌, ◌++◌, length, map}
+use Rattle.stream_node.specs.View.{stored}
+use Rattle.stream_node.specs.Views.{left_of}
+use Rattle.stream_object.proofs.Rises.{low_of}
+use Rattle.stream_object.proofs.below.count_below.Given as goal
+
+abbrev pub invariant-loop-entry : goal.invariant-loop-entry
+invariant-loop-entry l = record {
+  joined : map stored l.yielded ++ left_of l.entry-iterator ≡ left_of l.initial.entry-iterator;
+  count : l.count ≡ length (low_of l.least l.yielded);
+}
