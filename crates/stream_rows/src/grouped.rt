@@ -73,15 +73,16 @@ fn entry_shown(alloc: Global, entry: Option<WaitingEntry>) -> Result<String, Mem
     }
 }
 
-// Adds a consumer to a group, and sets an entry for it: whether the consumer was added, and whether the group is there.
+// Adds a consumer to a group, and sets an entry for it with this moment and count: whether the consumer was added, and whether the
+// group is there.
 fn set(
     groups: &mut Groups,
     name: &[u8],
     consumer: &[u8],
     id: Id,
-    moment: u64,
-    count: u64,
+    handed: (u64, u64),
 ) -> Result<(Option<bool>, bool), Memory> {
+    let (moment, count) = handed;
     let added = groups.add_consumer(name, consumer)?;
     let there = groups.set_pending(name, consumer, id, moment, count)?;
     Ok((added, there.is_some()))
@@ -140,15 +141,8 @@ fn with_words(
         ["ack", ms, seq] => told(alloc, groups.ack(name, id(ms, seq))),
         ["again", ms, seq, moment] => told(alloc, groups.again(name, id(ms, seq), number(moment))),
         ["set", consumer, ms, seq, moment, count] => {
-            let consumer = consumer.as_bytes();
-            let outcome = set(
-                groups,
-                name,
-                consumer,
-                id(ms, seq),
-                number(moment),
-                number(count),
-            )?;
+            let handed = (number(moment), number(count));
+            let outcome = set(groups, name, consumer.as_bytes(), id(ms, seq), handed)?;
             format!(in alloc; "{outcome:?}")
         }
         _ => unknown(alloc),
