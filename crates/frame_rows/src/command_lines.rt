@@ -25,7 +25,7 @@ pub fn list_line(alloc: Global, name: &str, list: &WordList<'_>) -> Result<Vec<u
     Ok(bytes)
 }
 
-fn pairs_line(alloc: Global, name: &str, list: &PairList<'_>) -> Result<Vec<u8>, AllocError> {
+pub fn pairs_line(alloc: Global, name: &str, list: &PairList<'_>) -> Result<Vec<u8>, AllocError> {
     let mut bytes = Vec::from_slice(alloc, name.as_bytes())?;
     for (first, second) in list.as_slice() {
         bytes.push(b' ')?;

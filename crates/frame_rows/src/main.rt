@@ -9,6 +9,7 @@ mod due;
 mod frame_lines;
 mod frames;
 mod list_lines;
+mod member_lines;
 mod served;
 mod serving_lines;
 

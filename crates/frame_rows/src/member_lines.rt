@@ -1,0 +1,92 @@
+//! Commands on sets and on hashes as lines of text.
+
+use crate::command_lines::{line, list_line, pairs_line};
+use plain_model::{HashCommand, PairList, SetCommand, Word, WordList};
+use std::alloc::{AllocError, Global};
+
+// The key of a command, and the words behind it.
+fn keyed_line(
+    alloc: Global,
+    name: &str,
+    key: &Word<'_>,
+    own: &WordList<'_>,
+) -> Result<Vec<u8>, AllocError> {
+    let mut bytes = line(alloc, name, &[key.as_slice()])?;
+    bytes.extend_from_slice(list_line(alloc, "", own)?.as_slice())?;
+    Ok(bytes)
+}
+
+// The key of a command, and the pairs behind it.
+fn fields_line(
+    alloc: Global,
+    name: &str,
+    key: &Word<'_>,
+    own: &PairList<'_>,
+) -> Result<Vec<u8>, AllocError> {
+    let mut bytes = line(alloc, name, &[key.as_slice()])?;
+    bytes.extend_from_slice(pairs_line(alloc, "", own)?.as_slice())?;
+    Ok(bytes)
+}
+
+/// The command's name, and what it keeps.
+pub fn set_words_line(alloc: Global, command: &SetCommand<'_>) -> Result<Vec<u8>, AllocError> {
+    match command {
+        SetCommand::SAdd(key, own) => keyed_line(alloc, "SAdd", key, own),
+        SetCommand::SRem(key, own) => keyed_line(alloc, "SRem", key, own),
+        SetCommand::SMIsMember(key, own) => keyed_line(alloc, "SMIsMember", key, own),
+        SetCommand::SIsMember(key, member) => {
+            line(alloc, "SIsMember", &[key.as_slice(), member.as_slice()])
+        }
+        SetCommand::SCard(key) => line(alloc, "SCard", &[key.as_slice()]),
+        SetCommand::SMove(from, to, member) => {
+            line(
+                alloc,
+                "SMove",
+                &[from.as_slice(), to.as_slice(), member.as_slice()],
+            )
+        }
+    }
+}
+
+// Commands of a key and one field.
+fn field_line(alloc: Global, command: &HashCommand<'_>) -> Result<Vec<u8>, AllocError> {
+    match command {
+        HashCommand::HGet(key, field) => {
+            line(alloc, "HGet", &[key.as_slice(), field.as_slice()])
+        }
+        HashCommand::HExists(key, field) => {
+            line(alloc, "HExists", &[key.as_slice(), field.as_slice()])
+        }
+        HashCommand::HStrLen(key, field) => {
+            line(alloc, "HStrLen", &[key.as_slice(), field.as_slice()])
+        }
+        _ => line(alloc, "another", &[]),
+    }
+}
+
+/// The command's name, and what it keeps.
+pub fn hash_words_line(alloc: Global, command: &HashCommand<'_>) -> Result<Vec<u8>, AllocError> {
+    match command {
+        HashCommand::HSet(key, own) => fields_line(alloc, "HSet", key, own),
+        HashCommand::HMSet(key, own) => fields_line(alloc, "HMSet", key, own),
+        HashCommand::HMGet(key, own) => keyed_line(alloc, "HMGet", key, own),
+        HashCommand::HDel(key, own) => keyed_line(alloc, "HDel", key, own),
+        HashCommand::HLen(key) => line(alloc, "HLen", &[key.as_slice()]),
+        HashCommand::HSetNx(key, field, value) => {
+            line(
+                alloc,
+                "HSetNx",
+                &[key.as_slice(), field.as_slice(), value.as_slice()],
+            )
+        }
+        HashCommand::HIncrBy(key, field, n) => {
+            let n = format!(in alloc; "{n}")?;
+            line(
+                alloc,
+                "HIncrBy",
+                &[key.as_slice(), field.as_slice(), n.as_bytes()],
+            )
+        }
+        _ => field_line(alloc, command),
+    }
+}
