@@ -1,10 +1,12 @@
-// The floor of what a server of strings costs: it reads requests in RESP2 from its input in pieces of 64 KiB, keeps an
-// std::unordered_map of std::string, and writes the replies. No deadline ends, no table grows in steps, and nothing is checked that a
+// The floor of what a server of strings and lists costs: it reads requests in RESP2 from its input in pieces of 64 KiB, keeps an
+// std::unordered_map of std::string and one of std::deque, and writes the replies. No deadline ends, no table grows in steps, and nothing is checked that a
 // workload doesn't do wrong.
+#include <algorithm>
 #include <cstdio>
 #include <cstdlib>
 #include <cstring>
 #include <ctime>
+#include <deque>
 #include <string>
 #include <string_view>
 #include <unistd.h>
@@ -15,6 +17,7 @@ using Words = std::vector<std::string_view>;
 
 static std::unordered_map<std::string, std::string> values;
 static std::unordered_map<std::string, long long> deadlines;
+static std::unordered_map<std::string, std::deque<std::string>> lists;
 static std::string input, replies;
 
 static void put_all() {
@@ -49,6 +52,45 @@ static void expire(std::string_view key, std::string_view seconds) {
   deadlines[std::string(key)] = time(nullptr) + atoll(std::string(seconds).c_str());
 }
 
+static void push(const Words &words, bool head) {
+  std::deque<std::string> &list = lists[std::string(words[1])];
+  for (size_t i = 2; i < words.size(); i++) {
+    if (head) list.emplace_front(words[i]);
+    else list.emplace_back(words[i]);
+  }
+  number(list.size());
+}
+
+static void pop(std::deque<std::string> &list) {
+  bulk(list.back());
+  list.pop_back();
+}
+
+// the elements between two places that count from the head
+static void range(const std::deque<std::string> &list, size_t first, size_t last) {
+  size_t behind = std::min(last + 1, list.size());
+  replies += '*' + std::to_string(behind - first) + "\r\n";
+  for (size_t i = first; i < behind; i++) bulk(list[i]);
+}
+
+static void position(const std::deque<std::string> &list, std::string_view element) {
+  auto found = std::find(list.begin(), list.end(), element);
+  if (found == list.end()) replies += "$-1\r\n";
+  else number(found - list.begin());
+}
+
+static size_t place(std::string_view word) { return atoll(std::string(word).c_str()); }
+
+// A workload asks for no key and no place that isn't there.
+static void execute_of_list(const Words &words) {
+  std::string_view name = words[0];
+  std::deque<std::string> &list = lists[std::string(words[1])];
+  if (name == "RPOP") pop(list);
+  else if (name == "LRANGE") range(list, place(words[2]), place(words[3]));
+  else if (name == "LINDEX") bulk(list[place(words[2])]);
+  else position(list, words[2]);
+}
+
 static void execute(const Words &words) {
   std::string_view name = words[0];
   if (name == "GET") {
@@ -69,6 +111,10 @@ static void execute(const Words &words) {
     bool there = values.count(std::string(words[1]));
     if (there) expire(words[1], words[2]);
     number(there);
+  } else if (name == "LPUSH" || name == "RPUSH") {
+    push(words, name == "LPUSH");
+  } else if (name == "RPOP" || name == "LRANGE" || name == "LINDEX" || name == "LPOS") {
+    execute_of_list(words);
   } else if (name == "APPEND") {
     std::string &value = values[std::string(words[1])];
     value += words[2];

@@ -3,9 +3,14 @@
 and prints how many are measured.
 
 usage: workloads.py set|get|incr|setex|expire|mset|mget|append|del|mix KEYS REQUESTS BYTES PREPARED MEASURED
+       workloads.py lpush|pushpop|lrange|lindex|lpos KEYS REQUESTS BYTES PREPARED MEASURED ELEMENTS
 
 A key has 16 bytes, and a value as many as BYTES says; for INCR a value is a number. MSET and MGET name 10 keys. The mix is of 80
 percent GET, 15 SET and 5 EXPIRE, with few keys that are named often. All keys are there before, but for those that DEL named.
+
+Each key of the others is a list of so many elements, each of as many bytes. LPUSH makes them longer; a push and a pop of the same
+element are two requests, and the list stays as long. LRANGE tells 100 elements from any place on. LINDEX asks for the element in the
+middle, and LPOS where that one stands, which is the only one of its kind.
 """
 import random
 import sys
@@ -19,6 +24,10 @@ GROUP = 10
 SECONDS = b"100000"
 # how uneven the choice of keys of the mix is: the number of a key is that of a power of a fair choice
 SKEW = 4
+# the workloads over lists, how many elements a request prepares, and how many LRANGE tells
+LISTS = ("lpush", "pushpop", "lrange", "lindex", "lpos")
+PUSHED = 100
+TOLD = 100
 
 
 def name(number):
@@ -33,6 +42,33 @@ def prepared(kind, keys, length):
     """A SET of each key."""
     for i in range(keys):
         yield request(b"SET", name(i), b"%d" % i if kind == "incr" else value(i, length))
+
+
+def element(i, elements, length):
+    """An element of a list: that in the middle equals no other."""
+    return b"m" * length if i == elements // 2 else value(i, length)
+
+
+def prepared_lists(keys, elements, length):
+    """RPUSH of all elements of each list."""
+    for i in range(keys):
+        for first in range(0, elements, PUSHED):
+            behind = min(first + PUSHED, elements)
+            yield request(b"RPUSH", name(i), *[element(j, elements, length) for j in range(first, behind)])
+
+
+def of_list(kind, i, key, dice, elements, length):
+    """The requests of a workload over lists."""
+    if kind == "lpush":
+        return [request(b"LPUSH", key, value(i, length))]
+    if kind == "pushpop":
+        return [request(b"RPUSH", key, value(i, length)), request(b"RPOP", key)]
+    if kind == "lrange":
+        first = dice.randrange(max(elements - TOLD, 0) + 1)
+        return [request(b"LRANGE", key, b"%d" % first, b"%d" % (first + TOLD - 1))]
+    if kind == "lindex":
+        return [request(b"LINDEX", key, b"%d" % (elements // 2))]
+    return [request(b"LPOS", key, b"m" * length)]
 
 
 def mixed(i, key, dice, length):
@@ -82,6 +118,12 @@ def measured(kind, keys, count, length):
         yield one(kind, i, name(number), dice, keys, length)
 
 
+def measured_lists(kind, keys, count, elements, length):
+    dice = random.Random(1)
+    for i in range(count):
+        yield from of_list(kind, i, name(dice.randrange(keys)), dice, elements, length)
+
+
 def write(path, requests):
     """Writes requests to a file, many at once, and says how many there were."""
     count = 0
@@ -98,8 +140,13 @@ def write(path, requests):
 
 
 def main():
-    kind, keys, count, length, first, second = sys.argv[1:]
+    kind, keys, count, length, first, second, *rest = sys.argv[1:]
     keys, count, length = int(keys), int(count), int(length)
+    if kind in LISTS:
+        elements = int(rest[0])
+        write(first, prepared_lists(keys, elements, length))
+        print(write(second, measured_lists(kind, keys, count, elements, length)))
+        return
     write(first, prepared(kind, keys, length))
     print(write(second, measured(kind, keys, count, length)))
 

@@ -1,20 +1,25 @@
 #!/usr/bin/env bash
 # Requests a second of one workload after the other: the built program and a floor (a C++ program that parses, keeps an unordered_map
-# and answers) over pipes, and a redis-server or valkey-server over a unix socket, all on the same bytes by the same client, which
-# sends ahead. The best of five turns counts; each turn begins without a key. The replies of all three must be the same. Then the
-# resident memory with all keys, for values of 3, 32 and 100 bytes.
-# usage: bench/workloads.sh [keys] [requests of each workload] [turns] [workloads, such as "set:32 get:32 mix:32"]
+# and answers) over pipes, and a redis-server or valkey-server over a unix socket, where one is installed, all on the same bytes by the
+# same client, which sends ahead. The best of five turns counts; each turn begins without a key. The replies of all must be the same.
+# Then the resident memory with all keys, for values of 3, 32 and 100 bytes.
+# A workload over lists has a third number, the elements of each list: there are as many lists as hold together one element for each
+# request, and fewer requests where each looks at many elements.
+# usage: bench/workloads.sh [keys] [requests of each workload] [turns] [workloads, such as "set:32 get:32 mix:32 lpos:32:1000", or "lists"]
 set -euo pipefail
 cd "$(dirname "$0")/.."
 . bench/beside.sh
-[ -n "$server" ] || { echo "no redis-server or valkey-server is installed: nothing to compare with"; exit 2; }
 keys=${1:-1000}
 count=${2:-1000000}
 turns=${3:-5}
 kinds=${4:-set:3 set:32 set:100 set:1024 get:3 get:32 get:100 get:1024 incr:8 setex:32 expire:32 mset:32 mget:32 append:32 del:32 mix:32}
+[ "$kinds" != lists ] ||
+  kinds=$(for what in lpush pushpop lrange lindex lpos; do for elements in 10 1000 100000; do for length in 3 32 1000; do
+    echo "$what:$length:$elements"
+  done; done; done)
 gcc -O2 -o "$room/client" bench/client.c
 g++ -O2 -std=c++17 -o "$room/floor" bench/floor.cpp
-start_server
+[ -z "$server" ] || start_server
 
 # the best turn of one of the three: seconds, digest of the replies, resident KiB, seconds of processor time
 best_of() {
@@ -28,16 +33,29 @@ best_of() {
 }
 
 for kind in $kinds; do
-  what=${kind%:*}
-  length=${kind#*:}
+  IFS=: read -r what length elements <<< "$kind"
   of_kind=$count
   case $what in mset | mget) of_kind=$((count / 5)) ;; esac
   [ "$length" -le 100 ] || of_kind=$((count / 5))
-  many=$(python3 bench/workloads.py "$what" "$keys" "$of_kind" "$length" "$room/prepared" "$room/measured")
+  of_keys=$keys
+  [ -z "$elements" ] || of_keys=$(((of_kind + elements - 1) / elements))
+  case $what in
+    lrange) of_kind=$(((of_kind + 99) / 100)) ;;
+    lindex) of_kind=$((of_kind / (1 + elements / 1000))) ;;
+    lpos) of_kind=$((of_kind / (1 + elements / 200))) ;;
+  esac
+  many=$(python3 bench/workloads.py "$what" "$of_keys" "$of_kind" "$length" "$room/prepared" "$room/measured" $elements)
   ours=$(best_of program "$program")
-  theirs=$(best_of socket "$room/socket" "$server_pid")
   floor=$(best_of program "$room/floor")
-  echo "$many $ours $theirs $floor" | awk -v what="${what^^}" -v length_of="$length" -v keys="$keys" -v name="$(basename "$server")" '
-    { printf "%s, values of %s bytes, %d keys: redis-core %.0f, %s %.0f, floor %.0f requests a second; %.2f times the server, %.2f of the floor; resident %d, %d, %d KiB%s\n",
-        what, length_of, keys, $1 / $2, name, $1 / $6, $1 / $10, $6 / $2, $10 / $2, $4, $8, $12, ($3 == $7 && $3 == $11) ? "" : "; THE REPLIES DIFFER" }'
+  theirs=
+  [ -z "$server" ] || theirs=$(best_of socket "$room/socket" "$server_pid")
+  echo "$many $ours $floor $theirs" | awk -v what="${what^^}" -v length_of="$length" -v keys="$of_keys" -v elements="$elements" -v name="$(basename "$server")" '
+    { printf "%s, %s of %s bytes, %d %s: redis-core %.0f, floor %.0f requests a second, %.2f of the floor",
+        what, elements ? "elements" : "values", length_of, keys, elements ? "lists of " elements : "keys", $1 / $2, $1 / $6, $6 / $2
+      same = $3 == $7
+      if (NF > 9) {
+        printf "; %s %.0f, %.2f times the server", name, $1 / $10, $10 / $2
+        same = same && $3 == $11
+      }
+      printf "; resident redis-core %d, floor %d%s KiB%s\n", $4, $8, (NF > 9) ? ", " name " " $12 : "", same ? "" : "; THE REPLIES DIFFER" }'
 done
