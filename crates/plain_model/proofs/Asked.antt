@@ -1,21 +1,18 @@
 -- What the words of a request tell of a command.
 use Rattle.std.proofs.Common.{◌≡◌, ℕ, ◌+◌, ◌<◌, ◌≤◌, ◌==◌, ◌%◌, ◌-◌, ◌^◌, List, [], ◌∷◌, ◌++◌, map, length, drop, Bool, true, false, Result, Ok, Err, Option, Some, None, refl, subst, arith}
-use Rattle.std.specs.Prelude.{◌&&◌, ◌||◌, bytes_eq, nat_le, nat_lt, int_lt, codes, ℤ, pos, negsuc, zero, suc, if◌then◌else◌}
+use Rattle.std.specs.Prelude.{◌&&◌, ◌||◌, bytes_eq, nat_le, nat_lt, int_lt, ℤ, pos, negsuc, zero, suc, if◌then◌else◌}
 use Rattle.std.specs.List.{AllByRecursion}
 use Rattle.std.specs.Str.Parse.{digits_value}
 use Rattle.std.proofs.lemmas.Bool.Decides.{Decides-eqb}
 use Rattle.std.proofs.lemmas.Bool.{leb-true, ltb-true}
 use Rattle.plain_world.specs.Words.{Words, longest, in_lower_case}
-use Rattle.plain_model.specs.Shapes.{Kind, Plain, Whole, Offset, Span, Database, Count, Steps, Cursor, Amount, Rank, OnSide, AtEnd, Told, told, AllTold, and_then, whole, span, database, count, steps, are_digits, cursor, all_told, Row, fixed, second_read, by_second, repeated, NamedOption, option_of, read_option, options_read, with_options}
+use Rattle.plain_model.specs.Shapes.{Kind, Plain, Whole, Offset, Span, Database, Count, Steps, Cursor, Amount, Rank, OnSide, AtEnd, Score, Bound, Told, told, AllTold, and_then, whole, span, database, count, steps, are_digits, cursor, all_told, Row, fixed, second_read, by_second, repeated, NamedOption, option_of, read_option, options_read, with_options, with_amount}
 use Rattle.plain_model.specs.StringWords.{set_options, no_set_options, getex_options, no_getex_options, pairs_of, string_rows, set_of, getex_of, set_range_of, decrease_of}
 use Rattle.plain_model.specs.KeyWords.{expire_options, no_expire_options, expire_of, clash, copy_options, no_copy_options, scan_options, no_scan_options, object_rows, key_rows}
-use Rattle.plain_model.specs.ListWords.{pop_words, push_words, position_options, no_position_options, list_rows}
+use Rattle.plain_model.specs.ListWords.{push_words, position_options, no_position_options, list_rows}
 use Rattle.plain_model.specs.SetWords.{set_rows}
 use Rattle.plain_model.specs.HashWords.{hash_rows}
-use Rattle.plain_model.specs.declared.set_command.SetCommand.{SetCommand}
-use Rattle.plain_model.specs.declared.set_command.SetCommand.TheVariants as sets
-use Rattle.plain_model.specs.declared.hash_command.HashCommand.{HashCommand}
-use Rattle.plain_model.specs.declared.hash_command.HashCommand.TheVariants as hashes
+use Rattle.plain_model.specs.ZsetWords.{zset_rows}
 use Rattle.plain_model.specs.declared.list_command.ListCommand.{ListCommand}
 use Rattle.plain_model.specs.declared.list_command.ListCommand.TheVariants as lists
 use Rattle.plain_model.specs.ConnectionWords.{ping_words, flush_options, memory_rows, debug_rows, connection_rows}
@@ -23,7 +20,7 @@ use Rattle.std.specs.Prelude.{neg_ℤ}
 use Rattle.int_text.specs.Decimal.{is_i64, number_of}
 use Rattle.plain_model.specs.Meant.{of_family, rows, read_by, meant}
 use Rattle.plain_model.specs.declared.command.Command.{Command}
-use Rattle.plain_model.specs.declared.command.Command.TheVariants.{Strings, Lists, Sets, Hashes, Keys, Connection}
+use Rattle.plain_model.specs.declared.command.Command.TheVariants.{Strings, Lists, Sets, Hashes, Zsets, Keys, Connection}
 use Rattle.plain_model.specs.declared.command.SetOptionsRead.{SetOptionsRead}
 use Rattle.plain_model.specs.declared.command.GetExOptionsRead.{GetExOptionsRead}
 use Rattle.plain_model.specs.declared.command.StringCommand.{StringCommand}
@@ -86,6 +83,8 @@ Keeps Amount n = Unit {0}
 Keeps Rank n = Unit {0}
 Keeps OnSide side = Unit {0}
 Keeps AtEnd end = Unit {0}
+Keeps Score n = Unit {0}
+Keeps Bound bound = Unit {0}
 
 -- what words of these kinds keep, each by its own kind
 abbrev pub AllKeep : (kinds : List Kind) → AllTold kinds → Type 0
@@ -136,6 +135,8 @@ told_keeps Amount word a e = tt
 told_keeps Rank word a e = tt
 told_keeps OnSide word a e = tt
 told_keeps AtEnd word a e = tt
+told_keeps Score word a e = tt
+told_keeps Bound word a e = tt
 
 -- what several words tell is in the range of each one's kind
 all_told_keep : (kinds : List Kind) (words : Words) (a : AllTold kinds) → all_told kinds words ≡ Ok a → AllKeep kinds a
@@ -263,23 +264,13 @@ FitsLists (lists.LPushX key elements) = 0 < length elements
 FitsLists (lists.RPushX key elements) = 0 < length elements
 FitsLists other = Unit {0}
 
--- what is added to a set has a member
-abbrev pub FitsSets : SetCommand → Type 0
-FitsSets (sets.SAdd key others) = 0 < length others
-FitsSets other = Unit {0}
-
--- what is set in a hash has a pair
-abbrev pub FitsHashes : HashCommand → Type 0
-FitsHashes (hashes.HSet key pairs) = 0 < length pairs
-FitsHashes (hashes.HMSet key pairs) = 0 < length pairs
-FitsHashes other = Unit {0}
-
 -- a command of any family has its numbers and pieces in range
 abbrev pub FitsCommand : Command → Type 0
 FitsCommand (Strings c) = Fits c
 FitsCommand (Lists c) = FitsLists c
-FitsCommand (Sets c) = FitsSets c
-FitsCommand (Hashes c) = FitsHashes c
+FitsCommand (Sets c) = Unit {0}
+FitsCommand (Hashes c) = Unit {0}
+FitsCommand (Zsets c) = Unit {0}
 FitsCommand (Keys c) = FitsKeys c
 FitsCommand (Connection c) = FitsConnection c
 
@@ -376,7 +367,7 @@ push_fits make h (key ∷ rest) c e =
     if_true FitsLists (least && whole) (Ok (make key rest)) WrongNumberOfArguments (λ t b f. made FitsLists (make key rest) b (h key rest (omega (arith, ltb-true 1 (length (key ∷ rest)) (first_holds least whole t)))) f) c e
 
 -- whatever LPOP and RPOP make of words has what is asked of them
-pop_fits : (make : List ℕ → Option ℕ → ListCommand) → ((key : List ℕ) (n : Option ℕ) → FitsLists (make key n)) → (words : Words) (c : ListCommand) → pop_words make words ≡ Ok c → FitsLists c
+pop_fits : (make : List ℕ → Option ℕ → ListCommand) → ((key : List ℕ) (n : Option ℕ) → FitsLists (make key n)) → (words : Words) (c : ListCommand) → with_amount make words ≡ Ok c → FitsLists c
 pop_fits make h [] c e = cc
 pop_fits make h (key ∷ []) c e = made FitsLists (make key None) c (h key None) e
 pop_fits make h (key ∷ n ∷ []) c e = then_told FitsLists (told Amount n) (λ a. Ok (make key (Some a))) (λ a is b f. made FitsLists (make key (Some a)) b (h key (Some a)) f) c e
@@ -386,49 +377,26 @@ pop_fits make h (key ∷ n ∷ more ∷ words) c e = cc
 list_rows_fit : AllByRecursion (RowFits FitsLists) list_rows
 list_rows_fit = (push_fits lists.LPush (λ key elements some. some), (push_fits lists.RPush (λ key elements some. some), (push_fits lists.LPushX (λ key elements some. some), (push_fits lists.RPushX (λ key elements some. some), (pop_fits lists.LPop (λ key n. tt), (pop_fits lists.RPop (λ key n. tt), (fixed_fits FitsLists (Plain ∷ []) (λ a. Ok (lists.LLen a.0)) (λ a keeps c. made FitsLists (lists.LLen a.0) c tt), (fixed_fits FitsLists (Plain ∷ Whole ∷ []) (λ a. Ok (lists.LIndex a.0 a.1.0)) (λ a keeps c. made FitsLists (lists.LIndex a.0 a.1.0) c tt), (fixed_fits FitsLists (Plain ∷ Whole ∷ Plain ∷ []) (λ a. Ok (lists.LSet a.0 a.1.0 a.1.1.0)) (λ a keeps c. made FitsLists (lists.LSet a.0 a.1.0 a.1.1.0) c tt), (fixed_fits FitsLists (Plain ∷ Whole ∷ Whole ∷ []) (λ a. Ok (lists.LRange a.0 a.1.0 a.1.1.0)) (λ a keeps c. made FitsLists (lists.LRange a.0 a.1.0 a.1.1.0) c tt), (fixed_fits FitsLists (Plain ∷ Whole ∷ Whole ∷ []) (λ a. Ok (lists.LTrim a.0 a.1.0 a.1.1.0)) (λ a keeps c. made FitsLists (lists.LTrim a.0 a.1.0 a.1.1.0) c tt), (fixed_fits FitsLists (Plain ∷ OnSide ∷ Plain ∷ Plain ∷ []) (λ a. Ok (lists.LInsert a.0 a.1.0 a.1.1.0 a.1.1.1.0)) (λ a keeps c. made FitsLists (lists.LInsert a.0 a.1.0 a.1.1.0 a.1.1.1.0) c tt), (fixed_fits FitsLists (Plain ∷ Whole ∷ Plain ∷ []) (λ a. Ok (lists.LRem a.0 a.1.0 a.1.1.0)) (λ a keeps c. made FitsLists (lists.LRem a.0 a.1.0 a.1.1.0) c tt), (with_options_fits FitsLists (Plain ∷ Plain ∷ []) position_options no_position_options (λ a o. Ok (lists.LPos a.0 a.1.0 o)) (λ o. Unit {0}) ((λ own o keeps q. tt, (λ own o keeps q. tt, (λ own o keeps q. tt, tt))), tt) (λ a keeps o q c. made FitsLists (lists.LPos a.0 a.1.0 o) c tt), (fixed_fits FitsLists (Plain ∷ Plain ∷ AtEnd ∷ AtEnd ∷ []) (λ a. Ok (lists.LMove a.0 a.1.0 a.1.1.0 a.1.1.1.0)) (λ a keeps c. made FitsLists (lists.LMove a.0 a.1.0 a.1.1.0 a.1.1.1.0) c tt), (fixed_fits FitsLists (Plain ∷ Plain ∷ []) (λ a. Ok (lists.RPopLPush a.0 a.1.0)) (λ a keeps c. made FitsLists (lists.RPopLPush a.0 a.1.0) c tt), tt))))))))))))))))
 
--- two words or more make a pair
-some_pair : (words : Words) → 0 < length words → length words % 2 ≡ 0 → 0 < length (pairs_of words)
-some_pair [] some even = absurd (omega arith)
-some_pair (key ∷ []) some even = absurd (omega (arith, even))
-some_pair (key ∷ value ∷ words) some even = omega arith
-
--- a command that sets pairs has one
-pairs_fit : (make : List ℕ → List (List ℕ × List ℕ) → HashCommand) → ((key : List ℕ) (pairs : List (List ℕ × List ℕ)) → 0 < length pairs → FitsHashes (make key pairs)) → (words : Words) (c : HashCommand) → repeated (Plain ∷ []) 2 (λ a own. Ok (make a.0 (pairs_of own))) words ≡ Ok c → FitsHashes c
-pairs_fit make h [] c e = cc
-pairs_fit make h (key ∷ rest) c e =
-    let least = nat_lt 1 (length (key ∷ rest)) in
-    let whole = (length (key ∷ rest) - 1) % 2 == 0 in
-    if_true FitsHashes (least && whole) (Ok (make key (pairs_of rest))) WrongNumberOfArguments
-    (λ t b f. made FitsHashes (make key (pairs_of rest)) b (h key (pairs_of rest) (some_pair rest (omega (arith, ltb-true 1 (length (key ∷ rest)) (first_holds least whole t))) (omega (arith, (Decides-eqb ((length (key ∷ rest) - 1) % 2) 0).0 (both least whole t))))) f) c e
-
--- a command that adds members has one
-members_fit : (make : List ℕ → Words → SetCommand) → ((key : List ℕ) (others : Words) → 0 < length others → FitsSets (make key others)) → (words : Words) (c : SetCommand) → repeated (Plain ∷ []) 1 (λ a own. Ok (make a.0 own)) words ≡ Ok c → FitsSets c
-members_fit make h [] c e = cc
-members_fit make h (key ∷ rest) c e =
-    let least = nat_lt 1 (length (key ∷ rest)) in
-    let whole = (length (key ∷ rest) - 1) % 1 == 0 in
-    if_true FitsSets (least && whole) (Ok (make key rest)) WrongNumberOfArguments (λ t b f. made FitsSets (make key rest) b (h key rest (omega (arith, ltb-true 1 (length (key ∷ rest)) (first_holds least whole t)))) f) c e
-
--- the rows of commands on sets and on hashes make only commands that write a member or a pair at least, if they write
-set_rows_fit : AllByRecursion (RowFits FitsSets) set_rows
-set_rows_fit = (members_fit sets.SAdd (λ key others some. some), (repeated_fits FitsSets (Plain ∷ []) 1 (λ a own. Ok (sets.SRem a.0 own)) (λ a own c. made FitsSets (sets.SRem a.0 own) c tt), (fixed_fits FitsSets (Plain ∷ Plain ∷ []) (λ a. Ok (sets.SIsMember a.0 a.1.0)) (λ a keeps c. made FitsSets (sets.SIsMember a.0 a.1.0) c tt), (repeated_fits FitsSets (Plain ∷ []) 1 (λ a own. Ok (sets.SMIsMember a.0 own)) (λ a own c. made FitsSets (sets.SMIsMember a.0 own) c tt), (fixed_fits FitsSets (Plain ∷ []) (λ a. Ok (sets.SCard a.0)) (λ a keeps c. made FitsSets (sets.SCard a.0) c tt), (fixed_fits FitsSets (Plain ∷ Plain ∷ Plain ∷ []) (λ a. Ok (sets.SMove a.0 a.1.0 a.1.1.0)) (λ a keeps c. made FitsSets (sets.SMove a.0 a.1.0 a.1.1.0) c tt), tt))))))
-
-hash_rows_fit : AllByRecursion (RowFits FitsHashes) hash_rows
-hash_rows_fit = (pairs_fit hashes.HSet (λ key pairs some. some), (pairs_fit hashes.HMSet (λ key pairs some. some), (fixed_fits FitsHashes (Plain ∷ Plain ∷ Plain ∷ []) (λ a. Ok (hashes.HSetNx a.0 a.1.0 a.1.1.0)) (λ a keeps c. made FitsHashes (hashes.HSetNx a.0 a.1.0 a.1.1.0) c tt), (fixed_fits FitsHashes (Plain ∷ Plain ∷ []) (λ a. Ok (hashes.HGet a.0 a.1.0)) (λ a keeps c. made FitsHashes (hashes.HGet a.0 a.1.0) c tt), (repeated_fits FitsHashes (Plain ∷ []) 1 (λ a own. Ok (hashes.HMGet a.0 own)) (λ a own c. made FitsHashes (hashes.HMGet a.0 own) c tt), (repeated_fits FitsHashes (Plain ∷ []) 1 (λ a own. Ok (hashes.HDel a.0 own)) (λ a own c. made FitsHashes (hashes.HDel a.0 own) c tt), (fixed_fits FitsHashes (Plain ∷ Plain ∷ []) (λ a. Ok (hashes.HExists a.0 a.1.0)) (λ a keeps c. made FitsHashes (hashes.HExists a.0 a.1.0) c tt), (fixed_fits FitsHashes (Plain ∷ []) (λ a. Ok (hashes.HLen a.0)) (λ a keeps c. made FitsHashes (hashes.HLen a.0) c tt), (fixed_fits FitsHashes (Plain ∷ Plain ∷ []) (λ a. Ok (hashes.HStrLen a.0 a.1.0)) (λ a keeps c. made FitsHashes (hashes.HStrLen a.0 a.1.0) c tt), (fixed_fits FitsHashes (Plain ∷ Plain ∷ Whole ∷ []) (λ a. Ok (hashes.HIncrBy a.0 a.1.0 a.1.1.0)) (λ a keeps c. made FitsHashes (hashes.HIncrBy a.0 a.1.0 a.1.1.0) c tt), tt))))))))))
+-- of commands of which nothing is asked
+all_fit : {A : Type 0} (own : List (Row A)) → AllByRecursion (RowFits (λ a. Unit {0})) own
+all_fit [] = tt
+all_fit (row ∷ own) = (λ words c e. tt, all_fit own)
 
 -- the rows of all commands make only commands whose numbers and pieces are in range
 rows_fit : AllByRecursion (RowFits FitsCommand) rows
 rows_fit =
     let last = map (of_family Connection) connection_rows in
     let behind = map (of_family Keys) key_rows ++ last in
-    let hashes = map (of_family Hashes) hash_rows ++ behind in
+    let zsets = map (of_family Zsets) zset_rows ++ behind in
+    let hashes = map (of_family Hashes) hash_rows ++ zsets in
     let sets = map (of_family Sets) set_rows ++ hashes in
     family_fits Strings Fits (λ a h. h) string_rows string_rows_fit (map (of_family Lists) list_rows ++ sets)
     (family_fits Lists FitsLists (λ a h. h) list_rows list_rows_fit sets
-    (family_fits Sets FitsSets (λ a h. h) set_rows set_rows_fit hashes
-    (family_fits Hashes FitsHashes (λ a h. h) hash_rows hash_rows_fit behind
+    (family_fits Sets (λ a. Unit {0}) (λ a h. h) set_rows (all_fit set_rows) hashes
+    (family_fits Hashes (λ a. Unit {0}) (λ a h. h) hash_rows (all_fit hash_rows) zsets
+    (family_fits Zsets (λ a. Unit {0}) (λ a h. h) zset_rows (all_fit zset_rows) behind
     (family_fits Keys FitsKeys (λ a h. h) key_rows key_rows_fit last
-    (family_alone Connection FitsConnection (λ a h. h) connection_rows connection_rows_fit)))))
+    (family_alone Connection FitsConnection (λ a h. h) connection_rows connection_rows_fit))))))
 
 -- what the row of a name makes of words is in range, if all rows make only commands that are
 found_fits : (all : List (Row Command)) → AllByRecursion (RowFits FitsCommand) all → (name : List ℕ) (words : Words) (c : Command) → read_by all name words ≡ Ok c → FitsCommand c
@@ -447,11 +415,3 @@ meant_fits words c e = command_fits words (Strings c) e
 -- a command on lists that words mean pushes an element at least, if it pushes
 pub lists_fit : (words : Words) (c : ListCommand) → meant words ≡ Ok (Lists c) → FitsLists c
 lists_fit words c e = command_fits words (Lists c) e
-
--- a command on sets that words mean adds a member at least, if it adds
-pub sets_fit : (words : Words) (c : SetCommand) → meant words ≡ Ok (Sets c) → FitsSets c
-sets_fit words c e = command_fits words (Sets c) e
-
--- a command on hashes that words mean sets a pair at least, if it sets
-pub hashes_fit : (words : Words) (c : HashCommand) → meant words ≡ Ok (Hashes c) → FitsHashes c
-hashes_fit words c e = command_fits words (Hashes c) e

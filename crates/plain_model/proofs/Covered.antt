@@ -21,7 +21,7 @@ use Rattle.plain_model.specs.Scans.{Sought, Passes, is_in, place_of, Page, keys_
 use Rattle.plain_model.specs.Coverage.{ScanCall, scan_asked, Reports, Chain, between, more, last, IsReported}
 use Rattle.plain_model.specs.Laws.{RunsAreCovered}
 use Rattle.plain_model.specs.declared.command.Command.{Command}
-use Rattle.plain_model.specs.declared.command.Command.TheVariants.{Strings, Lists, Sets, Hashes, Keys, Connection}
+use Rattle.plain_model.specs.declared.command.Command.TheVariants.{Strings, Lists, Sets, Hashes, Zsets, Keys, Connection}
 use Rattle.plain_model.specs.declared.keys.KeyCommand.{KeyCommand}
 use Rattle.plain_model.specs.declared.keys.KeyCommand.TheVariants as keys
 
@@ -76,6 +76,7 @@ meant_page seed old moment (Ok (Strings c)) reply new sought cursor next xs l as
 meant_page seed old moment (Ok (Lists c)) reply new sought cursor next xs l asked fits told = absurd (cc asked)
 meant_page seed old moment (Ok (Sets c)) reply new sought cursor next xs l asked fits told = absurd (cc asked)
 meant_page seed old moment (Ok (Hashes c)) reply new sought cursor next xs l asked fits told = absurd (cc asked)
+meant_page seed old moment (Ok (Zsets c)) reply new sought cursor next xs l asked fits told = absurd (cc asked)
 meant_page seed old moment (Ok (Keys c)) reply new sought cursor next xs l asked fits told = key_page seed (live old moment) moment c reply new sought cursor next xs l asked fits told
 meant_page seed old moment (Ok (Connection c)) reply new sought cursor next xs l asked fits told = absurd (cc asked)
 meant_page seed old moment (Err refusal) reply new sought cursor next xs l asked fits told = absurd (cc asked)

@@ -1,11 +1,18 @@
 -- The bytes of a run's replies fix the run.
-use Rattle.std.proofs.Common.{◌≡◌, ℕ, List, [], ◌∷◌, Result, Ok, Err, refl, sym, ap, subst, ◌∙◌}
+use Rattle.std.proofs.Common.{◌≡◌, ℕ, List, [], ◌∷◌, Option, Some, None, Result, Ok, Err, refl, sym, ap, subst, ◌∙◌}
 use Rattle.std.specs.Prelude.{MatchResult}
 use Rattle.std.specs.List.{AllByRecursion}
 use Rattle.plain_world.specs.Words.{Words}
-use Rattle.plain_world.specs.Worlds.{World, live}
+use Rattle.plain_world.specs.Worlds.{World, Value, Entry, look, live}
 use Rattle.plain_model.specs.Meant.{meant}
 use Rattle.plain_model.specs.Steps.{may, step}
+use Rattle.plain_model.specs.OfType.{may_tell, may_tell_of}
+use Rattle.plain_model.specs.SetSteps.{may_sets}
+use Rattle.plain_model.specs.HashSteps.{may_hashes}
+use Rattle.plain_model.specs.declared.set_command.SetCommand.{SetCommand}
+use Rattle.plain_model.specs.declared.set_command.SetCommand.TheVariants as sets
+use Rattle.plain_model.specs.declared.hash_command.HashCommand.{HashCommand}
+use Rattle.plain_model.specs.declared.hash_command.HashCommand.TheVariants as hashes
 use Rattle.plain_model.specs.KeySteps.{may_keys}
 use Rattle.plain_model.specs.ConnectionSteps.{may_connection}
 use Rattle.plain_model.specs.declared.connection.ConnectionCommand.{ConnectionCommand}
@@ -16,13 +23,32 @@ use Rattle.plain_model.specs.Runs.{Call, Turn, calls_of, replies_of, run}
 use Rattle.plain_world.specs.Laws.{IsHeld}
 use Rattle.plain_world.specs.Spelling.{spelled}
 use Rattle.plain_model.specs.declared.command.Command.{Command}
-use Rattle.plain_model.specs.declared.command.Command.TheVariants.{Strings, Lists, Sets, Hashes, Keys, Connection}
+use Rattle.plain_model.specs.declared.command.Command.TheVariants.{Strings, Lists, Sets, Hashes, Zsets, Keys, Connection}
 use Rattle.plain_world.specs.declared.refusal.Refusal.{Refusal}
 use Rattle.plain_world.specs.declared.reply.Part.{Part}
 use Rattle.plain_world.specs.declared.reply.Part.TheVariants.{Refused}
 use Rattle.plain_world.proofs.Apart.{spellings_apart}
 
 -- the new world is fixed by the old one, the moment, the command and the reply
+
+-- what may be told of a value leaves the world
+told_of_fixed : {A : Type 0} (old : World) (own : Option A) (told : Option A → List Part → Type 0) (r : List Part) (new other : World) → may_tell_of old own told r new → may_tell_of old own told r other → new ≡ other
+told_of_fixed old None told r new other a b = a.1 ∙ sym b.1
+told_of_fixed old (Some own) told r new other a b = a.1 ∙ sym b.1
+
+told_fixed : {A : Type 0} (in_value : Value → Option A) (old : World) (entry : Option Entry) (told : Option A → List Part → Type 0) (r : List Part) (new other : World) → may_tell in_value old entry told r new → may_tell in_value old entry told r other → new ≡ other
+told_fixed in_value old None told r new other a b = a.1 ∙ sym b.1
+told_fixed in_value old (Some entry) told r new other a b = told_of_fixed old (in_value entry.value) told r new other a b
+
+sets_fixed : (old : World) (c : SetCommand) (r : List Part) (new other : World) → may_sets old c r new → may_sets old c r other → new ≡ other
+sets_fixed old (sets.SMembers key) r new other a b = told_fixed _ old (look old key) _ r new other a b
+sets_fixed old c r new other a b = a.1 ∙ sym b.1
+
+hashes_fixed : (old : World) (c : HashCommand) (r : List Part) (new other : World) → may_hashes old c r new → may_hashes old c r other → new ≡ other
+hashes_fixed old (hashes.HKeys key) r new other a b = told_fixed _ old (look old key) _ r new other a b
+hashes_fixed old (hashes.HVals key) r new other a b = told_fixed _ old (look old key) _ r new other a b
+hashes_fixed old (hashes.HGetAll key) r new other a b = told_fixed _ old (look old key) _ r new other a b
+hashes_fixed old c r new other a b = a.1 ∙ sym b.1
 
 keys_fixed : (seed : ℕ) (old : World) (moment : ℕ) (c : KeyCommand) (r : List Part) (new other : World) → may_keys seed old moment c r new → may_keys seed old moment c r other → new ≡ other
 keys_fixed seed old moment keys.RandomKey r new other a b = a.1 ∙ sym b.1
@@ -40,8 +66,9 @@ connection_fixed old moment c r new other a b = a.1 ∙ sym b.1
 may_fixed : (seed : ℕ) (old : World) (moment : ℕ) (c : Command) (r : List Part) (new other : World) → may seed old moment c r new → may seed old moment c r other → new ≡ other
 may_fixed seed old moment (Strings c) r new other a b = a.1 ∙ sym b.1
 may_fixed seed old moment (Lists c) r new other a b = a.1 ∙ sym b.1
-may_fixed seed old moment (Sets c) r new other a b = a.1 ∙ sym b.1
-may_fixed seed old moment (Hashes c) r new other a b = a.1 ∙ sym b.1
+may_fixed seed old moment (Sets c) r new other a b = sets_fixed old c r new other a b
+may_fixed seed old moment (Hashes c) r new other a b = hashes_fixed old c r new other a b
+may_fixed seed old moment (Zsets c) r new other a b = a.1 ∙ sym b.1
 may_fixed seed old moment (Keys c) r new other a b = keys_fixed seed old moment c r new other a b
 may_fixed seed old moment (Connection c) r new other a b = connection_fixed old moment c r new other a b
 

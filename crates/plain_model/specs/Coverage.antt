@@ -6,7 +6,7 @@ use Rattle.plain_model.specs.Meant.{meant}
 use Rattle.plain_model.specs.Runs.{Turn}
 use Rattle.plain_model.specs.Scans.{Sought, Passes, is_in, keys_sought, paged}
 use Rattle.plain_model.specs.declared.command.Command.{Command}
-use Rattle.plain_model.specs.declared.command.Command.TheVariants.{Strings, Lists, Sets, Hashes, Keys, Connection}
+use Rattle.plain_model.specs.declared.command.Command.TheVariants.{Strings, Lists, Sets, Hashes, Zsets, Keys, Connection}
 use Rattle.plain_model.specs.declared.keys.KeyCommand.{KeyCommand}
 use Rattle.plain_model.specs.declared.keys.KeyCommand.TheVariants.{Scan}
 
@@ -25,6 +25,7 @@ scan_asked number (Ok (Strings command)) = None
 scan_asked number (Ok (Lists command)) = None
 scan_asked number (Ok (Sets command)) = None
 scan_asked number (Ok (Hashes command)) = None
+scan_asked number (Ok (Zsets command)) = None
 scan_asked number (Ok (Keys command)) = key_scan number command
 scan_asked number (Ok (Connection command)) = None
 scan_asked number (Err refusal) = None

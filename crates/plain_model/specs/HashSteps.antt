@@ -1,5 +1,6 @@
 -- What commands on hashes answer, and what they leave (Redis command reference, "Commands operating on hashes").
-use Rattle.std.specs.Prelude.{ℕ, ◌-◌, ◌==◌, List, [], ◌∷◌, length, map, ℤ, pos, ◌+ℤ◌, Option, None, Some, Bool, true, false, is_some, codes, if◌then◌else◌}
+use Rattle.std.specs.Prelude.{◌≡◌, ℕ, ◌-◌, ◌*◌, ◌==◌, List, [], ◌∷◌, length, map, ℤ, pos, ◌+ℤ◌, Option, None, Some, Bool, true, false, is_some, codes, if◌then◌else◌}
+use Rattle.std.specs.List.{flat_map}
 use Rattle.std.specs.FinMap.{FinMap, empty, get, insert, len}
 use Rattle.std.specs.FinMap as finite
 use Rattle.std.specs.Cmp.Lexicographic.{slice_cmp}
@@ -7,7 +8,8 @@ use Rattle.std.specs.Ordering.{nat_cmp}
 use Rattle.int_text.specs.Decimal.{canonical, is_i64, number_of}
 use Rattle.plain_world.specs.Worlds.{World, HashOf, look, remove}
 use Rattle.plain_model.specs.Outcomes.{Outcome, tells, refused, leaves, IsOutcome}
-use Rattle.plain_model.specs.OfType.{hash_in, on_type, keep}
+use Rattle.plain_model.specs.OfType.{hash_in, on_type, may_tell, keep}
+use Rattle.plain_model.specs.Scans.{Lists, listed}
 use Rattle.plain_model.specs.ListSteps.{tells_number}
 use Rattle.plain_model.specs.declared.hash_command.HashCommand.{HashCommand}
 use Rattle.plain_model.specs.declared.hash_command.HashCommand.TheVariants as hashes
@@ -89,7 +91,26 @@ abbrev pub value_length : Option (List ℕ) → ℕ
 value_length None = 0
 value_length (Some value) = length value
 
--- what a command answers and leaves, in a live world
+abbrev pub IsField : Fields → List ℕ → Type 0
+IsField fields field = is_some (get fields field) ≡ true
+
+-- the values of these fields
+abbrev pub values_listed : Fields → List (List ℕ) → List Part
+values_listed fields names = Array (length names) ∷ map (λ field. value_or_null (get fields field)) names
+
+-- these fields, each followed by its value
+abbrev pub pairs_listed : Fields → List (List ℕ) → List Part
+pairs_listed fields names =
+    Array (2 * length names) ∷ flat_map (λ field. Bulk field ∷ value_or_null (get fields field) ∷ []) names
+
+-- so all fields are told, each once, in any order
+abbrev pub TellsFields : (Fields → List (List ℕ) → List Part) → Option Fields → List Part → Type 0
+TellsFields told before reply =
+    let is = IsField (or_no_fields before) in
+    (names : List (List ℕ)) × Lists is is names × (reply ≡ told (or_no_fields before) names)
+
+-- What a command answers and leaves, in a live world. Of HKEYS, HVALS and HGETALL only the world is fixed: `may_hashes`
+-- says what they may answer.
 abbrev pub hash_outcome : World → HashCommand → Outcome
 hash_outcome old (hashes.HSet key pairs) = on_hash old key (λ before. set_fields old key pairs (or_no_fields before))
 hash_outcome old (hashes.HMSet key pairs) =
@@ -106,6 +127,9 @@ hash_outcome old (hashes.HExists key field) =
 hash_outcome old (hashes.HLen key) = tell_hash old key (λ fields. Number (pos (len fields)) ∷ [])
 hash_outcome old (hashes.HStrLen key field) =
     tell_hash old key (λ fields. Number (pos (value_length (get fields field))) ∷ [])
+hash_outcome old (hashes.HKeys key) = tells [] old
+hash_outcome old (hashes.HVals key) = tells [] old
+hash_outcome old (hashes.HGetAll key) = tells [] old
 hash_outcome old (hashes.HIncrBy key field by) =
     on_hash old key
     (λ before.
@@ -113,4 +137,8 @@ hash_outcome old (hashes.HIncrBy key field by) =
 
 -- from the world that is live at the moment the command may be answered by this reply, and leave the new world
 abbrev pub may_hashes : World → HashCommand → List Part → World → Type 0
+may_hashes old (hashes.HKeys key) reply new =
+    may_tell hash_in old (look old key) (TellsFields (λ fields names. listed names)) reply new
+may_hashes old (hashes.HVals key) reply new = may_tell hash_in old (look old key) (TellsFields values_listed) reply new
+may_hashes old (hashes.HGetAll key) reply new = may_tell hash_in old (look old key) (TellsFields pairs_listed) reply new
 may_hashes old command reply new = IsOutcome (hash_outcome old command) reply new

@@ -1,6 +1,5 @@
 -- What the words of commands on hashes mean (Redis command reference, "Commands operating on hashes").
-use Rattle.std.specs.Prelude.{ℕ, List, [], ◌∷◌, Ok, codes, Result}
-use Rattle.plain_world.specs.Words.{Words}
+use Rattle.std.specs.Prelude.{List, [], ◌∷◌, Ok, codes}
 use Rattle.plain_model.specs.Shapes.{Plain, Whole, Row, fixed, repeated}
 use Rattle.plain_model.specs.StringWords.{pairs_of}
 use Rattle.plain_model.specs.declared.hash_command.HashCommand.{HashCommand}
@@ -20,6 +19,9 @@ hash_rows =
     ∷ record { name = codes "hexists"; read = fixed (Plain ∷ Plain ∷ []) (λ a. Ok (hashes.HExists a.0 a.1.0)) }
     ∷ record { name = codes "hlen"; read = fixed (Plain ∷ []) (λ a. Ok (hashes.HLen a.0)) }
     ∷ record { name = codes "hstrlen"; read = fixed (Plain ∷ Plain ∷ []) (λ a. Ok (hashes.HStrLen a.0 a.1.0)) }
+    ∷ record { name = codes "hkeys"; read = fixed (Plain ∷ []) (λ a. Ok (hashes.HKeys a.0)) }
+    ∷ record { name = codes "hvals"; read = fixed (Plain ∷ []) (λ a. Ok (hashes.HVals a.0)) }
+    ∷ record { name = codes "hgetall"; read = fixed (Plain ∷ []) (λ a. Ok (hashes.HGetAll a.0)) }
     ∷ record {
       name = codes "hincrby";
       read = fixed (Plain ∷ Plain ∷ Whole ∷ []) (λ a. Ok (hashes.HIncrBy a.0 a.1.0 a.1.1.0));

@@ -1,3 +1,4 @@
+pub mod ScoreTexts
 pub mod Shapes
 pub mod StringWords
 pub mod KeyWords
@@ -5,6 +6,7 @@ pub mod ConnectionWords
 pub mod ListWords
 pub mod HashWords
 pub mod SetWords
+pub mod ZsetWords
 pub mod Outcomes
 pub mod Deadlines
 pub mod StringSteps
@@ -15,6 +17,7 @@ pub mod OfType
 pub mod ListSteps
 pub mod HashSteps
 pub mod SetSteps
+pub mod ZsetSteps
 pub mod ConnectionSteps
 pub mod Meant
 pub mod Steps

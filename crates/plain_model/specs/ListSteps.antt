@@ -1,5 +1,5 @@
 -- What commands on lists answer, and what they leave (Redis command reference, "Commands operating on lists").
-use Rattle.std.specs.Prelude.{ℕ, zero, suc, ◌+◌, ◌-◌, ◌==◌, List, [], ◌∷◌, ◌++◌, length, take, drop, map, ℤ, pos, negsuc, Option, None, Some, Bool, true, false, not, nat_lt, bytes_eq, reverse, codes, if◌then◌else◌}
+use Rattle.std.specs.Prelude.{ℕ, zero, suc, ◌-◌, List, [], ◌∷◌, ◌++◌, length, take, drop, map, ℤ, pos, negsuc, Option, None, Some, not, nat_lt, bytes_eq, reverse, codes, if◌then◌else◌}
 use Rattle.std.specs.List.{filter}
 use Rattle.plain_world.specs.Worlds.{World, ListOf, look, remove}
 use Rattle.plain_model.specs.Outcomes.{Outcome, tells, refused, leaves, IsOutcome}
@@ -135,7 +135,7 @@ range_end len (pos n) = suc n
 range_end len (negsuc n) = len - n
 
 -- the elements from index a to index b
-abbrev pub list_range : Elements → ℤ → ℤ → Elements
+abbrev pub list_range : {A : Type 0} → List A → ℤ → ℤ → List A
 list_range list a b =
     let first = range_start (length list) a in
     take (range_end (length list) b - first) (drop first list)

@@ -1,22 +1,14 @@
 -- What the words of commands on lists mean (Redis command reference, "Commands operating on lists").
-use Rattle.std.specs.Prelude.{ℕ, List, [], ◌∷◌, pos, Option, None, Some, Result, Ok, Err, codes}
+use Rattle.std.specs.Prelude.{ℕ, List, [], ◌∷◌, pos, None, Some, Result, Ok, codes}
 use Rattle.plain_world.specs.Words.{Words}
-use Rattle.plain_model.specs.Shapes.{Plain, Whole, Amount, Rank, OnSide, AtEnd, told, and_then, Row, fixed, repeated, NamedOption, with_options}
+use Rattle.plain_model.specs.Shapes.{Plain, Whole, Amount, Rank, OnSide, AtEnd, Row, fixed, with_amount, repeated, NamedOption, with_options}
 use Rattle.plain_model.specs.declared.list_command.PositionOptions.{PositionOptions}
 use Rattle.plain_model.specs.declared.list_command.ListCommand.{ListCommand}
 use Rattle.plain_model.specs.declared.list_command.ListCommand.TheVariants as lists
 use Rattle.plain_world.specs.declared.refusal.Refusal.{Refusal}
-use Rattle.plain_world.specs.declared.refusal.Refusal.TheVariants.{WrongNumberOfArguments}
 
 abbrev pub Read : Type 0
 Read = Result ListCommand Refusal
-
--- a key, and a number or none
-abbrev pub pop_words : (List ℕ → Option ℕ → ListCommand) → Words → Read
-pop_words make [] = Err WrongNumberOfArguments
-pop_words make (key ∷ []) = Ok (make key None)
-pop_words make (key ∷ n ∷ []) = and_then (told Amount n) (λ a. Ok (make key (Some a)))
-pop_words make (key ∷ n ∷ more ∷ words) = Err WrongNumberOfArguments
 
 abbrev pub position_options : List (NamedOption PositionOptions)
 position_options =
@@ -54,8 +46,8 @@ list_rows =
     ∷ record { name = codes "rpush"; read = push_words lists.RPush }
     ∷ record { name = codes "lpushx"; read = push_words lists.LPushX }
     ∷ record { name = codes "rpushx"; read = push_words lists.RPushX }
-    ∷ record { name = codes "lpop"; read = pop_words lists.LPop }
-    ∷ record { name = codes "rpop"; read = pop_words lists.RPop }
+    ∷ record { name = codes "lpop"; read = with_amount lists.LPop }
+    ∷ record { name = codes "rpop"; read = with_amount lists.RPop }
     ∷ record { name = codes "llen"; read = fixed (Plain ∷ []) (λ a. Ok (lists.LLen a.0)) }
     ∷ record { name = codes "lindex"; read = fixed (Plain ∷ Whole ∷ []) (λ a. Ok (lists.LIndex a.0 a.1.0)) }
     ∷ record {

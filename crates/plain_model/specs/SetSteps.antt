@@ -1,14 +1,15 @@
 -- What commands on sets answer, and what they leave (Redis command reference, "Commands operating on sets").
-use Rattle.std.specs.Prelude.{ℕ, ◌-◌, ◌==◌, List, [], ◌∷◌, length, map, ℤ, pos, Option, None, Some, Bool, true, false, is_some, bytes_eq, if◌then◌else◌}
+use Rattle.std.specs.Prelude.{◌≡◌, ℕ, ◌-◌, ◌==◌, List, [], ◌∷◌, length, map, pos, Option, None, Some, Bool, true, is_some, bytes_eq, if◌then◌else◌}
 use Rattle.std.specs.FinMap.{FinMap, empty, get, insert, len}
 use Rattle.std.specs.FinMap as finite
 use Rattle.std.specs.Cmp.Lexicographic.{slice_cmp}
 use Rattle.std.specs.Ordering.{nat_cmp}
 use Rattle.plain_world.specs.Worlds.{World, SetOf, look, remove}
-use Rattle.plain_model.specs.Outcomes.{Outcome, tells, leaves, IsOutcome}
-use Rattle.plain_model.specs.OfType.{set_in, on_type, keep}
+use Rattle.plain_model.specs.Outcomes.{Outcome, tells, IsOutcome}
+use Rattle.plain_model.specs.OfType.{set_in, on_type, may_tell, keep}
 use Rattle.plain_model.specs.ListSteps.{tells_number}
 use Rattle.plain_model.specs.HashSteps.{one_if}
+use Rattle.plain_model.specs.Scans.{Lists, listed}
 use Rattle.plain_model.specs.declared.set_command.SetCommand.{SetCommand}
 use Rattle.plain_model.specs.declared.set_command.SetCommand.TheVariants as sets
 use Rattle.plain_world.specs.declared.reply.Part.{Part}
@@ -72,7 +73,17 @@ abbrev pub move_from : World → List ℕ → List ℕ → List ℕ → Option M
 move_from old from to member None = tells_number (pos 0) old
 move_from old from to member (Some members) = on_set old to (move_to old from to member members)
 
--- what a command answers and leaves, in a live world
+abbrev pub IsMember : Members → List ℕ → Type 0
+IsMember members member = has members member ≡ true
+
+-- all members are listed, each once, in any order
+abbrev pub AreMembers : Option Members → List Part → Type 0
+AreMembers before reply =
+    let is = IsMember (or_no_members before) in
+    (names : List (List ℕ)) × Lists is is names × (reply ≡ listed names)
+
+-- What a command answers and leaves, in a live world. Of SMEMBERS only the world is fixed: `may_sets` says what it may
+-- answer.
 abbrev pub set_outcome : World → SetCommand → Outcome
 set_outcome old (sets.SAdd key others) = on_set old key (λ before. add_members old key others (or_no_members before))
 set_outcome old (sets.SRem key others) = on_set old key (drop_members old key others)
@@ -80,9 +91,11 @@ set_outcome old (sets.SIsMember key member) =
     tell_set old key (λ members. Number (one_if (has members member)) ∷ [])
 set_outcome old (sets.SMIsMember key others) =
     tell_set old key (λ members. Array (length others) ∷ map (λ member. Number (one_if (has members member))) others)
+set_outcome old (sets.SMembers key) = tells [] old
 set_outcome old (sets.SCard key) = tell_set old key (λ members. Number (pos (len members)) ∷ [])
 set_outcome old (sets.SMove from to member) = on_set old from (move_from old from to member)
 
 -- from the world that is live at the moment the command may be answered by this reply, and leave the new world
 abbrev pub may_sets : World → SetCommand → List Part → World → Type 0
+may_sets old (sets.SMembers key) reply new = may_tell set_in old (look old key) AreMembers reply new
 may_sets old command reply new = IsOutcome (set_outcome old command) reply new

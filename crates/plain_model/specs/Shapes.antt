@@ -2,7 +2,7 @@
 --
 -- First their number is looked at, then they are read from left to right, and each is refused where it stands. What
 -- words break together comes last. A command is a row: the kinds of its first words, and what may follow them.
-use Rattle.std.specs.Prelude.{ℕ, zero, suc, ◌-◌, ◌%◌, ◌==◌, List, [], ◌∷◌, length, drop, ℤ, pos, negsuc, Option, Some, None, Bool, ◌&&◌, ◌^◌, nat_le, nat_lt, int_lt, bytes_eq, codes, Result, Ok, Err, if◌then◌else◌}
+use Rattle.std.specs.Prelude.{ℕ, zero, suc, ◌-◌, ◌%◌, ◌==◌, List, [], ◌∷◌, length, drop, ℤ, pos, negsuc, Option, Some, None, Bool, ◌&&◌, ◌||◌, ◌^◌, nat_le, nat_lt, int_lt, bytes_eq, codes, Result, Ok, Err, if◌then◌else◌}
 use Rattle.std.specs.Str.{all_ascii_digits}
 use Rattle.std.specs.Str.Parse.{digits_value}
 use Rattle.plain_world.specs.Words.{Words, in_lower_case}
@@ -11,8 +11,13 @@ use Rattle.plain_model.specs.declared.list_command.Side.{Side}
 use Rattle.plain_model.specs.declared.list_command.Side.TheVariants.{Before, After}
 use Rattle.plain_model.specs.declared.list_command.ListEnd.{ListEnd}
 use Rattle.plain_model.specs.declared.list_command.ListEnd.TheVariants.{Head, Tail}
+use Rattle.int_text.specs.declared.score.ScoreFault.{ScoreFault}
+use Rattle.int_text.specs.declared.score.ScoreFault.TheVariants.{Malformed, NotWhole, TooLarge}
+use Rattle.plain_model.specs.ScoreTexts.{score_of}
+use Rattle.plain_model.specs.declared.zset_command.ScoreBound.{ScoreBound}
+use Rattle.plain_model.specs.declared.zset_command.ScoreBound.TheVariants.{Lowest, Including, Excluding, Highest}
 use Rattle.plain_world.specs.declared.refusal.Refusal.{Refusal}
-use Rattle.plain_world.specs.declared.refusal.Refusal.TheVariants.{WrongNumberOfArguments, Syntax, NotAnInteger, IndexOutOfRange, InvalidExpireTime, InvalidCursor, DatabaseOutOfRange, ValueOutOfRange}
+use Rattle.plain_world.specs.declared.refusal.Refusal.TheVariants.{WrongNumberOfArguments, Syntax, NotAnInteger, NotAScore, NotAWholeScore, IndexOutOfRange, InvalidExpireTime, InvalidCursor, DatabaseOutOfRange, ValueOutOfRange}
 
 -- the first one's refusal, or what the rest makes of what it told
 abbrev pub and_then : {A B : Type 0} → Result A Refusal → (A → Result B Refusal) → Result B Refusal
@@ -45,6 +50,10 @@ pub data Kind : Type 0 where
   OnSide : Kind
   -- LEFT or RIGHT, whatever the case
   AtEnd : Kind
+  -- a score text
+  Score : Kind
+  -- an infinity whatever the case, a score text, or `(` and a score text, as an end of a range
+  Bound : Kind
 
 -- what a word of this kind tells
 abbrev pub Told : Kind → Type 0
@@ -60,6 +69,8 @@ Told Amount = ℕ
 Told Rank = ℤ
 Told OnSide = Side
 Told AtEnd = ListEnd
+Told Score = ℤ
+Told Bound = ScoreBound
 
 abbrev pub whole : Option ℤ → Result ℤ Refusal
 whole None = Err NotAnInteger
@@ -102,6 +113,26 @@ end word =
     if bytes_eq word (codes "left") then Ok Head
     else (if bytes_eq word (codes "right") then Ok Tail else Err Syntax)
 
+-- a score, or why a word is none
+abbrev pub score : Result ℤ ScoreFault → Result ℤ Refusal
+score (Ok n) = Ok n
+score (Err Malformed) = Err NotAScore
+score (Err NotWhole) = Err NotAWholeScore
+score (Err TooLarge) = Err NotAWholeScore
+
+-- behind `(` a score that is left out of a range, and else one that is in it
+abbrev pub score_bound : List ℕ → Result ScoreBound Refusal
+score_bound [] = Err NotAScore
+score_bound (byte ∷ text) =
+    if byte == 40 then and_then (score (score_of text)) (λ n. Ok (Excluding n))
+    else and_then (score (score_of (byte ∷ text))) (λ n. Ok (Including n))
+
+abbrev pub bound : List ℕ → Result ScoreBound Refusal
+bound word =
+    if bytes_eq (in_lower_case word) (codes "-inf") then Ok Lowest
+    else (if bytes_eq (in_lower_case word) (codes "inf") || bytes_eq (in_lower_case word) (codes "+inf") then Ok Highest
+    else score_bound word)
+
 -- one digit or more, and nothing else
 abbrev pub are_digits : List ℕ → Bool
 are_digits word = nat_lt 0 (length word) && all_ascii_digits word
@@ -124,6 +155,8 @@ told Amount word = and_then (whole (number_of word)) amount
 told Rank word = and_then (whole (number_of word)) rank
 told OnSide word = side (in_lower_case word)
 told AtEnd word = end (in_lower_case word)
+told Score word = score (score_of word)
+told Bound word = bound word
 
 -- what words of these kinds tell
 abbrev pub AllTold : List Kind → Type 0
@@ -141,6 +174,13 @@ all_told (kind ∷ kinds) (word ∷ words) =
 pub record Row (A : Type 0) : Type 0 where
   pub name : List ℕ
   pub read : Words → Result A Refusal
+
+-- a row of one word, and a number from 0 on or none
+abbrev pub with_amount : {A : Type 0} → (List ℕ → Option ℕ → A) → Words → Result A Refusal
+with_amount make [] = Err WrongNumberOfArguments
+with_amount make (word ∷ []) = Ok (make word None)
+with_amount make (word ∷ n ∷ []) = and_then (told Amount n) (λ a. Ok (make word (Some a)))
+with_amount make (word ∷ n ∷ more ∷ words) = Err WrongNumberOfArguments
 
 -- a row of just these words
 abbrev pub fixed : {A : Type 0} (kinds : List Kind) → (AllTold kinds → Result A Refusal) → Words → Result A Refusal

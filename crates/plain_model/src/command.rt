@@ -2,7 +2,7 @@
 
 use crate::{
     ConnectionCommand, HashCommand, KeyCommand, Lifetime, ListCommand, PairList, Renewal,
-    SetCommand, Word, WordList,
+    SetCommand, Word, WordList, ZsetCommand,
 };
 
 /// A command with its words.
@@ -12,6 +12,7 @@ pub enum Command<'a> {
     Lists(ListCommand<'a>),
     Sets(SetCommand<'a>),
     Hashes(HashCommand<'a>),
+    Zsets(ZsetCommand<'a>),
     Keys(KeyCommand<'a>),
     Connection(ConnectionCommand<'a>),
 }

@@ -23,6 +23,12 @@ pub enum HashCommand<'a> {
     HLen(Word<'a>),
     /// `HSTRLEN key field`
     HStrLen(Word<'a>, Word<'a>),
+    /// `HKEYS key`
+    HKeys(Word<'a>),
+    /// `HVALS key`
+    HVals(Word<'a>),
+    /// `HGETALL key`
+    HGetAll(Word<'a>),
     /// `HINCRBY key field n`
     HIncrBy(Word<'a>, Word<'a>, i64),
 }

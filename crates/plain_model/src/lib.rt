@@ -12,6 +12,7 @@ mod lists;
 mod set_command;
 mod times;
 mod word;
+mod zset_command;
 
 pub use command::{
     Command, Condition, GetExOptionsRead, SetOptions, SetOptionsRead, StringCommand,
@@ -22,8 +23,11 @@ pub use hash_command::HashCommand;
 pub use keys::{CopyOptions, ExpireOptions, KeyCommand, ScanOptions};
 pub use laws::{replies_fix_the_run, runs_are_covered};
 pub use list_command::{ListCommand, ListEnd, PositionOptions, Side};
-pub use lists::{PairList, WordList};
+pub use lists::{PairList, ScoreList, WordList};
 pub use plain_world::{Bytes, LONGEST, Line, Memory, Part, Parts, Refusal, Reply};
 pub use set_command::SetCommand;
 pub use times::{Lifetime, Renewal, Time, TimeOrigin, TimeUnit};
 pub use word::Word;
+pub use zset_command::{
+    AddOptions, Direction, Limit, RangeOptions, ScoreBound, ScoreRules, ZsetCommand,
+};

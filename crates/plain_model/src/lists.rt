@@ -87,3 +87,44 @@ impl<'a> PairList<'a> {
         self.pairs.as_slice()
     }
 }
+
+/// Scores with their members, which contracts see as a list of pairs.
+#[derive(Drop)]
+pub struct ScoreList<'a> {
+    scores: Vec<(i64, Word<'a>)>,
+}
+
+impl<'a> Model for ScoreList<'a> {
+    ghost use Rattle.std.specs.Prelude.{List, ℕ, ℤ};
+
+    ghost Value = { List (ℤ × List ℕ) };
+
+    ghost view = { λ l. l.scores.items };
+}
+
+impl<'a> ScoreList<'a> {
+    /// No pairs.
+    pub fn new(alloc: Global) -> ScoreList<'a>
+        ensures { result ≡ [] }
+    {
+        ScoreList {
+            scores: Vec::new(alloc),
+        }
+    }
+
+    /// Adds a score and its member behind the others. `Memory` leaves the list.
+    pub fn push(&mut self, score: i64, member: Word<'a>) -> Result<(), AllocError>
+        ensures ok { OnOk result (self.new ≡ self.old ++ (score, member.entry) ∷ []) }
+        ensures err { OnErr result (self.new ≡ self.old) }
+    {
+        self.scores.push((score, member))?;
+        Ok(())
+    }
+
+    /// The pairs.
+    pub fn as_slice(&self) -> &[(i64, Word<'a>)]
+        ensures { result.now ≡ self.now }
+    {
+        self.scores.as_slice()
+    }
+}

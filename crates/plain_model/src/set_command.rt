@@ -13,6 +13,8 @@ pub enum SetCommand<'a> {
     SIsMember(Word<'a>, Word<'a>),
     /// `SMISMEMBER key member..`
     SMIsMember(Word<'a>, WordList<'a>),
+    /// `SMEMBERS key`
+    SMembers(Word<'a>),
     /// `SCARD key`
     SCard(Word<'a>),
     /// `SMOVE from to member`
