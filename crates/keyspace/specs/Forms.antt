@@ -3,7 +3,7 @@ use Rattle.std.specs.Prelude.{◌≡◌, ◌⊎◌, ℕ, List, [], ◌∷◌, le
 use Rattle.blocks.specs.Blocks.{Blocks}
 use Rattle.plain_world.specs.Worlds.{World, Entry, look}
 use Rattle.plain_model.specs.declared.command.Command.{Command}
-use Rattle.plain_model.specs.declared.command.Command.TheVariants.{Strings, Lists, Sets, Hashes, Keys, Connection}
+use Rattle.plain_model.specs.declared.command.Command.TheVariants.{Strings, Lists, Sets, Hashes, Zsets, Keys, Connection}
 use Rattle.plain_model.specs.declared.command.StringCommand.{StringCommand}
 use Rattle.plain_model.specs.declared.command.StringCommand.TheVariants as strings
 use Rattle.plain_model.specs.declared.list_command.ListCommand.{ListCommand}
@@ -12,16 +12,21 @@ use Rattle.plain_model.specs.declared.set_command.SetCommand.{SetCommand}
 use Rattle.plain_model.specs.declared.set_command.SetCommand.TheVariants as sets
 use Rattle.plain_model.specs.declared.hash_command.HashCommand.{HashCommand}
 use Rattle.plain_model.specs.declared.hash_command.HashCommand.TheVariants as hashes
+use Rattle.plain_model.specs.declared.zset_command.ZsetCommand.{ZsetCommand}
+use Rattle.plain_model.specs.declared.zset_command.ZsetCommand.TheVariants as zsets
+use Rattle.plain_model.specs.declared.zset_command.ScoreRules.{ScoreRules}
 use Rattle.plain_model.specs.declared.keys.KeyCommand.{KeyCommand}
 use Rattle.plain_model.specs.declared.keys.KeyCommand.TheVariants as keys
 use Rattle.std.specs.FinMap.{empty, get, insert}
 use Rattle.object_codec.specs.declared.limits.Limits.{Limits}
 use Rattle.hash_object.specs.Maps.{FitsFields}
 use Rattle.set_object.specs.Strings.{FitsMembers}
+use Rattle.zset_object.specs.Orders.{FitsScored}
 use Rattle.int_text.specs.Decimal.{canonical}
-use Rattle.plain_model.specs.OfType.{list_in, set_in, hash_in}
+use Rattle.plain_model.specs.OfType.{list_in, set_in, hash_in, zset_in}
 use Rattle.plain_model.specs.SetSteps.{Members, or_no_members, has}
 use Rattle.plain_model.specs.HashSteps.{Fields, or_no_fields, number_in}
+use Rattle.plain_model.specs.ZsetSteps.{Scores, Scored, or_no_scores, permits, write_score, or_zero}
 use Rattle.plain_model.specs.ListSteps.{Elements, or_none, added, from_end, place_of, replaced, inserted_beside}
 use Rattle.plain_model.specs.declared.list_command.ListEnd.{ListEnd}
 use Rattle.plain_model.specs.declared.list_command.ListEnd.TheVariants.{Head, Tail}
@@ -79,6 +84,23 @@ RisesWith limits from members (member ∷ others) form =
     (mid : codec.Form) × RisesTo limits from members member mid
     × RisesWith limits mid (insert members member tt) others form
 
+-- the same of a sorted set of these scores, where the last one was written or not
+abbrev pub RisesWhere : Bool → Limits → codec.Form → Scores → codec.Form → Type 0
+RisesWhere true limits from scores form = IsLeastFrom from (FitsScored limits scores) form
+RisesWhere false limits from scores form = form ≡ from
+
+-- the same of a sorted set after one more score
+abbrev pub RisesScored : ScoreRules → Limits → codec.Form → Scores → Scored → codec.Form → Type 0
+RisesScored rules limits from scores pair form =
+    RisesWhere (permits rules (get scores pair.1) pair.0) limits from (insert scores pair.1 pair.0) form
+
+-- the same of a sorted set after each of these scores was written that the rules permit, one after the other
+abbrev pub RisesUnder : ScoreRules → Limits → codec.Form → Scores → List Scored → codec.Form → Type 0
+RisesUnder rules limits from scores [] form = form ≡ from
+RisesUnder rules limits from scores (pair ∷ pairs) form =
+    (mid : codec.Form) × RisesScored rules limits from scores pair mid
+    × RisesUnder rules limits mid (write_score rules scores pair) pairs form
+
 -- the form of the value that stands at a key, or the least form of one without an element where nothing stands there
 abbrev pub IsSourceForm : Bool → (codec.Form → Type 0) → Bases → Blocks → ℕ → List ℕ → codec.Form → Type 0
 IsSourceForm true least old m db key form =
@@ -103,8 +125,17 @@ pub record IsSetRisen (there : Bool) (members : Members) (others : List (List �
   pub is : encoding_of value ≡ OfForm form
   pub risen : RisesWith old.limits from members others form
 
+-- A sorted set of these scores, that stood at the key or is a new one, rose by the scores that were written.
+pub record IsZsetRisen (there : Bool) (rules : ScoreRules) (scores : Scores) (pairs : List Scored) (db : ℕ) (key : List ℕ)
+    (old : Bases) (m : Blocks) (value : Value) : Type 0 where
+  pub from : codec.Form
+  pub form : codec.Form
+  pub at : IsSourceForm there (FitsScored old.limits empty) old m db key from
+  pub is : encoding_of value ≡ OfForm form
+  pub risen : RisesUnder rules old.limits from scores pairs form
+
 -- how a value is encoded that a command writes: as one written whole, as one of which a part was changed, as the value
--- that stood at a key of a database, or as the list, hash or set that stood there, or a new one, to which was written; or
+-- that stood at a key of a database, or as the list, hash, set or sorted set that stood there, or a new one, to which was written; or
 -- in either of two ways; or no value is written
 pub data Form : Type 0 where
   Unwritten : Form
@@ -114,6 +145,7 @@ pub data Form : Type 0 where
   Risen : Bool → ℕ → ℕ → List ℕ → Form
   HashRisen : Bool → Fields → List (List ℕ × List ℕ) → ℕ → List ℕ → Form
   SetRisen : Bool → Members → List (List ℕ) → ℕ → List ℕ → Form
+  ZsetRisen : Bool → ScoreRules → Scores → List Scored → ℕ → List ℕ → Form
   Either : Form → Form → Form
 
 -- a value has a form, where these databases stood before
@@ -125,6 +157,7 @@ HasForm (AsAt db key) old m value = (source : Value) × HasValue old m db key so
 HasForm (Risen there long db key) old m value = IsRisenAt there long db key old m value
 HasForm (HashRisen there fields pairs db key) old m value = IsHashRisen there fields pairs db key old m value
 HasForm (SetRisen there members others db key) old m value = IsSetRisen there members others db key old m value
+HasForm (ZsetRisen there rules scores pairs db key) old m value = IsZsetRisen there rules scores pairs db key old m value
 HasForm (Either form other) old m value = HasForm form old m value ⊎ HasForm other old m value
 
 -- Each element stood there before, with its key and its value as they were, or its value has this form.
@@ -243,6 +276,29 @@ set_form db world (sets.SRem key others) = AsAt db key
 set_form db world (sets.SMove from to member) = Either (AsAt db from) (set_with db world to (member ∷ []))
 set_form db world other = Unwritten
 
+-- the sorted set that stands at a key, without a member where none does
+abbrev pub zset_of : Option Entry → Scores
+zset_of None = empty
+zset_of (Some entry) = or_no_scores (zset_in entry.value)
+
+abbrev pub zset_at : World → List ℕ → Scores
+zset_at world key = zset_of (look world key)
+
+-- the sorted set at a key, or a new one, becomes another by scores that are written
+abbrev pub zset_to : ℕ → World → List ℕ → ScoreRules → List Scored → Form
+zset_to db world key rules pairs = ZsetRisen (is_some (look world key)) rules (zset_at world key) pairs db key
+
+-- what is written to a sorted set is written score by score, and what is left of one keeps its form
+abbrev pub zset_form : ℕ → World → ZsetCommand → Form
+zset_form db world (zsets.ZAdd key rules ch pairs) = zset_to db world key rules pairs
+zset_form db world (zsets.ZIncr key rules by member) =
+    zset_to db world key rules ((or_zero (get (zset_at world key) member) +ℤ by, member) ∷ [])
+zset_form db world (zsets.ZRem key members) = AsAt db key
+zset_form db world (zsets.ZRemRangeByRank key a b) = AsAt db key
+zset_form db world (zsets.ZRemRangeByScore key min max) = AsAt db key
+zset_form db world (zsets.ZPop key from n) = AsAt db key
+zset_form db world other = Unwritten
+
 -- what is copied or moved is encoded as before
 abbrev pub key_form : ℕ → KeyCommand → Form
 key_form db (keys.Rename from to) = AsAt db from
@@ -257,5 +313,6 @@ form_of db world (Strings command) = string_form world command
 form_of db world (Lists command) = list_form db world command
 form_of db world (Sets command) = set_form db world command
 form_of db world (Hashes command) = hash_form db world command
+form_of db world (Zsets command) = zset_form db world command
 form_of db world (Keys command) = key_form db command
 form_of db world (Connection command) = Unwritten

@@ -3,7 +3,7 @@ use Rattle.std.specs.Prelude.{ℕ, List, map, Option, Some, None}
 use Rattle.blocks.specs.Blocks.{Blocks}
 use Rattle.held.specs.Scopes as held
 use Rattle.plain_model.specs.declared.command.Command.{Command}
-use Rattle.plain_model.specs.declared.command.Command.TheVariants.{Strings, Lists, Sets, Hashes, Keys, Connection}
+use Rattle.plain_model.specs.declared.command.Command.TheVariants.{Strings, Lists, Sets, Hashes, Zsets, Keys, Connection}
 use Rattle.plain_model.specs.declared.command.StringCommand.{StringCommand}
 use Rattle.plain_model.specs.declared.command.StringCommand.TheVariants as strings
 use Rattle.plain_model.specs.declared.list_command.ListCommand.{ListCommand}
@@ -12,6 +12,8 @@ use Rattle.plain_model.specs.declared.set_command.SetCommand.{SetCommand}
 use Rattle.plain_model.specs.declared.set_command.SetCommand.TheVariants as sets
 use Rattle.plain_model.specs.declared.hash_command.HashCommand.{HashCommand}
 use Rattle.plain_model.specs.declared.hash_command.HashCommand.TheVariants as hashes
+use Rattle.plain_model.specs.declared.zset_command.ZsetCommand.{ZsetCommand}
+use Rattle.plain_model.specs.declared.zset_command.ZsetCommand.TheVariants as zsets
 use Rattle.plain_model.specs.declared.keys.KeyCommand.{KeyCommand}
 use Rattle.plain_model.specs.declared.keys.KeyCommand.TheVariants as keys
 use Rattle.plain_model.specs.declared.connection.ConnectionCommand.{ConnectionCommand}
@@ -98,6 +100,7 @@ set_reach db (sets.SAdd key others) = OneKey db key
 set_reach db (sets.SRem key others) = OneKey db key
 set_reach db (sets.SIsMember key member) = Nothing
 set_reach db (sets.SMIsMember key others) = Nothing
+set_reach db (sets.SMembers key) = Nothing
 set_reach db (sets.SCard key) = Nothing
 set_reach db (sets.SMove from to member) = TwoKeys db from db to
 
@@ -114,10 +117,31 @@ hash_reach db (hashes.HDel key others) = OneKey db key
 hash_reach db (hashes.HExists key field) = Nothing
 hash_reach db (hashes.HLen key) = Nothing
 hash_reach db (hashes.HStrLen key field) = Nothing
+hash_reach db (hashes.HKeys key) = Nothing
+hash_reach db (hashes.HVals key) = Nothing
+hash_reach db (hashes.HGetAll key) = Nothing
 hash_reach db (hashes.HIncrBy key field n) = OneKey db key
 
 abbrev pub hash_scope : ℕ → HashCommand → Scope
 hash_scope db command = scope (hash_reach db command)
+
+abbrev pub zset_reach : ℕ → ZsetCommand → Reach
+zset_reach db (zsets.ZAdd key rules ch pairs) = OneKey db key
+zset_reach db (zsets.ZIncr key rules by member) = OneKey db key
+zset_reach db (zsets.ZRem key members) = OneKey db key
+zset_reach db (zsets.ZScore key member) = Nothing
+zset_reach db (zsets.ZMScore key members) = Nothing
+zset_reach db (zsets.ZCard key) = Nothing
+zset_reach db (zsets.ZCount key min max) = Nothing
+zset_reach db (zsets.ZRank key member from with_score) = Nothing
+zset_reach db (zsets.ZRange key a b from with_scores) = Nothing
+zset_reach db (zsets.ZRangeByScore key min max from limit with_scores) = Nothing
+zset_reach db (zsets.ZRemRangeByRank key a b) = OneKey db key
+zset_reach db (zsets.ZRemRangeByScore key min max) = OneKey db key
+zset_reach db (zsets.ZPop key from n) = OneKey db key
+
+abbrev pub zset_scope : ℕ → ZsetCommand → Scope
+zset_scope db command = scope (zset_reach db command)
 
 -- the database of this number, or else the selected one
 abbrev pub number_or : ℕ → Option ℕ → ℕ
@@ -173,6 +197,7 @@ reach_of db (Strings command) = string_reach db command
 reach_of db (Lists command) = list_reach db command
 reach_of db (Sets command) = set_reach db command
 reach_of db (Hashes command) = hash_reach db command
+reach_of db (Zsets command) = zset_reach db command
 reach_of db (Keys command) = key_reach db command
 reach_of db (Connection command) = connection_reach db command
 

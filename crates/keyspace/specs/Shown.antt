@@ -13,7 +13,7 @@ use Rattle.plain_world.specs.declared.reply.Part.TheVariants.{Number, Bulk, Null
 use Rattle.plain_model.specs.ConnectionSteps.{ClassSlabs, slab_table}
 use Rattle.plain_model.specs.Scans.{Sought, Passes, keys_sought, paged}
 use Rattle.plain_model.specs.declared.command.Command.{Command}
-use Rattle.plain_model.specs.declared.command.Command.TheVariants.{Strings, Lists, Sets, Hashes, Keys, Connection}
+use Rattle.plain_model.specs.declared.command.Command.TheVariants.{Strings, Lists, Sets, Hashes, Zsets, Keys, Connection}
 use Rattle.plain_model.specs.declared.keys.KeyCommand.{KeyCommand}
 use Rattle.plain_model.specs.declared.keys.KeyCommand.TheVariants as keys
 use Rattle.plain_model.specs.declared.keys.ScanOptions.{ScanOptions}
@@ -133,5 +133,6 @@ Shows blocks old new at (Strings command) reply = Unit {0}
 Shows blocks old new at (Lists command) reply = Unit {0}
 Shows blocks old new at (Sets command) reply = Unit {0}
 Shows blocks old new at (Hashes command) reply = Unit {0}
+Shows blocks old new at (Zsets command) reply = Unit {0}
 Shows blocks old new at (Keys command) reply = key_shown old.bases (blocks old.store) at command reply
 Shows blocks old new at (Connection command) reply = connection_shown blocks old new at command reply

@@ -6,12 +6,14 @@ mod deadlines;
 mod edit;
 mod kind;
 mod look;
+mod telling;
 mod value;
 
 pub use deadlines::{deadline_at, expire_sought, persist_sought, seek};
 pub use edit::{Edit, drop_sought, edit_new, edit_there};
 pub use held::{Sought, SoughtAt};
 pub use look::Look;
+pub use telling::{bytes_of, count_reply, length_of, reply_number};
 pub use value::Value;
 
 /// A store, and the databases over it.
