@@ -3,12 +3,10 @@ use Rattle.std.proofs.Common.{◌≡◌, ℕ, List, [], ◌∷◌, length, drop,
 use Rattle.std.specs.Prelude.{ℤ, ◌==◌, ◌&&◌, ◌-◌, ◌%◌, nat_le, nat_lt, if◌then◌else◌}
 use Rattle.std.specs.Result.{MatchResult, IsOkAnd}
 use Rattle.plain_world.specs.Words.{Words}
-use Rattle.plain_model.specs.Shapes.{Kind, Plain, Whole, Amount, told, AllTold, all_told, and_then, fixed, repeated, with_options, NamedOption, options_read}
+use Rattle.plain_model.specs.Shapes.{Kind, Plain, Whole, Amount, told, AllTold, all_told, and_then, fixed, repeated, with_amount, with_options, NamedOption, options_read}
 use Rattle.plain_model.specs.KeyWords.{expire_words, expire_of, clash, expire_options, no_expire_options}
 use Rattle.plain_model.specs.declared.command.Command.{Command}
-use Rattle.plain_model.specs.declared.command.Command.TheVariants.{Lists, Keys}
-use Rattle.plain_model.specs.declared.list_command.ListCommand.{ListCommand}
-use Rattle.plain_model.specs.ListWords.{pop_words}
+use Rattle.plain_model.specs.declared.command.Command.TheVariants.{Keys}
 use Rattle.plain_model.specs.declared.keys.KeyCommand.{KeyCommand}
 use Rattle.plain_model.specs.declared.keys.ExpireOptions.{ExpireOptions}
 use Rattle.plain_world.specs.declared.refusal.Refusal.{Refusal}
@@ -170,23 +168,23 @@ module _ {L C : Type 0} (family : C → Command) (size : ℕ) (own : Words → L
       subst (λ r. ReadsAs family r answer) (sym (keyed_then (drop 1 words))) (kept family (λ (parts : List ℕ × L). make parts.0 parts.1) (λ parts. keeps parts.0 parts.1) (repeated (Plain ∷ []) size (λ a w. Ok (a.0, own w)) (drop 1 words)) first answer h m)
 
 -- a key, and a number or none
-module _ (make : List ℕ → Option ℕ → ListCommand) where
-  abbrev popping : List ℕ × Option ℕ → Result ListCommand Refusal
+module _ {C : Type 0} (family : C → Command) (make : List ℕ → Option ℕ → C) where
+  abbrev popping : List ℕ × Option ℕ → Result C Refusal
   popping parts = Ok (make parts.0 parts.1)
 
   pop_told : (key : List ℕ) (r : Result ℕ Refusal) → and_then r (λ a. Ok (make key (Some a))) ≡ and_then (and_then r (λ a. Ok (key, Some a))) popping
   pop_told key (Ok n) = refl
   pop_told key (Err refusal) = refl
 
-  pop_then : (words : Words) → pop_words make words ≡ and_then (one_and_amount words) popping
+  pop_then : (words : Words) → with_amount make words ≡ and_then (one_and_amount words) popping
   pop_then [] = refl
   pop_then (key ∷ []) = refl
   pop_then (key ∷ n ∷ []) = pop_told key (told Amount n)
   pop_then (key ∷ n ∷ more ∷ words) = refl
 
-  pub popped_made : (words : Words) (first : Result (List ℕ × Option ℕ) ReadingFault) (answer : Result ListCommand ReadingFault) → Tells (one_and_amount (drop 1 words)) first → MatchResult first (λ a. IsOkAnd answer (λ b. b ≡ make a.0 a.1)) (λ e. answer ≡ Err e) → ReadsAs Lists (and_then (pop_words make (drop 1 words)) (λ c. Ok (Lists c))) answer
+  pub popped_made : (words : Words) (first : Result (List ℕ × Option ℕ) ReadingFault) (answer : Result C ReadingFault) → Tells (one_and_amount (drop 1 words)) first → MatchResult first (λ a. IsOkAnd answer (λ b. b ≡ make a.0 a.1)) (λ e. answer ≡ Err e) → ReadsAs family (and_then (with_amount make (drop 1 words)) (λ c. Ok (family c))) answer
   popped_made words first answer h m =
-      subst (λ r. ReadsAs Lists (and_then r (λ c. Ok (Lists c))) answer) (sym (pop_then (drop 1 words))) (made Lists (λ (a : List ℕ × Option ℕ). a) popping (λ a. make a.0 a.1) (λ a. refl) (one_and_amount (drop 1 words)) first answer h m)
+      subst (λ r. ReadsAs family (and_then r (λ c. Ok (family c))) answer) (sym (pop_then (drop 1 words))) (made family (λ (a : List ℕ × Option ℕ). a) popping (λ a. make a.0 a.1) (λ a. refl) (one_and_amount (drop 1 words)) first answer h m)
 
 -- a command that its own reader made of the words
 pub lifted : {C : Type 0} (family : C → Command) (means : Result C Refusal) (answer : Result C ReadingFault) → Tells means answer → ReadsAs family (and_then means (λ command. Ok (family command))) answer

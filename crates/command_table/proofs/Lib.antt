@@ -4,3 +4,6 @@ pub mod Shapes
 pub mod Arms
 pub mod Names
 pub mod OptionWords
+pub mod ScoreTexts
+pub mod AddWords
+pub mod RangeWords

@@ -89,23 +89,31 @@ finds rows word answer table e =
     let C : ℕ → Type 0 = λ n. covered n names (map (λ row. in_lower_case row.0.now) rows) ≡ true in
     subst (Finds word) (sym e) (finds_all rows word (found_in rows word) (subst C lengths table.whole) (finds_in rows word (each_row rows table.right)))
 
--- all names have between 3 and 11 bytes
-abbrev are_between : List (List ℕ) → Bool
-are_between [] = true
-are_between (n ∷ ns) = nat_le 3 (length n) && (nat_le (length n) 11 && are_between ns)
+-- a name has one of these lengths
+abbrev is_length : ℕ → Bool
+is_length n =
+    (n == 3) || ((n == 4) || ((n == 5) || ((n == 6) || ((n == 7) || ((n == 8) || ((n == 9) || ((n == 10) || ((n == 11) || ((n == 13) || ((n == 15) || (n == 16)))))))))))
 
-none_covered : (len : ℕ) → ((n : ℕ) → 3 ≤ n → n ≤ 11 → n ≢ len) → (ns : List (List ℕ)) → are_between ns ≡ true → covered len ns [] ≡ true
+abbrev are_lengths : List (List ℕ) → Bool
+are_lengths [] = true
+are_lengths (n ∷ ns) = is_length (length n) && are_lengths ns
+
+none_covered : (len : ℕ) → is_length len ≡ false → (ns : List (List ℕ)) → are_lengths ns ≡ true → covered len ns [] ≡ true
 none_covered len h [] e = refl
 none_covered len h (n ∷ ns) e =
-    let low = both (nat_le 3 (length n)) (nat_le (length n) 11 && are_between ns) e in
-    let high = both (nat_le (length n) 11) (are_between ns) low.1 in
-    let other : (length n == len) ≡ false = ne_eqb (length n) len (h (length n) (leb-true 3 (length n) low.0) (leb-true (length n) 11 high.0)) in
-    ap (λ b. (if b then false else true) && covered len ns []) other ∙ none_covered len h ns high.1
+    let parts = both (is_length (length n)) (are_lengths ns) e in
+    let differs : length n ≢ len = λ same. cc (sym parts.0 ∙ ap is_length same ∙ h) in
+    let other : (length n == len) ≡ false = ne_eqb (length n) len differs in
+    ap (λ b. (if b then false else true) && covered len ns []) other ∙ none_covered len h ns parts.1
+
+no_length : (n : ℕ) → n ≢ 3 → n ≢ 4 → n ≢ 5 → n ≢ 6 → n ≢ 7 → n ≢ 8 → n ≢ 9 → n ≢ 10 → n ≢ 11 → n ≢ 13 → n ≢ 15 → n ≢ 16 → is_length n ≡ false
+no_length n n3 n4 n5 n6 n7 n8 n9 n10 n11 n13 n15 n16 =
+    rw (ne_eqb n 3 n3, ne_eqb n 4 n4, ne_eqb n 5 n5, ne_eqb n 6 n6, ne_eqb n 7 n7, ne_eqb n 8 n8, ne_eqb n 9 n9, ne_eqb n 10 n10, ne_eqb n 11 n11, ne_eqb n 13 n13, ne_eqb n 15 n15, ne_eqb n 16 n16) refl
 
 -- a word with a length that no command's name has names none
-pub no_name : (word : List ℕ) → length word ≢ 3 → length word ≢ 4 → length word ≢ 5 → length word ≢ 6 → length word ≢ 7 → length word ≢ 8 → length word ≢ 9 → length word ≢ 10 → length word ≢ 11 → (words : Words) → meant (word ∷ words) ≡ Err UnknownCommand
-no_name word n3 n4 n5 n6 n7 n8 n9 n10 n11 words =
+pub no_name : (word : List ℕ) → length word ≢ 3 → length word ≢ 4 → length word ≢ 5 → length word ≢ 6 → length word ≢ 7 → length word ≢ 8 → length word ≢ 9 → length word ≢ 10 → length word ≢ 11 → length word ≢ 13 → length word ≢ 15 → length word ≢ 16 → (words : Words) → meant (word ∷ words) ≡ Err UnknownCommand
+no_name word n3 n4 n5 n6 n7 n8 n9 n10 n11 n13 n15 n16 words =
     let lower = in_lower_case word in
     let lengths : length lower ≡ length word = length-map word to_ascii_lowercase in
-    let others : (n : ℕ) → 3 ≤ n → n ≤ 11 → n ≢ length lower = λ n low high e. omega (arith, low, high, e, lengths, n3, n4, n5, n6, n7, n8, n9, n10, n11) in
-    unknown all_rows lower words (none_of_length lower names [] tt (none_covered (length lower) others names refl))
+    let none : is_length (length lower) ≡ false = ap is_length lengths ∙ no_length (length word) n3 n4 n5 n6 n7 n8 n9 n10 n11 n13 n15 n16 in
+    unknown all_rows lower words (none_of_length lower names [] tt (none_covered (length lower) none names refl))

@@ -17,7 +17,7 @@ pub number_told : (word : List ℕ) (n : ℤ) → FitsSigned w64 n → word ≡ 
 number_told word n fits e = ap whole (reads_number_of word (Some n) ((fits, e), tt))
 
 -- what the definition's test of digits tells
-abbrev digits : IsNumeralModel (λ ds. all_ascii_digits ds ≡ true) (digits_value 10)
+abbrev pub digits : IsNumeralModel (λ ds. all_ascii_digits ds ≡ true) (digits_value 10)
 digits = numerals_by_value (λ ds. all_ascii_digits ds ≡ true) tells_all_ascii_digits
 
 -- the definition's test of a cursor is true of just the digits of a number of 64 bits

@@ -1,20 +1,28 @@
 -- What is read of words.
-use Rattle.std.specs.Prelude.{◌≡◌, ℕ, List, [], ◌∷◌, length, drop, slice_index_or, codes, nat_le, Option, Bool, true, false}
+use Rattle.std.specs.Prelude.{◌≡◌, ℕ, List, [], ◌∷◌, length, take, drop, ℤ, slice_index_or, codes, nat_le, Option, Bool, true, false}
 use Rattle.std.specs.Prelude.{Some, None, Result, Ok, Err, if◌then◌else◌}
 use Rattle.std.specs.Result.{IsOkAnd}
 use Rattle.plain_world.specs.Words.{Words, in_lower_case}
-use Rattle.plain_model.specs.Shapes.{Kind, Plain, Whole, Span, Amount, Told, told, AllTold, all_told, and_then, fixed, repeated, with_options, NamedOption, option_of}
+use Rattle.plain_model.specs.Shapes.{Kind, Plain, Whole, Span, Amount, Told, told, score, AllTold, all_told, and_then, fixed, repeated, with_options, NamedOption, option_of, options_read}
 use Rattle.plain_model.specs.Meant.{meant}
 use Rattle.plain_model.specs.StringWords.{pairs_of, time_options, set_options, getex_options}
 use Rattle.plain_model.specs.declared.command.Command.{Command}
-use Rattle.plain_model.specs.declared.command.Command.TheVariants.{Strings, Lists, Sets, Hashes, Keys}
+use Rattle.plain_model.specs.declared.command.Command.TheVariants.{Strings, Lists, Sets, Hashes, Zsets, Keys}
 use Rattle.plain_model.specs.declared.set_command.SetCommand.TheVariants as sets
 use Rattle.plain_model.specs.declared.hash_command.HashCommand.TheVariants as hashes
+use Rattle.plain_model.specs.declared.zset_command.ZsetCommand.TheVariants as zsets
 use Rattle.plain_model.specs.declared.list_command.ListCommand.TheVariants as lists
 use Rattle.plain_model.specs.declared.command.StringCommand.TheVariants as strings
 use Rattle.plain_model.specs.declared.keys.KeyCommand.TheVariants as keys
 use Rattle.plain_model.specs.KeyWords.{expire_options, no_expire_options, clash}
 use Rattle.plain_model.specs.declared.keys.ExpireOptions.{ExpireOptions}
+use Rattle.plain_model.specs.ScoreTexts.{score_of}
+use Rattle.plain_model.specs.declared.zset_command.ScoreBound.{ScoreBound}
+use Rattle.plain_model.specs.declared.zset_command.ScoreBound.TheVariants.{Including}
+use Rattle.plain_model.specs.declared.zset_command.Limit.{Limit}
+use Rattle.plain_model.specs.declared.zset_command.ZsetCommand.{ZsetCommand}
+use Rattle.plain_model.specs.declared.zset_command.AddOptions.{AddOptions}
+use Rattle.plain_model.specs.ZsetWords.{add_options, no_add_options, options_in_front, scores_read, add_of, add_words}
 use Rattle.plain_model.specs.declared.times.Time.{Time}
 use Rattle.plain_model.specs.declared.times.TimeUnit.{TimeUnit}
 use Rattle.plain_model.specs.declared.times.TimeUnit.TheVariants.{Seconds, Milliseconds}
@@ -84,6 +92,17 @@ abbrev pub own_word : (kind : Kind) → Words → Result (Told kind) Refusal
 own_word kind words =
     if nat_le 1 (length words) then and_then (all_told (kind ∷ []) words) (λ own. Ok own.0) else Err Syntax
 
+-- a text as a score that is in a range
+abbrev pub included : List ℕ → Result ScoreBound Refusal
+included text = and_then (score (score_of text)) (λ n. Ok (Including n))
+
+-- the two numbers of LIMIT, which stand first
+abbrev pub own_limit : Words → Result Limit Refusal
+own_limit words =
+    if nat_le 2 (length words)
+    then and_then (all_told (Whole ∷ Whole ∷ []) words) (λ own. Ok (record { offset = own.0; count = own.1.0 }))
+    else Err Syntax
+
 -- the time of an option
 abbrev pub own_time : TimeUnit → TimeOrigin → Words → Result Time Refusal
 own_time unit from words = and_then (own_word Span words) (λ n. Ok (record { unit = unit; from = from; n = n }))
@@ -137,6 +156,9 @@ keeps_list (Hashes (hashes.HSet key own)) = true
 keeps_list (Hashes (hashes.HMSet key own)) = true
 keeps_list (Hashes (hashes.HMGet key own)) = true
 keeps_list (Hashes (hashes.HDel key own)) = true
+keeps_list (Zsets (zsets.ZAdd key rules ch own)) = true
+keeps_list (Zsets (zsets.ZRem key own)) = true
+keeps_list (Zsets (zsets.ZMScore key own)) = true
 keeps_list (Keys (keys.Del words)) = true
 keeps_list (Keys (keys.Unlink words)) = true
 keeps_list (Keys (keys.Exists words)) = true
@@ -153,3 +175,31 @@ ReadsAs family means (Err Memory) = IsOkAnd means (λ command. keeps_list comman
 -- the same of a command of any family, by all words of the request
 abbrev pub ReadsCommand : Words → Result Command ReadingFault → Type 0
 ReadsCommand words answer = ReadsAs (λ command. command) (meant words) answer
+
+-- what is read of a command on sorted sets, among all commands
+abbrev pub ReadsZset : Result ZsetCommand Refusal → Result ZsetCommand ReadingFault → Type 0
+ReadsZset means answer = ReadsAs Zsets (and_then means (λ command. Ok (Zsets command))) answer
+
+-- Words mean a list, which isn't kept; or they are refused.
+abbrev pub Passes : {A : Type 0} → Result A Refusal → Result Unit ReadingFault → Type 0
+Passes {A} means (Ok done) = (list : A) × (means ≡ Ok list)
+Passes means (Err (Refused refusal)) = means ≡ Err refusal
+Passes means (Err Memory) = ⊥
+
+-- what the options of ZADD in front of these words say
+abbrev pub front_options : Words → Result AddOptions Refusal
+front_options words = options_read add_options no_add_options 0 (take (options_in_front words) words)
+
+-- what a key, these options and the scores with their members in these words are
+abbrev pub scored : List ℕ → AddOptions → Words → Result ZsetCommand Refusal
+scored key options words = and_then (scores_read words) (add_of key options)
+
+-- the options of ZRANK: WITHSCORE
+abbrev pub rank_options : List (NamedOption Bool)
+rank_options =
+    record {
+      name = codes "withscore";
+      kinds = [];
+      sets = λ own o. true;
+    }
+    ∷ []

@@ -12,13 +12,15 @@ use Rattle.command_table.specs.declared.table.SetName.{SetName}
 use Rattle.command_table.specs.declared.table.SetName.TheVariants as set
 use Rattle.command_table.specs.declared.table.HashName.{HashName}
 use Rattle.command_table.specs.declared.table.HashName.TheVariants as hash
+use Rattle.command_table.specs.declared.table.ZsetName.{ZsetName}
+use Rattle.command_table.specs.declared.table.ZsetName.TheVariants as zset
 use Rattle.command_table.specs.declared.table.KeyName.{KeyName}
 use Rattle.command_table.specs.declared.table.KeyName.TheVariants as key
 use Rattle.command_table.specs.declared.table.ConnectionName.{ConnectionName}
 use Rattle.command_table.specs.declared.table.ConnectionName.TheVariants as connection
 use Rattle.command_table.specs.declared.table.Row.{Row}
 use Rattle.command_table.specs.declared.table.Name.{Name}
-use Rattle.command_table.specs.declared.table.Name.TheVariants.{Strings, Lists, Sets, Hashes, Keys, Connection}
+use Rattle.command_table.specs.declared.table.Name.TheVariants.{Strings, Lists, Sets, Hashes, Zsets, Keys, Connection}
 
 -- the name in lower case
 abbrev pub string_name : StringName → List ℕ
@@ -65,6 +67,7 @@ set_name set.SAdd = codes "sadd"
 set_name set.SRem = codes "srem"
 set_name set.SIsMember = codes "sismember"
 set_name set.SMIsMember = codes "smismember"
+set_name set.SMembers = codes "smembers"
 set_name set.SCard = codes "scard"
 set_name set.SMove = codes "smove"
 
@@ -78,7 +81,29 @@ hash_name hash.HDel = codes "hdel"
 hash_name hash.HExists = codes "hexists"
 hash_name hash.HLen = codes "hlen"
 hash_name hash.HStrLen = codes "hstrlen"
+hash_name hash.HKeys = codes "hkeys"
+hash_name hash.HVals = codes "hvals"
+hash_name hash.HGetAll = codes "hgetall"
 hash_name hash.HIncrBy = codes "hincrby"
+
+abbrev pub zset_name : ZsetName → List ℕ
+zset_name zset.ZAdd = codes "zadd"
+zset_name zset.ZIncrBy = codes "zincrby"
+zset_name zset.ZRem = codes "zrem"
+zset_name zset.ZScore = codes "zscore"
+zset_name zset.ZMScore = codes "zmscore"
+zset_name zset.ZCard = codes "zcard"
+zset_name zset.ZCount = codes "zcount"
+zset_name zset.ZRank = codes "zrank"
+zset_name zset.ZRevRank = codes "zrevrank"
+zset_name zset.ZRange = codes "zrange"
+zset_name zset.ZRevRange = codes "zrevrange"
+zset_name zset.ZRangeByScore = codes "zrangebyscore"
+zset_name zset.ZRevRangeByScore = codes "zrevrangebyscore"
+zset_name zset.ZRemRangeByRank = codes "zremrangebyrank"
+zset_name zset.ZRemRangeByScore = codes "zremrangebyscore"
+zset_name zset.ZPopMin = codes "zpopmin"
+zset_name zset.ZPopMax = codes "zpopmax"
 
 abbrev pub key_name : KeyName → List ℕ
 key_name key.Del = codes "del"
@@ -120,6 +145,7 @@ name_of (Strings name) = string_name name
 name_of (Lists name) = list_name name
 name_of (Sets name) = set_name name
 name_of (Hashes name) = hash_name name
+name_of (Zsets name) = zset_name name
 name_of (Keys name) = key_name name
 name_of (Connection name) = connection_name name
 

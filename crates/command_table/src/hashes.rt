@@ -43,6 +43,9 @@ pub fn read_hash<'r>(
         HashName::HExists => two(request).map(|(key, field)| HashCommand::HExists(key, field)),
         HashName::HLen => one(request).map(HashCommand::HLen),
         HashName::HStrLen => two(request).map(|(key, field)| HashCommand::HStrLen(key, field)),
+        HashName::HKeys => one(request).map(HashCommand::HKeys),
+        HashName::HVals => one(request).map(HashCommand::HVals),
+        HashName::HGetAll => one(request).map(HashCommand::HGetAll),
         HashName::HIncrBy => two_and_number(request).map(|(key, field, n)| HashCommand::HIncrBy(
             key, field, n,
         )),

@@ -1,13 +1,13 @@
 //! The words behind a command's name, by their number and their kinds.
 
 ghost use Rattle.std.specs.Prelude.{◌<◌, [], ◌∷◌, length, drop, Ok};
-ghost use Rattle.plain_model.specs.Shapes.{Plain, Whole, Span, Database, OnSide, AtEnd, fixed};
+ghost use Rattle.plain_model.specs.Shapes.{Plain, Whole, Span, Database, OnSide, AtEnd, Score, Bound, fixed};
 ghost use Rattle.command_table.specs.Readings.{Gathers, Tells, TellsAs, and_options, just, one_and_amount, one_and_pairs, one_and_some, some_pairs, some_words};
 
 use crate::ReadingFault;
 use crate::options::{Options, read_options};
-use crate::words::{amount, database, end, number, plain, side, span};
-use plain_model::{ListEnd, PairList, Refusal, Side, Word, WordList};
+use crate::words::{amount, bound, database, end, number, plain, score, side, span};
+use plain_model::{ListEnd, PairList, Refusal, ScoreBound, Side, Word, WordList};
 use resp_frames::Request;
 use std::alloc::Global;
 
@@ -294,4 +294,67 @@ pub fn two_and_options<'r, O: Options<'r>>(
     }
     let options = read_options(request, none, 3)?;
     Ok((plain(request, 1), plain(request, 2), options))
+}
+
+/// Just a word, a score and a word.
+pub fn one_score_one<'r>(
+    request: &'r Request<'_>,
+) -> Result<(Word<'r>, i64, Word<'r>), ReadingFault>
+    requires { 0 < length request.now }
+    ensures { TellsAs (λ a. (a.0, (a.1, (a.2, tt)))) (just (Plain ∷ Score ∷ Plain ∷ []) request.now) result }
+{
+    if request.len() != 4 {
+        return Err(WRONG_NUMBER);
+    }
+    let n = score(request, 2)?;
+    Ok((plain(request, 1), n, plain(request, 3)))
+}
+
+/// Just a word and two ends of a range of scores.
+pub fn one_and_bounds<'r>(
+    request: &'r Request<'_>,
+) -> Result<(Word<'r>, ScoreBound, ScoreBound), ReadingFault>
+    requires { 0 < length request.now }
+    ensures { TellsAs (λ a. (a.0, (a.1, (a.2, tt)))) (just (Plain ∷ Bound ∷ Bound ∷ []) request.now) result }
+{
+    if request.len() != 4 {
+        return Err(WRONG_NUMBER);
+    }
+    let a = bound(request, 2)?;
+    let b = bound(request, 3)?;
+    Ok((plain(request, 1), a, b))
+}
+
+/// A word and two numbers, and options behind them.
+pub fn numbers_and_options<'r, O: Options<'r>>(
+    request: &'r Request<'_>,
+    none: O,
+) -> Result<(Word<'r>, i64, i64, O), ReadingFault>
+    requires { 0 < length request.now }
+    ensures { TellsAs (λ a. ((a.0, (a.1, (a.2, tt))), a.3)) (and_options (Plain ∷ Whole ∷ Whole ∷ []) O.named none request.now) result }
+{
+    if request.len() < 4 {
+        return Err(WRONG_NUMBER);
+    }
+    let a = number(request, 2)?;
+    let b = number(request, 3)?;
+    let options = read_options(request, none, 4)?;
+    Ok((plain(request, 1), a, b, options))
+}
+
+/// A word and two ends of a range of scores, and options behind them.
+pub fn bounds_and_options<'r, O: Options<'r>>(
+    request: &'r Request<'_>,
+    none: O,
+) -> Result<(Word<'r>, ScoreBound, ScoreBound, O), ReadingFault>
+    requires { 0 < length request.now }
+    ensures { TellsAs (λ a. ((a.0, (a.1, (a.2, tt))), a.3)) (and_options (Plain ∷ Bound ∷ Bound ∷ []) O.named none request.now) result }
+{
+    if request.len() < 4 {
+        return Err(WRONG_NUMBER);
+    }
+    let a = bound(request, 2)?;
+    let b = bound(request, 3)?;
+    let options = read_options(request, none, 4)?;
+    Ok((plain(request, 1), a, b, options))
 }

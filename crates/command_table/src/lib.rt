@@ -15,6 +15,9 @@ mod strings;
 mod table;
 mod times;
 mod words;
+mod zset_options;
+mod zset_scores;
+mod zsets;
 
 pub use fault::ReadingFault;
 pub use reading::read;

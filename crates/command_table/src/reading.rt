@@ -13,6 +13,7 @@ use crate::lists::read_list;
 use crate::sets::read_set;
 use crate::strings::read_string;
 use crate::table::{Name, find};
+use crate::zsets::read_zset;
 use plain_model::{Command, Refusal};
 use resp_frames::Request;
 use std::alloc::Global;
@@ -32,6 +33,7 @@ fn read_named<'r>(
         Name::Lists(name) => read_list(alloc, name, request).map(Command::Lists),
         Name::Sets(name) => read_set(alloc, name, request).map(Command::Sets),
         Name::Hashes(name) => read_hash(alloc, name, request).map(Command::Hashes),
+        Name::Zsets(name) => read_zset(alloc, name, request).map(Command::Zsets),
         Name::Keys(name) => read_key(alloc, name, request).map(Command::Keys),
         Name::Connection(name) => read_connection(name, request).map(Command::Connection),
     }

@@ -31,6 +31,7 @@ pub fn read_set<'r>(
             key,
             own,
         )| SetCommand::SMIsMember(key, own)),
+        SetName::SMembers => one(request).map(SetCommand::SMembers),
         SetName::SCard => one(request).map(SetCommand::SCard),
         SetName::SMove => three(request).map(|(from, to, member)| SetCommand::SMove(
             from, to, member,

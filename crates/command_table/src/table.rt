@@ -4,7 +4,7 @@ ghost use Rattle.std.specs.Prelude.{◌≡◌, bytes_eq, length};
 ghost use Rattle.plain_world.specs.Words.{in_lower_case};
 ghost use Rattle.command_table.specs.Rows.{found_in, Finds, IsTable};
 
-use self::Name::{Connection, Hashes, Keys, Lists, Sets, Strings};
+use self::Name::{Connection, Hashes, Keys, Lists, Sets, Strings, Zsets};
 use self::StringName::{
     Append, Decr, DecrBy, Get, GetDel, GetEx, GetRange, GetSet, Incr, IncrBy, MGet, MSet, MSetNx,
     PSetEx, Set, SetEx, SetNx, SetRange, StrLen,
@@ -63,6 +63,7 @@ pub enum SetName {
     SRem,
     SIsMember,
     SMIsMember,
+    SMembers,
     SCard,
     SMove,
 }
@@ -79,7 +80,32 @@ pub enum HashName {
     HExists,
     HLen,
     HStrLen,
+    HKeys,
+    HVals,
+    HGetAll,
     HIncrBy,
+}
+
+/// Which command on sorted sets.
+#[derive(Clone, Copy)]
+pub enum ZsetName {
+    ZAdd,
+    ZIncrBy,
+    ZRem,
+    ZScore,
+    ZMScore,
+    ZCard,
+    ZCount,
+    ZRank,
+    ZRevRank,
+    ZRange,
+    ZRevRange,
+    ZRangeByScore,
+    ZRevRangeByScore,
+    ZRemRangeByRank,
+    ZRemRangeByScore,
+    ZPopMin,
+    ZPopMax,
 }
 
 /// Which command on keys.
@@ -130,6 +156,7 @@ pub enum Name {
     Lists(ListName),
     Sets(SetName),
     Hashes(HashName),
+    Zsets(ZsetName),
     Keys(KeyName),
     Connection(ConnectionName),
 }
@@ -144,7 +171,7 @@ const OF_3: [Row; 4] = [
     Row(b"ttl", Keys(KeyName::Ttl)),
 ];
 
-const OF_4: [Row; 25] = [
+const OF_4: [Row; 27] = [
     Row(b"mget", Strings(MGet)),
     Row(b"mset", Strings(MSet)),
     Row(b"incr", Strings(Incr)),
@@ -170,9 +197,11 @@ const OF_4: [Row; 25] = [
     Row(b"hget", Hashes(HashName::HGet)),
     Row(b"hdel", Hashes(HashName::HDel)),
     Row(b"hlen", Hashes(HashName::HLen)),
+    Row(b"zadd", Zsets(ZsetName::ZAdd)),
+    Row(b"zrem", Zsets(ZsetName::ZRem)),
 ];
 
-const OF_5: [Row; 13] = [
+const OF_5: [Row; 17] = [
     Row(b"setnx", Strings(SetNx)),
     Row(b"setex", Strings(SetEx)),
     Row(b"getex", Strings(GetEx)),
@@ -186,9 +215,13 @@ const OF_5: [Row; 13] = [
     Row(b"smove", Sets(SetName::SMove)),
     Row(b"hmset", Hashes(HashName::HMSet)),
     Row(b"hmget", Hashes(HashName::HMGet)),
+    Row(b"hkeys", Hashes(HashName::HKeys)),
+    Row(b"hvals", Hashes(HashName::HVals)),
+    Row(b"zcard", Zsets(ZsetName::ZCard)),
+    Row(b"zrank", Zsets(ZsetName::ZRank)),
 ];
 
-const OF_6: [Row; 21] = [
+const OF_6: [Row; 24] = [
     Row(b"getset", Strings(GetSet)),
     Row(b"getdel", Strings(GetDel)),
     Row(b"psetex", Strings(PSetEx)),
@@ -210,9 +243,12 @@ const OF_6: [Row; 21] = [
     Row(b"lindex", Lists(ListName::LIndex)),
     Row(b"lrange", Lists(ListName::LRange)),
     Row(b"hsetnx", Hashes(HashName::HSetNx)),
+    Row(b"zscore", Zsets(ZsetName::ZScore)),
+    Row(b"zcount", Zsets(ZsetName::ZCount)),
+    Row(b"zrange", Zsets(ZsetName::ZRange)),
 ];
 
-const OF_7: [Row; 7] = [
+const OF_7: [Row; 12] = [
     Row(b"pexpire", Keys(KeyName::PExpire)),
     Row(b"persist", Keys(KeyName::Persist)),
     Row(b"flushdb", Connection(ConnectionName::FlushDb)),
@@ -220,21 +256,29 @@ const OF_7: [Row; 7] = [
     Row(b"hexists", Hashes(HashName::HExists)),
     Row(b"hstrlen", Hashes(HashName::HStrLen)),
     Row(b"hincrby", Hashes(HashName::HIncrBy)),
+    Row(b"hgetall", Hashes(HashName::HGetAll)),
+    Row(b"zincrby", Zsets(ZsetName::ZIncrBy)),
+    Row(b"zmscore", Zsets(ZsetName::ZMScore)),
+    Row(b"zpopmin", Zsets(ZsetName::ZPopMin)),
+    Row(b"zpopmax", Zsets(ZsetName::ZPopMax)),
 ];
 
-const OF_8: [Row; 5] = [
+const OF_8: [Row; 7] = [
     Row(b"getrange", Strings(GetRange)),
     Row(b"setrange", Strings(SetRange)),
     Row(b"expireat", Keys(KeyName::ExpireAt)),
     Row(b"renamenx", Keys(KeyName::RenameNx)),
     Row(b"flushall", Connection(ConnectionName::FlushAll)),
+    Row(b"smembers", Sets(SetName::SMembers)),
+    Row(b"zrevrank", Zsets(ZsetName::ZRevRank)),
 ];
 
-const OF_9: [Row; 4] = [
+const OF_9: [Row; 5] = [
     Row(b"pexpireat", Keys(KeyName::PExpireAt)),
     Row(b"randomkey", Keys(KeyName::RandomKey)),
     Row(b"rpoplpush", Lists(ListName::RPopLPush)),
     Row(b"sismember", Sets(SetName::SIsMember)),
+    Row(b"zrevrange", Zsets(ZsetName::ZRevRange)),
 ];
 
 const OF_10: [Row; 2] = [
@@ -243,6 +287,15 @@ const OF_10: [Row; 2] = [
 ];
 
 const OF_11: [Row; 1] = [Row(b"pexpiretime", Keys(KeyName::PExpireTime))];
+
+const OF_13: [Row; 1] = [Row(b"zrangebyscore", Zsets(ZsetName::ZRangeByScore))];
+
+const OF_15: [Row; 1] = [Row(b"zremrangebyrank", Zsets(ZsetName::ZRemRangeByRank))];
+
+const OF_16: [Row; 2] = [
+    Row(b"zrevrangebyscore", Zsets(ZsetName::ZRevRangeByScore)),
+    Row(b"zremrangebyscore", Zsets(ZsetName::ZRemRangeByScore)),
+];
 
 // The first row with this name.
 fn find_in(rows: &[Row], word: &[u8]) -> Option<Name>
@@ -278,6 +331,9 @@ pub fn find(word: &[u8]) -> Option<Name>
         9 => look_up(&OF_9, word),
         10 => look_up(&OF_10, word),
         11 => look_up(&OF_11, word),
+        13 => look_up(&OF_13, word),
+        15 => look_up(&OF_15, word),
+        16 => look_up(&OF_16, word),
         _ => None,
     }
 }

@@ -1,13 +1,14 @@
 //! Words of a request, one by one.
 
-ghost use Rattle.std.specs.Prelude.{◌≡◌, ◌<◌, length, bytes_eq};
+ghost use Rattle.std.specs.Prelude.{◌≡◌, ◌<◌, length, bytes_eq, Err};
 ghost use Rattle.plain_world.specs.Words.{in_lower_case};
-ghost use Rattle.plain_model.specs.Shapes.{Whole, Offset, Span, Database, Count, Steps, Cursor, Amount, Rank, OnSide, AtEnd, told};
-ghost use Rattle.command_table.specs.Readings.{Tells, at};
+ghost use Rattle.plain_model.specs.Shapes.{Whole, Offset, Span, Database, Count, Steps, Cursor, Amount, Rank, OnSide, AtEnd, Score, Bound, score, score_bound, told};
+ghost use Rattle.plain_model.specs.ScoreTexts.{score_of};
+ghost use Rattle.command_table.specs.Readings.{Tells, at, included};
 
 use crate::ReadingFault;
-use int_text::{read_i64, read_u64};
-use plain_model::{ListEnd, Refusal, Side, Word};
+use int_text::{ScoreFault, read_i64, read_score, read_u64};
+use plain_model::{ListEnd, Refusal, ScoreBound, Side, Word};
 use resp_frames::Request;
 
 /// Whether a word is this name, whatever the case of either.
@@ -159,4 +160,69 @@ pub fn end(request: &Request<'_>, index: usize) -> Result<ListEnd, ReadingFault>
         return Ok(ListEnd::Tail);
     }
     Err(ReadingFault::Refused(Refusal::Syntax))
+}
+
+// Why a text is refused that is no score.
+fn no_score(fault: ScoreFault) -> Refusal
+    ensures { score (Err fault) ≡ Err result }
+{
+    match fault {
+        ScoreFault::Malformed => Refusal::NotAScore,
+        ScoreFault::NotWhole => Refusal::NotAWholeScore,
+        ScoreFault::TooLarge => Refusal::NotAWholeScore,
+    }
+}
+
+// A text as a score.
+fn score_text(text: &[u8]) -> Result<i64, ReadingFault>
+    ensures { Tells (score (score_of text.now)) result }
+{
+    match read_score(text) {
+        Ok(n) => Ok(n),
+        Err(fault) => Err(ReadingFault::Refused(no_score(fault))),
+    }
+}
+
+/// A word as a score.
+pub fn score(request: &Request<'_>, index: usize) -> Result<i64, ReadingFault>
+    requires { index < length request.now }
+    ensures { Tells (told Score (at request.now index)) result }
+{
+    score_text(request.word(index))
+}
+
+// A text as a score that is in the range.
+fn score_included(text: &[u8]) -> Result<ScoreBound, ReadingFault>
+    ensures { Tells (included text.now) result }
+{
+    let n = score_text(text)?;
+    Ok(ScoreBound::Including(n))
+}
+
+// A text as an end of a range: behind `(` a score that is left out, else one that is in the range.
+fn score_bound(text: &[u8]) -> Result<ScoreBound, ReadingFault>
+    ensures { Tells (score_bound text.now) result }
+{
+    match text {
+        [b'(', behind @ ..] => {
+            let n = score_text(behind)?;
+            Ok(ScoreBound::Excluding(n))
+        }
+        _ => score_included(text),
+    }
+}
+
+/// A word as an end of a range of scores: an infinity, or a score that may stand behind a `(`.
+pub fn bound(request: &Request<'_>, index: usize) -> Result<ScoreBound, ReadingFault>
+    requires { index < length request.now }
+    ensures { Tells (told Bound (at request.now index)) result }
+{
+    let word = request.word(index);
+    if is_word(word, b"-inf") {
+        return Ok(ScoreBound::Lowest);
+    }
+    if is_word(word, b"inf") || is_word(word, b"+inf") {
+        return Ok(ScoreBound::Highest);
+    }
+    score_bound(word)
 }

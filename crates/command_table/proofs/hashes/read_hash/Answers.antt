@@ -33,5 +33,14 @@ returns-in-HLen c = rw c.in-HLen.is (fixed_made Hashes (Plain ∷ []) (λ a. (a,
 pub returns-in-HStrLen : goal.returns-in-HStrLen
 returns-in-HStrLen c = rw c.in-HStrLen.is (fixed_made Hashes (Plain ∷ Plain ∷ []) (λ a. (a.0, (a.1, tt))) (λ a. Ok (hashes.HStrLen a.0 a.1.0)) (λ a. hashes.HStrLen a.0 a.1) (λ a. refl) c.args.request.now c.two-in-HStrLen.result _ c.two-in-HStrLen.ensures (search rules))
 
+pub returns-in-HKeys : goal.returns-in-HKeys
+returns-in-HKeys c = rw c.in-HKeys.is (fixed_made Hashes (Plain ∷ []) (λ a. (a, tt)) (λ a. Ok (hashes.HKeys a.0)) hashes.HKeys (λ a. refl) c.args.request.now c.one-in-HKeys.result _ c.one-in-HKeys.ensures (search rules))
+
+pub returns-in-HVals : goal.returns-in-HVals
+returns-in-HVals c = rw c.in-HVals.is (fixed_made Hashes (Plain ∷ []) (λ a. (a, tt)) (λ a. Ok (hashes.HVals a.0)) hashes.HVals (λ a. refl) c.args.request.now c.one-in-HVals.result _ c.one-in-HVals.ensures (search rules))
+
+pub returns-in-HGetAll : goal.returns-in-HGetAll
+returns-in-HGetAll c = rw c.in-HGetAll.is (fixed_made Hashes (Plain ∷ []) (λ a. (a, tt)) (λ a. Ok (hashes.HGetAll a.0)) hashes.HGetAll (λ a. refl) c.args.request.now c.one-in-HGetAll.result _ c.one-in-HGetAll.ensures (search rules))
+
 pub returns-in-HIncrBy : goal.returns-in-HIncrBy
 returns-in-HIncrBy c = rw c.in-HIncrBy.is (fixed_made Hashes (Plain ∷ Plain ∷ Whole ∷ []) (λ a. (a.0, (a.1, (a.2, tt)))) (λ a. Ok (hashes.HIncrBy a.0 a.1.0 a.1.1.0)) (λ a. hashes.HIncrBy a.0 a.1 a.2) (λ a. refl) c.args.request.now c.two_and_number.result _ c.two_and_number.ensures (search rules))

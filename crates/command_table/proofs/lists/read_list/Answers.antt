@@ -19,10 +19,10 @@ pub returns-in-RPushX : goal.returns-in-RPushX
 returns-in-RPushX c = rw c.in-RPushX.is (keyed_made Lists 1 (λ w. w) lists.RPushX (λ key elements. refl) c.args.request.now c.one_and_words-in-RPushX.result _ c.one_and_words-in-RPushX.ensures (search rules))
 
 pub returns-in-LPop : goal.returns-in-LPop
-returns-in-LPop c = rw c.in-LPop.is (popped_made lists.LPop c.args.request.now c.one_and_perhaps.result _ c.one_and_perhaps.ensures (search rules))
+returns-in-LPop c = rw c.in-LPop.is (popped_made Lists lists.LPop c.args.request.now c.one_and_perhaps.result _ c.one_and_perhaps.ensures (search rules))
 
 pub returns-in-RPop : goal.returns-in-RPop
-returns-in-RPop c = rw c.in-RPop.is (popped_made lists.RPop c.args.request.now c.one_and_perhaps-in-RPop.result _ c.one_and_perhaps-in-RPop.ensures (search rules))
+returns-in-RPop c = rw c.in-RPop.is (popped_made Lists lists.RPop c.args.request.now c.one_and_perhaps-in-RPop.result _ c.one_and_perhaps-in-RPop.ensures (search rules))
 
 pub returns-in-LLen : goal.returns-in-LLen
 returns-in-LLen c = rw c.in-LLen.is (fixed_made Lists (Plain ∷ []) (λ a. (a, tt)) (λ a. Ok (lists.LLen a.0)) lists.LLen (λ a. refl) c.args.request.now c.one.result _ c.one.ensures (search rules))

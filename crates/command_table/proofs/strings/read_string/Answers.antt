@@ -32,3 +32,6 @@ returns-in-GetSet c = rw c.in-GetSet.is (fixed_made Strings (Plain ∷ Plain ∷
 
 pub returns-in-Append : goal.returns-in-Append
 returns-in-Append c = rw c.in-Append.is (fixed_made Strings (Plain ∷ Plain ∷ []) (λ a. (a.0, (a.1, tt))) (λ a. Ok (strings.Append a.0 a.1.0)) (λ a. strings.Append a.0 a.1) (λ a. refl) c.args.request.now c.two-in-Append.result _ c.two-in-Append.ensures (search rules))
+
+pub returns-in-IncrBy : goal.returns-in-IncrBy
+returns-in-IncrBy c = rw c.in-IncrBy.is (fixed_made Strings (Plain ∷ Whole ∷ []) (λ a. (a.0, (a.1, tt))) (λ a. Ok (strings.IncrBy a.0 a.1.0)) (λ a. strings.IncrBy a.0 a.1) (λ a. refl) c.args.request.now c.one_and_number.result _ c.one_and_number.ensures (search rules))

@@ -1,0 +1,174 @@
+//! The words of commands on sorted sets.
+
+ghost use Rattle.std.specs.Prelude.{◌≡◌, ◌<◌, ◌∷◌, length, drop};
+ghost use Rattle.plain_model.specs.Meant.{meant};
+ghost use Rattle.plain_model.specs.ZsetWords.{asks_scores, no_rules, range_words, score_range_of};
+ghost use Rattle.plain_model.specs.declared.command.Command.TheVariants as commands;
+ghost use Rattle.command_table.specs.Readings.{ReadsAs, Tells};
+ghost use Rattle.command_table.specs.Rows.{zset_name};
+
+use crate::ReadingFault;
+use crate::kinds::{
+    bounds_and_options, numbers_and_options, one, one_and_bounds, one_and_numbers, one_and_perhaps,
+    one_and_words, one_score_one, two, two_and_options,
+};
+use crate::table::ZsetName;
+use crate::words::is_word;
+use crate::zset_options::{OfRanks, OfScores, no_range_options};
+use crate::zset_scores::add;
+use plain_model::{Direction, RangeOptions, Refusal, ScoreBound, ScoreRules, Word, ZsetCommand};
+use resp_frames::Request;
+use std::alloc::Global;
+
+// Every score is written.
+fn no_rules() -> ScoreRules
+    ensures { result ≡ no_rules }
+{
+    ScoreRules {
+        nx: false,
+        xx: false,
+        gt: false,
+        lt: false,
+    }
+}
+
+// Whether BYSCORE stands among the words from a place on.
+fn asks_scores(request: &Request<'_>, from: usize) -> bool
+    ensures { result ≡ asks_scores (drop from request.now) }
+{
+    for index in from..request.len() {
+        if is_word(request.word(index), b"byscore") {
+            return true;
+        }
+    }
+    false
+}
+
+// A range of scores. From the highest score on the greater bound stands first.
+fn score_range<'r>(
+    key: Word<'r>,
+    a: ScoreBound,
+    b: ScoreBound,
+    rev: bool,
+    options: RangeOptions,
+) -> ZsetCommand<'r>
+    ensures { result ≡ score_range_of key.entry a b rev options }
+{
+    if rev {
+        return ZsetCommand::ZRangeByScore(
+            key,
+            b,
+            a,
+            Direction::Falling,
+            options.limit,
+            options.with_scores,
+        );
+    }
+    ZsetCommand::ZRangeByScore(
+        key,
+        a,
+        b,
+        Direction::Rising,
+        options.limit,
+        options.with_scores,
+    )
+}
+
+// ZRANGE: two ranks, or two bounds where BYSCORE stands behind them, and options.
+fn range<'r>(request: &'r Request<'_>) -> Result<ZsetCommand<'r>, ReadingFault>
+    requires { 0 < length request.now }
+    ensures { Tells (range_words (drop 1 request.now)) result }
+{
+    if asks_scores(request, 4) {
+        let (key, a, b, options) = bounds_and_options(request, no_range_options())?;
+        return Ok(score_range(key, a, b, options.rev, options));
+    }
+    let (key, a, b, options) = numbers_and_options(request, no_range_options())?;
+    if options.limit.is_some() {
+        return Err(ReadingFault::Refused(Refusal::Syntax));
+    }
+    let from = if options.rev {
+        Direction::Falling
+    } else {
+        Direction::Rising
+    };
+    Ok(ZsetCommand::ZRange(key, a, b, from, options.with_scores))
+}
+
+/// Turns the words behind the name of a command on sorted sets into it.
+#[tactic(auto, using(crate::proofs::Arms::fixed_made, crate::proofs::Arms::keyed_made, crate::proofs::Arms::popped_made, crate::proofs::Arms::lifted))]
+pub fn read_zset<'r>(
+    alloc: Global,
+    name: ZsetName,
+    request: &'r Request<'_>,
+) -> Result<ZsetCommand<'r>, ReadingFault>
+    requires { 0 < length request.now }
+    ensures { ReadsAs commands.Zsets (meant (zset_name name ∷ drop 1 request.now)) result }
+{
+    match name {
+        ZsetName::ZAdd => add(alloc, request),
+        ZsetName::ZIncrBy => one_score_one(request).map(|(key, n, member)| ZsetCommand::ZIncr(
+            key,
+            no_rules(),
+            n,
+            member,
+        )),
+        ZsetName::ZRem => one_and_words(alloc, request).map(|(key, own)| ZsetCommand::ZRem(
+            key, own,
+        )),
+        ZsetName::ZScore => two(request).map(|(key, member)| ZsetCommand::ZScore(key, member)),
+        ZsetName::ZMScore => one_and_words(alloc, request).map(|(key, own)| ZsetCommand::ZMScore(
+            key, own,
+        )),
+        ZsetName::ZCard => one(request).map(ZsetCommand::ZCard),
+        ZsetName::ZCount => one_and_bounds(request).map(|(key, a, b)| ZsetCommand::ZCount(
+            key, a, b,
+        )),
+        ZsetName::ZRank => two_and_options(request, false).map(|(
+            key,
+            member,
+            with_score,
+        )| ZsetCommand::ZRank(key, member, Direction::Rising, with_score)),
+        ZsetName::ZRevRank => two_and_options(request, false).map(|(
+            key,
+            member,
+            with_score,
+        )| ZsetCommand::ZRank(key, member, Direction::Falling, with_score)),
+        ZsetName::ZRange => range(request),
+        ZsetName::ZRevRange => numbers_and_options(request, OfRanks(no_range_options())).map(|(
+            key,
+            a,
+            b,
+            options,
+        )| ZsetCommand::ZRange(key, a, b, Direction::Falling, options.0.with_scores)),
+        ZsetName::ZRangeByScore => bounds_and_options(request, OfScores(no_range_options())).map(|(
+            key,
+            a,
+            b,
+            options,
+        )| score_range(key, a, b, false, options.0)),
+        ZsetName::ZRevRangeByScore => bounds_and_options(request, OfScores(no_range_options())).map(
+            |(key, a, b, options)| score_range(key, a, b, true, options.0),
+        ),
+        ZsetName::ZRemRangeByRank => one_and_numbers(request).map(|(
+            key,
+            a,
+            b,
+        )| ZsetCommand::ZRemRangeByRank(key, a, b)),
+        ZsetName::ZRemRangeByScore => one_and_bounds(request).map(|(
+            key,
+            a,
+            b,
+        )| ZsetCommand::ZRemRangeByScore(key, a, b)),
+        ZsetName::ZPopMin => one_and_perhaps(request).map(|(key, n)| ZsetCommand::ZPop(
+            key,
+            Direction::Rising,
+            n,
+        )),
+        ZsetName::ZPopMax => one_and_perhaps(request).map(|(key, n)| ZsetCommand::ZPop(
+            key,
+            Direction::Falling,
+            n,
+        )),
+    }
+}
