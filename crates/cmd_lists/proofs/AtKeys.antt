@@ -27,7 +27,7 @@ use Rattle.keyspace.specs.Edits.{Shape, shape, Edits, MakesNew}
 use Rattle.keyspace.proofs.Running.{held_then}
 use Rattle.cmd_lists.specs.Changed.{HasList, ListItem, IsListThat, MakesList, ListChanged, Counting, keep_any}
 use Rattle.cmd_lists.proofs.Looking.{is_list}
-use Rattle.cmd_lists.proofs.Removing.{remove_put}
+use Rattle.keyspace.proofs.Absent.{remove_put}
 
 -- what owns no block in any store has no reference
 pub refs_none : (xs : List BlockRef) → Owned xs no_blocks → xs ≡ []

@@ -1,7 +1,6 @@
 pub mod Looking
 pub mod Ranges
 pub mod Places
-pub mod Removing
 pub mod AtKeys
 pub mod Ends
 pub mod Rising

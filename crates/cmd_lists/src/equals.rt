@@ -10,9 +10,8 @@ ghost use Rattle.cmd_lists.specs.Removed.{TakesOut, end_from, most_of};
 
 use crate::changing::{change_list, list_sought};
 use crate::edits::ListEdit;
-use crate::look::length_reply;
 use blocks::BlockStore;
-use keyspace::{Keyspace, Look, seek};
+use keyspace::{Keyspace, Look, count_reply, seek};
 use plain_model::{Ctx, Memory, Refusal, Reply};
 use quicklist::{End, Quick};
 
@@ -69,7 +68,7 @@ pub fn lrem<B: BlockStore>(
     let found = seek(keyspace, at, key);
     let item = match list_sought(keyspace, at, key, found) {
         Look::Other => return Reply::refused(alloc, Refusal::WrongType),
-        Look::Missing => return length_reply(alloc, 0),
+        Look::Missing => return count_reply(alloc, 0),
         Look::There(item) => item,
     };
     let remove = RemoveEqual {
@@ -79,5 +78,5 @@ pub fn lrem<B: BlockStore>(
         removed: 0,
     };
     let remove = change_list(keyspace, at, key, found.sought, Some(item), remove)?;
-    length_reply(alloc, remove.removed)
+    count_reply(alloc, remove.removed)
 }

@@ -13,10 +13,9 @@ ghost use Rattle.cmd_lists.specs.Inserted.{IsFirst, IsBeside, Inserts};
 
 use crate::changing::{change_list, list_sought};
 use crate::edits::ListEdit;
-use crate::look::length_reply;
 use crate::positions::{first_met, met_behind, there};
 use blocks::BlockStore;
-use keyspace::{Keyspace, Look, Value, seek};
+use keyspace::{Keyspace, Look, Value, count_reply, seek};
 use plain_model::{Ctx, ListEnd, Memory, Refusal, Reply, Side};
 use quicklist::{Quick, is_text};
 
@@ -113,7 +112,7 @@ pub fn linsert<B: BlockStore>(
     let found = seek(keyspace, at, key);
     let item = match list_sought(keyspace, at, key, found) {
         Look::Other => return Reply::refused(alloc, Refusal::WrongType),
-        Look::Missing => return length_reply(alloc, 0),
+        Look::Missing => return count_reply(alloc, 0),
         Look::There(item) => item,
     };
     let index = match index_at(keyspace, at, key, item, side, pivot) {
@@ -126,5 +125,5 @@ pub fn linsert<B: BlockStore>(
         length: 0,
     };
     let insert = change_list(keyspace, at, key, found.sought, Some(item), insert)?;
-    length_reply(alloc, insert.length)
+    count_reply(alloc, insert.length)
 }

@@ -1,20 +1,15 @@
 //! The list at a key.
 
-ghost use Rattle.std.specs.Prelude.{◌≡◌, [], ◌∷◌, pos, None, IfOk};
-ghost use Rattle.listpack.specs.Element.{element_text};
+ghost use Rattle.std.specs.Prelude.{◌≡◌, None};
 ghost use Rattle.plain_world.specs.Worlds.{look};
-ghost use Rattle.plain_world.specs.declared.reply.Part.TheVariants as parts;
 ghost use Rattle.keyspace.specs.Commands.{Ready, sight};
 ghost use Rattle.keyspace.specs.Looks.{IsLook};
 ghost use Rattle.cmd_lists.specs.Found.{FoundList, FoundOther};
 
 use blocks::BlockStore;
-use itoa::Buffer;
 use keyspace::{Keyspace, Look, Value};
-use listpack::Element;
-use plain_model::{Bytes, Ctx, Memory, Reply};
+use plain_model::Ctx;
 use quicklist::Quick;
-use std::alloc::{AllocError, Global};
 
 /// The list at a key.
 pub fn list_at<'a, B: BlockStore>(
@@ -32,31 +27,4 @@ pub fn list_at<'a, B: BlockStore>(
             Value::Text(_) | Value::Set(_) | Value::Hash(_) | Value::Zset(_) => Look::Other,
         },
     }
-}
-
-/// The bytes of an element, on their own.
-pub fn bytes_of(alloc: Global, element: Element<'_>) -> Result<Bytes, Memory>
-    ensures { IfOk result (λ bytes. bytes ≡ element_text element.entry) }
-{
-    match element {
-        Element::Text(text) => Bytes::new(alloc, text),
-        Element::Number(n) => Bytes::new(alloc, Buffer::new().format(n).as_bytes()),
-    }
-}
-
-/// A count or an index as a number of a reply. One past 2^63 - 1 is want of memory.
-pub fn reply_number(n: usize) -> Result<i64, Memory>
-    ensures { IfOk result (λ number. number ≡ pos n) }
-{
-    match i64::try_from(n) {
-        Ok(number) => Ok(number),
-        Err(_) => Err(AllocError),
-    }
-}
-
-/// A length as a reply.
-pub fn length_reply(alloc: Global, length: usize) -> Result<Reply, Memory>
-    ensures { IfOk result (λ reply. reply ≡ parts.Number (pos length) ∷ []) }
-{
-    Reply::number(alloc, reply_number(length)?)
 }

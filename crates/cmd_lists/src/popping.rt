@@ -16,9 +16,8 @@ ghost use Rattle.cmd_lists.specs.Popped.{Pops, PopsMany, or_null};
 
 use crate::changing::{change_list, list_sought};
 use crate::edits::ListEdit;
-use crate::look::bytes_of;
 use blocks::BlockStore;
-use keyspace::{Keyspace, Look, seek};
+use keyspace::{Keyspace, Look, bytes_of, seek};
 use plain_model::{Bytes, Ctx, ListEnd, Memory, Part, Parts, Refusal, Reply};
 use quicklist::{Cursor, Quick};
 use std::alloc::Global;

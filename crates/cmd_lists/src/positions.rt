@@ -10,9 +10,9 @@ ghost use Rattle.keyspace.specs.Commands.{Ready, sight};
 ghost use Rattle.cmd_lists.specs.Found.{Gives};
 ghost use Rattle.cmd_lists.specs.Met.{MeetsAt, IsMet, told_at_most};
 
-use crate::look::{list_at, reply_number};
+use crate::look::list_at;
 use blocks::BlockStore;
-use keyspace::{Keyspace, Look};
+use keyspace::{Keyspace, Look, reply_number};
 use plain_model::{Ctx, ListEnd, Memory, Part, Parts, PositionOptions, Refusal, Reply};
 use quicklist::{Cursor, Quick, is_text};
 use std::alloc::Global;

@@ -14,9 +14,8 @@ ghost use Rattle.cmd_lists.specs.Pushed.{Pushes};
 
 use crate::changing::{change_list, list_sought};
 use crate::edits::ListEdit;
-use crate::look::length_reply;
 use blocks::BlockStore;
-use keyspace::{Keyspace, Look, seek};
+use keyspace::{Keyspace, Look, count_reply, seek};
 use plain_model::{Ctx, ListEnd, Memory, Refusal, Reply, Word};
 use quicklist::Quick;
 
@@ -110,7 +109,7 @@ fn push_words<B: BlockStore>(
         length: 0,
     };
     let push = change_list(keyspace, at, key, found.sought, there, push)?;
-    length_reply(alloc, push.length)
+    count_reply(alloc, push.length)
 }
 
 // The same where there is a list, or else 0.
@@ -131,7 +130,7 @@ fn push_there<B: BlockStore>(
     let found = seek(keyspace, at, key);
     let item = match list_sought(keyspace, at, key, found) {
         Look::Other => return Reply::refused(alloc, Refusal::WrongType),
-        Look::Missing => return length_reply(alloc, 0),
+        Look::Missing => return count_reply(alloc, 0),
         Look::There(item) => item,
     };
     let push = Push {
@@ -140,7 +139,7 @@ fn push_there<B: BlockStore>(
         length: 0,
     };
     let push = change_list(keyspace, at, key, found.sought, Some(item), push)?;
-    length_reply(alloc, push.length)
+    count_reply(alloc, push.length)
 }
 
 /// `LPUSH key element..`: the new length.

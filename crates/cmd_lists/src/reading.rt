@@ -8,9 +8,9 @@ ghost use Rattle.plain_model.specs.declared.list_command.ListCommand.TheVariants
 ghost use Rattle.keyspace.specs.Commands.{Ready, sight};
 ghost use Rattle.cmd_lists.specs.Found.{Gives};
 
-use crate::look::{bytes_of, length_reply, list_at};
+use crate::look::list_at;
 use blocks::BlockStore;
-use keyspace::{Keyspace, Look};
+use keyspace::{Keyspace, Look, bytes_of, count_reply};
 use plain_model::{Ctx, Memory, Part, Parts, Refusal, Reply};
 use quicklist::Quick;
 use std::alloc::Global;
@@ -23,9 +23,9 @@ pub fn llen<B: BlockStore>(keyspace: &Keyspace<B>, at: &Ctx, key: &[u8]) -> Resu
 {
     let alloc = keyspace.alloc();
     match list_at(keyspace, at, key) {
-        Look::Missing => length_reply(alloc, 0),
+        Look::Missing => count_reply(alloc, 0),
         Look::Other => Reply::refused(alloc, Refusal::WrongType),
-        Look::There(list) => length_reply(alloc, list.len()),
+        Look::There(list) => count_reply(alloc, list.len()),
     }
 }
 

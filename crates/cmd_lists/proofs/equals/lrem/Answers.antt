@@ -13,7 +13,7 @@ pub returns-in-Other-clause-kept : goal.returns-in-Other-clause-kept
 returns-in-Other-clause-kept g c = unchanged g.B.BlockStore.blocks g.B.BlockStore.step (one_key c.args.at.now.db c.args.key.now) c.args.keyspace.now c.refused.result c.requires.ready.sound
 
 pub returns-in-Missing-clause-kept : goal.returns-in-Missing-clause-kept
-returns-in-Missing-clause-kept g c = unchanged g.B.BlockStore.blocks g.B.BlockStore.step (one_key c.args.at.now.db c.args.key.now) c.args.keyspace.now c.length_reply.result c.requires.ready.sound
+returns-in-Missing-clause-kept g c = unchanged g.B.BlockStore.blocks g.B.BlockStore.step (one_key c.args.at.now.db c.args.key.now) c.args.keyspace.now c.count_reply.result c.requires.ready.sound
 
 pub returns-clause-gives : goal.returns-clause-gives
 returns-clause-gives g c =
@@ -21,7 +21,7 @@ returns-clause-gives g c =
     let p = c.in_ok-remove.ensures.changed in
     let end : c.end_of.result ≡ end_from c.args.n = rw (to_z-of_z w64 c.args.n c.ranges.n) at c.end_of.ensures in
     let wanted : c.most.result ≡ most_of c.args.n = rw (to_z-of_z w64 c.args.n c.ranges.n) at c.most.ensures in
-    removed_gives world _ c.args.key.now c.args.n c.args.element.now _ p.before c.in-There.ensures.list p.now p.stands c.in-There.ensures.has (rw (end, wanted) at p.made.removes) p.world c.length_reply-2.result c.length_reply-2.ensures
+    removed_gives world _ c.args.key.now c.args.n c.args.element.now _ p.before c.in-There.ensures.list p.now p.stands c.in-There.ensures.has (rw (end, wanted) at p.made.removes) p.world c.count_reply-2.result c.count_reply-2.ensures
 
 pub returns-clause-forms : goal.returns-clause-forms
 returns-clause-forms g c =

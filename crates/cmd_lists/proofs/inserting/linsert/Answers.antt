@@ -12,7 +12,7 @@ pub returns-in-Other-clause-kept : goal.returns-in-Other-clause-kept
 returns-in-Other-clause-kept g c = unchanged g.B.BlockStore.blocks g.B.BlockStore.step (one_key c.args.at.now.db c.args.key.now) c.args.keyspace.now c.refused.result c.requires.ready.sound
 
 pub returns-in-Missing-clause-kept : goal.returns-in-Missing-clause-kept
-returns-in-Missing-clause-kept g c = unchanged g.B.BlockStore.blocks g.B.BlockStore.step (one_key c.args.at.now.db c.args.key.now) c.args.keyspace.now c.length_reply.result c.requires.ready.sound
+returns-in-Missing-clause-kept g c = unchanged g.B.BlockStore.blocks g.B.BlockStore.step (one_key c.args.at.now.db c.args.key.now) c.args.keyspace.now c.count_reply.result c.requires.ready.sound
 
 pub returns-in-None-clause-kept : goal.returns-in-None-clause-kept
 returns-in-None-clause-kept g c = unchanged g.B.BlockStore.blocks g.B.BlockStore.step (one_key c.args.at.now.db c.args.key.now) c.args.keyspace.now c.number.result c.requires.ready.sound
@@ -28,6 +28,6 @@ returns-clause-forms g c =
     let was : or_none p.before ≡ list = ap or_none (before_is world key p.before list p.stands has) in
     let found : inserted_beside c.args.side c.args.pivot.now c.args.element.now (list_at world key) ≡ Some (insert list c.in-Some.index c.args.element.now) =
     ap (inserted_beside c.args.side c.args.pivot.now c.args.element.now) (list_before world key p.before p.stands ∙ was) ∙ (c.in-Some.ensures list has).1 c.args.element.now in
-    subst (λ (o : Option Elements). IfOk c.length_reply-2.result (λ reply. Formed stores (inserted_to c.args.at.now.db world key o) c.args.keyspace.now c.change_list.new.keyspace)) (sym found)
+    subst (λ (o : Option Elements). IfOk c.count_reply-2.result (λ reply. Formed stores (inserted_to c.args.at.now.db world key o) c.args.keyspace.now c.change_list.new.keyspace)) (sym found)
     (formed_risen _ stores g.B.BlockStore.step c.args.keyspace.now c.change_list.new.keyspace c.args.at.now key p c.change_list.ensures.held (insert list c.in-Some.index c.args.element.now)
-    (p.made.is ∙ ap (λ (l : Elements). insert l c.in-Some.index c.args.element.now) was) p.made.risen c.length_reply-2.result)
+    (p.made.is ∙ ap (λ (l : Elements). insert l c.in-Some.index c.args.element.now) was) p.made.risen c.count_reply-2.result)

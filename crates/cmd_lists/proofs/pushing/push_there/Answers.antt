@@ -19,4 +19,4 @@ returns-clause-forms g c =
     (p.made.is ∙ ap (λ l. added c.args.end l c.args.words.now) (sym (list_before world c.args.key.now p.before p.stands))) (p.made.risen c.requires.some) _
 
 pub returns-in-Missing-clause-kept : goal.returns-in-Missing-clause-kept
-returns-in-Missing-clause-kept g c = unchanged g.B.BlockStore.blocks g.B.BlockStore.step (one_key c.args.at.now.db c.args.key.now) c.args.keyspace.now c.length_reply.result c.requires.ready.sound
+returns-in-Missing-clause-kept g c = unchanged g.B.BlockStore.blocks g.B.BlockStore.step (one_key c.args.at.now.db c.args.key.now) c.args.keyspace.now c.count_reply.result c.requires.ready.sound
