@@ -33,7 +33,7 @@ use Rattle.keyspace.proofs.Running.{held_then}
 use Rattle.cmd_hashes.specs.Changed.{HasHash, HashItem, IsHashThat, Made, MakesHash, HashChanged, Counting, keep_any}
 use Rattle.cmd_hashes.specs.Found.{FoundHash, FoundOther}
 use Rattle.cmd_hashes.proofs.Looking.{is_hash}
-use Rattle.cmd_hashes.proofs.Removing.{remove_put}
+use Rattle.keyspace.proofs.Absent.{remove_put}
 
 -- the form that an encoding names
 abbrev pub form_in : Form → Encoding → Form

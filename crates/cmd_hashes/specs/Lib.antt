@@ -1,3 +1,4 @@
 pub mod Found
 pub mod Changed
 pub mod Set
+pub mod Listed

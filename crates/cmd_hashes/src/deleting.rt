@@ -14,10 +14,9 @@ ghost use Rattle.cmd_hashes.specs.Set.{Unsets};
 
 use crate::changing::{change_hash, hash_sought};
 use crate::edits::HashEdit;
-use crate::look::count_reply;
 use blocks::BlockStore;
 use hash_object::Fields;
-use keyspace::{Keyspace, Look, seek};
+use keyspace::{Keyspace, Look, count_reply, seek};
 use plain_model::{Ctx, Memory, Refusal, Reply, Word};
 
 // Takes a field out, where it is there.

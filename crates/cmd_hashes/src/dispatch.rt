@@ -4,7 +4,9 @@ ghost use Rattle.plain_model.specs.Meant.{IsAsked};
 ghost use Rattle.plain_model.specs.declared.command.Command.TheVariants.{Hashes};
 ghost use Rattle.keyspace.specs.Commands.{Ready, Runs};
 
-use crate::{hdel, hexists, hget, hincrby, hlen, hmget, hmset, hset, hsetnx, hstrlen};
+use crate::{
+    hdel, hexists, hget, hgetall, hincrby, hkeys, hlen, hmget, hmset, hset, hsetnx, hstrlen, hvals,
+};
 use blocks::BlockStore;
 use keyspace::Keyspace;
 use plain_model::{Ctx, HashCommand, Memory, Reply};
@@ -35,6 +37,9 @@ pub fn run_hashes<B: BlockStore>(
         HashCommand::HExists(key, field) => hexists(keyspace, at, key.as_slice(), field.as_slice()),
         HashCommand::HLen(key) => hlen(keyspace, at, key.as_slice()),
         HashCommand::HStrLen(key, field) => hstrlen(keyspace, at, key.as_slice(), field.as_slice()),
+        HashCommand::HKeys(key) => hkeys(keyspace, at, key.as_slice()),
+        HashCommand::HVals(key) => hvals(keyspace, at, key.as_slice()),
+        HashCommand::HGetAll(key) => hgetall(keyspace, at, key.as_slice()),
         HashCommand::HIncrBy(key, field, n) => hincrby(
             keyspace,
             at,

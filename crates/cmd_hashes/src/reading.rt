@@ -9,10 +9,10 @@ ghost use Rattle.plain_model.specs.declared.hash_command.HashCommand.TheVariants
 ghost use Rattle.keyspace.specs.Commands.{Ready, sight};
 ghost use Rattle.cmd_hashes.specs.Found.{Gives, fields_in, values_of};
 
-use crate::look::{bytes_of, count_reply, hash_at, length_of};
+use crate::look::hash_at;
 use blocks::BlockStore;
 use hash_object::Fields;
-use keyspace::{Keyspace, Look};
+use keyspace::{Keyspace, Look, bytes_of, count_reply, length_of};
 use plain_model::{Ctx, Memory, Part, Parts, Refusal, Reply, Word};
 use std::alloc::Global;
 

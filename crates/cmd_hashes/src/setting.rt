@@ -17,11 +17,10 @@ ghost use Rattle.cmd_hashes.specs.Set.{IsSet, Sets};
 
 use crate::changing::{change_hash, hash_sought};
 use crate::edits::HashEdit;
-use crate::look::count_reply;
 use crate::there::has_field;
 use blocks::BlockStore;
 use hash_object::Fields;
-use keyspace::{Keyspace, Look, Sought, seek};
+use keyspace::{Keyspace, Look, Sought, count_reply, seek};
 use plain_model::{Ctx, Line, Memory, Refusal, Reply, Word};
 
 // Gives a field its value.

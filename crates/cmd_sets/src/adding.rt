@@ -14,9 +14,8 @@ ghost use Rattle.cmd_sets.specs.Found.{Gives};
 
 use crate::changing::{change_set, set_sought};
 use crate::edits::SetEdit;
-use crate::look::count_reply;
 use blocks::BlockStore;
-use keyspace::{Keyspace, Look, seek};
+use keyspace::{Keyspace, Look, count_reply, seek};
 use plain_model::{Ctx, Memory, Refusal, Reply, Word};
 use set_object::Members;
 

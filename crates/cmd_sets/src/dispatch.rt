@@ -4,7 +4,7 @@ ghost use Rattle.plain_model.specs.Meant.{IsAsked};
 ghost use Rattle.plain_model.specs.declared.command.Command.TheVariants.{Sets};
 ghost use Rattle.keyspace.specs.Commands.{Ready, Runs};
 
-use crate::{sadd, scard, sismember, smismember, smove, srem};
+use crate::{sadd, scard, sismember, smembers, smismember, smove, srem};
 use blocks::BlockStore;
 use keyspace::Keyspace;
 use plain_model::{Ctx, Memory, Reply, SetCommand};
@@ -34,6 +34,7 @@ pub fn run_sets<B: BlockStore>(
             key.as_slice(),
             own.as_slice(),
         ),
+        SetCommand::SMembers(key) => smembers(keyspace, at, key.as_slice()),
         SetCommand::SCard(key) => scard(keyspace, at, key.as_slice()),
         SetCommand::SMove(from, to, member) => smove(
             keyspace,

@@ -1,8 +1,7 @@
 //! The set at a key.
 
-ghost use Rattle.std.specs.Prelude.{◌≡◌, [], ◌∷◌, pos, None, IfOk};
+ghost use Rattle.std.specs.Prelude.{◌≡◌, None};
 ghost use Rattle.plain_world.specs.Worlds.{look};
-ghost use Rattle.plain_world.specs.declared.reply.Part.TheVariants as parts;
 ghost use Rattle.plain_model.specs.HashSteps.{one_if};
 ghost use Rattle.keyspace.specs.Commands.{Ready, sight};
 ghost use Rattle.keyspace.specs.Looks.{IsLook};
@@ -10,9 +9,8 @@ ghost use Rattle.cmd_sets.specs.Found.{FoundSet, FoundOther};
 
 use blocks::BlockStore;
 use keyspace::{Keyspace, Look, Value};
-use plain_model::{Ctx, Memory, Reply};
+use plain_model::Ctx;
 use set_object::Members;
-use std::alloc::{AllocError, Global};
 
 /// The set at a key.
 pub fn set_at<'a, B: BlockStore>(
@@ -30,23 +28,6 @@ pub fn set_at<'a, B: BlockStore>(
             Value::Text(_) | Value::List(_) | Value::Hash(_) | Value::Zset(_) => Look::Other,
         },
     }
-}
-
-/// A count as a number of a reply. One past 2^63 - 1 is want of memory.
-pub fn reply_number(n: usize) -> Result<i64, Memory>
-    ensures { IfOk result (λ number. number ≡ pos n) }
-{
-    match i64::try_from(n) {
-        Ok(number) => Ok(number),
-        Err(_) => Err(AllocError),
-    }
-}
-
-/// A count as a reply.
-pub fn count_reply(alloc: Global, count: usize) -> Result<Reply, Memory>
-    ensures { IfOk result (λ reply. reply ≡ parts.Number (pos count) ∷ []) }
-{
-    Reply::number(alloc, reply_number(count)?)
 }
 
 /// 1 where something is so, and else 0.

@@ -12,10 +12,10 @@ ghost use Rattle.cmd_sets.specs.Moves.{IsMove, IsPlan, Takes};
 
 use crate::adding::Add;
 use crate::changing::change_set;
-use crate::look::{count_reply, set_at};
+use crate::look::set_at;
 use crate::removing::Remove;
 use blocks::BlockStore;
-use keyspace::{Keyspace, Look, seek};
+use keyspace::{Keyspace, Look, count_reply, seek};
 use plain_model::{Ctx, Memory, Refusal, Reply, Word};
 
 // What `SMOVE` does.

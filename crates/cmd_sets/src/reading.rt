@@ -7,9 +7,9 @@ ghost use Rattle.plain_model.specs.declared.set_command.SetCommand.TheVariants a
 ghost use Rattle.keyspace.specs.Commands.{Ready, sight};
 ghost use Rattle.cmd_sets.specs.Found.{Gives, told_each};
 
-use crate::look::{count_reply, number_if, set_at};
+use crate::look::{number_if, set_at};
 use blocks::BlockStore;
-use keyspace::{Keyspace, Look};
+use keyspace::{Keyspace, Look, count_reply};
 use plain_model::{Ctx, Memory, Part, Parts, Refusal, Reply, Word};
 use set_object::Members;
 use std::alloc::Global;
