@@ -1,0 +1,17 @@
+pub mod Looking
+pub mod AtKeys
+pub mod Rests
+pub mod Ranked
+pub mod Told
+pub mod Placed
+pub mod Bounded
+pub mod Reaches
+pub mod Nothing
+pub mod Running
+pub mod Removed
+pub mod Telling
+pub mod Counting
+pub mod Raised
+pub mod Taking
+pub mod Dropping
+pub mod Popped

@@ -1,0 +1,13 @@
+use Rattle.std.proofs.Common.{◌≡◌, inl, inr, ap, false}
+use Rattle.cmd_zsets.proofs.Looking.{is_zset, found_other}
+use Rattle.cmd_zsets.proofs.look.zset_at.Goals as goal
+
+pub returns-in-Text : goal.returns-in-Text
+returns-in-Text g c =
+    let other : is_zset c.in-Some.value.now ≡ false = elim c.in-Text.is [
+      | inl h ↦ ap is_zset h.1
+      | inr (inl h) ↦ ap is_zset h.1
+      | inr (inr (inl h)) ↦ ap is_zset h.1
+      | inr (inr (inr h)) ↦ ap is_zset h.1
+    ] in
+    found_other _ _ c.args.at.now c.args.key.now c.in-Some.value.now other c.in-Some.ensures.found

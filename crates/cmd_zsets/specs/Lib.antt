@@ -1,0 +1,5 @@
+pub mod Found
+pub mod Spans
+pub mod Changed
+pub mod Written
+pub mod Popped

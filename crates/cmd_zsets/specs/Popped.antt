@@ -1,0 +1,29 @@
+-- Members that were taken off a sorted set in its order.
+use Rattle.std.specs.Prelude.{◌≡◌, ℕ, suc, List, ◌∷◌, length, take, drop, Option, Some, true}
+use Rattle.std.specs.FinMap.{remove}
+use Rattle.object_codec.specs.declared.form.Form.{Form}
+use Rattle.plain_world.specs.declared.reply.Part.{Part}
+use Rattle.plain_model.specs.ZsetSteps.{Scores, Scored, met, ranked, listed, members_of, without_members}
+use Rattle.plain_model.specs.declared.zset_command.Direction.{Direction}
+
+-- the member that is met at a place from an end was taken out
+pub record TakesMet (from : Direction) (place : ℕ) (old : Scores) (list : List Scored) (new : Scores) (left : List Scored)
+    : Type 0 where
+  pub taken : Scored
+  pub there : drop place (met from list) ≡ taken ∷ drop place (met from left)
+  pub is : new ≡ remove old taken.1
+  pub shorter : suc (length left) ≡ length list
+
+-- the first members that are met from an end were taken off, so many at most, and this is told of them
+pub record PopsMany (from : Direction) (n : ℕ) (told : Option (List Part)) (old : Scores) (was : Form) (new : Scores)
+    (form : Form) : Type 0 where
+  pub told_is : told ≡ Some (listed true (take n (met from (ranked old))))
+  pub is : new ≡ without_members old (members_of (take n (met from (ranked old))))
+  pub form_is : form ≡ was
+
+-- a part of the list was taken off, of so many members
+pub record DropsPart (part : List Scored → List Scored) (gone : ℕ) (old : Scores) (was : Form) (new : Scores) (form : Form)
+    : Type 0 where
+  pub is : new ≡ without_members old (members_of (part (ranked old)))
+  pub counted : gone ≡ length (part (ranked old))
+  pub form_is : form ≡ was

@@ -1,0 +1,98 @@
+//! The sorted set at a key changed, or a new one put there.
+
+ghost use Rattle.std.specs.Prelude.{◌≡◌, ℕ, [], List, None, Option, OnOk, IfOk};
+ghost use Rattle.plain_world.specs.Worlds.{look};
+ghost use Rattle.plain_model.specs.ZsetSteps.{or_no_scores, keep_zset};
+ghost use Rattle.plain_model.specs.ZsetSteps as model;
+ghost use Rattle.held.specs.Calls.{Seeks};
+ghost use Rattle.keyspace.specs.Looks.{IsLook};
+ghost use Rattle.keyspace.specs.Scopes.{one_key};
+ghost use Rattle.keyspace.specs.Seeking.{Sees};
+ghost use Rattle.keyspace.specs.Commands.{Ready, Held, sight};
+ghost use Rattle.cmd_zsets.specs.Found.{FoundOther};
+ghost use Rattle.cmd_zsets.specs.Changed.{ZsetItem, IsBefore, IsZsetThere, Counting, ZsetChanged, keep_any};
+
+use crate::edits::{OnZset, ZsetEdit};
+use blocks::BlockStore;
+use keyspace::{Keyspace, Look, Sought, SoughtAt, Value, drop_sought, edit_new, edit_there};
+use plain_model::{Ctx, Memory};
+use zset_object::Scored;
+
+/// The item number of the sorted set at a key that was sought.
+pub fn zset_sought<B: BlockStore>(
+    keyspace: &Keyspace<B>,
+    at: &Ctx,
+    key: &[u8],
+    found: SoughtAt,
+) -> Look<usize>
+    requires ready { Ready B.blocks keyspace.now at.now }
+    requires sees { Sees B.blocks keyspace.now at.now key.now found }
+    ensures { IsLook (look (sight B.blocks keyspace.now at.now) key.now ≡ None) (FoundOther (sight B.blocks keyspace.now at.now) key.now) (ZsetItem (sight B.blocks keyspace.now at.now) keyspace.now.bases (B.blocks keyspace.now.store) at.now.db key.now at.now.moment) result }
+{
+    // what was found tells the key
+    let _ = key;
+    match found.there {
+        None => Look::Missing,
+        Some(item) => {
+            let value = keyspace.value_at(at.db, item);
+            match value {
+                Value::Zset(_) => Look::There(item),
+                _ => Look::Other,
+            }
+        }
+    }
+}
+
+// Changes the sorted set at a key that was sought, or where nothing stands a new one, which is put there, also without a member.
+fn edit_zset<E: ZsetEdit, B: BlockStore>(
+    keyspace: &mut Keyspace<B>,
+    at: &Ctx,
+    key: &[u8],
+    sought: Sought,
+    there: Option<usize>,
+    on: &mut OnZset<E>,
+) -> Result<(), Memory>
+    requires ready { Ready B.blocks keyspace.old at.now }
+    requires seeks { Seeks keyspace.old.bases (B.blocks keyspace.old.store) at.now.db key.now sought }
+    requires there { IsZsetThere (sight B.blocks keyspace.old at.now) keyspace.old.bases (B.blocks keyspace.old.store) at.now.db key.now at.now.moment there }
+    requires takes { (before : Option model.Scores) → IsBefore (sight B.blocks keyspace.old at.now) key.now before → E.takes on.old.edit (or_no_scores before) }
+    ensures edited { OnOk result (ZsetChanged (Counting (E.makes on.old.edit on.new.edit) on.new.left) keep_any B.blocks keyspace.old keyspace.new at.now key.now) }
+    ensures held { Held B.blocks B.step (one_key at.now.db key.now) keyspace.old keyspace.new }
+{
+    match there {
+        None => {
+            let alloc = keyspace.alloc();
+            let zset = Scored::new(alloc, keyspace.limits(), keyspace.seed());
+            let fresh = Value::Zset(Box::new(alloc, zset)?);
+            edit_new(keyspace, at, key, sought, fresh, on)
+        }
+        Some(item) => edit_there(keyspace, at, key, item, on),
+    }
+}
+
+/// Changes the sorted set at a key that was sought, by its item number, or where nothing stands a new one, which is put there. The key
+/// is removed where no member is left. The edit is handed back.
+pub fn change_zset<E: ZsetEdit, B: BlockStore>(
+    keyspace: &mut Keyspace<B>,
+    at: &Ctx,
+    key: &[u8],
+    sought: Sought,
+    there: Option<usize>,
+    edit: E,
+) -> Result<E, Memory>
+    requires ready { Ready B.blocks keyspace.old at.now }
+    requires seeks { Seeks keyspace.old.bases (B.blocks keyspace.old.store) at.now.db key.now sought }
+    requires there { IsZsetThere (sight B.blocks keyspace.old at.now) keyspace.old.bases (B.blocks keyspace.old.store) at.now.db key.now at.now.moment there }
+    requires takes { (before : Option model.Scores) → IsBefore (sight B.blocks keyspace.old at.now) key.now before → E.takes edit (or_no_scores before) }
+    ensures changed { IfOk result (λ last. ZsetChanged (E.makes edit last) keep_zset B.blocks keyspace.old keyspace.new at.now key.now) }
+    ensures held { Held B.blocks B.step (one_key at.now.db key.now) keyspace.old keyspace.new }
+{
+    let mut on = OnZset { edit, left: 0 };
+    edit_zset(keyspace, at, key, sought, there, &mut on)?;
+    let OnZset { edit, left } = on;
+    if left > 0 {
+        return Ok(edit);
+    }
+    drop_sought(keyspace, at, key, sought.hash);
+    Ok(edit)
+}

@@ -1,0 +1,30 @@
+//! The sorted set at a key.
+
+ghost use Rattle.std.specs.Prelude.{◌≡◌, None};
+ghost use Rattle.plain_world.specs.Worlds.{look};
+ghost use Rattle.keyspace.specs.Commands.{Ready, sight};
+ghost use Rattle.keyspace.specs.Looks.{IsLook};
+ghost use Rattle.cmd_zsets.specs.Found.{FoundZset, FoundOther};
+
+use blocks::BlockStore;
+use keyspace::{Keyspace, Look, Value};
+use plain_model::Ctx;
+use zset_object::Scored;
+
+/// The sorted set at a key.
+pub fn zset_at<'a, B: BlockStore>(
+    keyspace: &'a Keyspace<B>,
+    at: &Ctx,
+    key: &[u8],
+) -> Look<&'a Scored>
+    requires ready { Ready B.blocks keyspace.now at.now }
+    ensures { IsLook (look (sight B.blocks keyspace.now at.now) key.now ≡ None) (FoundOther (sight B.blocks keyspace.now at.now) key.now) (λ scores. FoundZset (sight B.blocks keyspace.now at.now) (B.blocks keyspace.now.store) key.now scores.now) result }
+{
+    match keyspace.look(at.db, key, at.moment) {
+        None => Look::Missing,
+        Some(value) => match value {
+            Value::Zset(scores) => Look::There(scores),
+            Value::Text(_) | Value::List(_) | Value::Set(_) | Value::Hash(_) => Look::Other,
+        },
+    }
+}

@@ -1,0 +1,269 @@
+//! Commands that take members off a sorted set in its order.
+
+ghost use Rattle.std.specs.Prelude.{◌≡◌, ◌+◌, ◌<◌, ◌≤◌, [], ◌∷◌, ℤ, true, Some, IsSome, IfOk, OnOk, slice_get};
+ghost use Rattle.std.specs.FinMap.{len};
+ghost use Rattle.blocks.specs.Blocks.{Changes, Served};
+ghost use Rattle.zset_object.specs.Scored.{IsScored, KeepsSettings, scores, ranked, form_of, refs};
+ghost use Rattle.plain_world.specs.declared.reply.Part.TheVariants as parts;
+ghost use Rattle.plain_model.specs.ListSteps.{list_range};
+ghost use Rattle.plain_model.specs.ZsetSteps.{members_of, within, without_members};
+ghost use Rattle.plain_model.specs.declared.zset_command.ZsetCommand.TheVariants as zsets;
+ghost use Rattle.keyspace.specs.Scopes.{one_key};
+ghost use Rattle.keyspace.specs.Forms.{Formed, zset_form};
+ghost use Rattle.keyspace.specs.Commands.{Ready, Kept, sight};
+ghost use Rattle.cmd_zsets.specs.Found.{Gives};
+ghost use Rattle.cmd_zsets.specs.Spans.{in_span};
+ghost use Rattle.cmd_zsets.specs.Popped.{TakesMet, PopsMany, DropsPart};
+
+use crate::changing::{change_zset, zset_sought};
+use crate::edits::ZsetEdit;
+use crate::ranges::{by_rank, by_score};
+use crate::removing::take_out;
+use crate::spans::{Span, rank_met, span_reply};
+use blocks::BlockStore;
+use keyspace::{Keyspace, Look, bytes_of, count_reply, seek};
+use plain_model::{Bytes, Ctx, Direction, Memory, Part, Parts, Refusal, Reply, ScoreBound};
+use std::alloc::Global;
+use zset_object::Scored;
+
+// The bytes of the member at a rank.
+fn bytes_at<B: BlockStore>(
+    alloc: Global,
+    store: &B,
+    zset: &Scored,
+    rank: usize,
+) -> Result<Bytes, Memory>
+    requires sound { IsScored (B.blocks store.now) zset.now }
+    requires inside { rank < len (scores (B.blocks store.now) zset.now) }
+    ensures { IfOk result (λ bytes. (score : ℤ) × (slice_get (ranked (B.blocks store.now) zset.now) rank ≡ Some (score, bytes))) }
+{
+    match zset.at_rank(store, rank) {
+        None => unreachable!(),
+        Some((member, _)) => bytes_of(alloc, member),
+    }
+}
+
+// Takes out the member that is met at a place from an end.
+fn take_met<B: BlockStore>(
+    alloc: Global,
+    zset: &mut Scored,
+    store: &mut B,
+    from: Direction,
+    place: usize,
+) -> Result<(), Memory>
+    requires sound { IsScored (B.blocks store.old) zset.old }
+    requires inside { place < len (scores (B.blocks store.old) zset.old) }
+    ensures sound { IsScored (B.blocks store.new) zset.new }
+    ensures settings { KeepsSettings zset.old zset.new }
+    ensures taken { OnOk result (TakesMet from place (scores (B.blocks store.old) zset.old) (ranked (B.blocks store.old) zset.old) (scores (B.blocks store.new) zset.new) (ranked (B.blocks store.new) zset.new)) }
+    ensures form { form_of zset.new ≡ form_of zset.old }
+    ensures changes { Changes (B.blocks store.old) (B.blocks store.new) (refs zset.old) (refs zset.new) }
+    ensures served { Served B.step store.old store.new }
+{
+    let rank = rank_met(from, zset.len(), place);
+    let member = bytes_at(alloc, store, zset, rank)?;
+    take_out(zset, store, member.as_slice())
+}
+
+// Takes out the members of a span.
+fn take_span<B: BlockStore>(
+    alloc: Global,
+    zset: &mut Scored,
+    store: &mut B,
+    span: Span,
+) -> Result<(), Memory>
+    requires sound { IsScored (B.blocks store.old) zset.old }
+    requires inside { span.start + span.count ≤ len (scores (B.blocks store.old) zset.old) }
+    ensures sound { IsScored (B.blocks store.new) zset.new }
+    ensures settings { KeepsSettings zset.old zset.new }
+    ensures is { OnOk result (scores (B.blocks store.new) zset.new ≡ without_members (scores (B.blocks store.old) zset.old) (members_of (in_span span (ranked (B.blocks store.old) zset.old)))) }
+    ensures form { form_of zset.new ≡ form_of zset.old }
+    ensures changes { Changes (B.blocks store.old) (B.blocks store.new) (refs zset.old) (refs zset.new) }
+    ensures served { Served B.step store.old store.new }
+{
+    for _ in 0..span.count {
+        take_met(alloc, zset, store, span.from, span.start)?;
+    }
+    Ok(())
+}
+
+/// So many members to be taken off an end of a sorted set.
+#[derive(Drop)]
+pub struct PopMany {
+    pub from: Direction,
+    pub most: u64,
+    pub alloc: Global,
+    /// The array of the members with their scores, in the order in which they are met.
+    pub told: Option<Reply>,
+}
+
+impl ZsetEdit for PopMany {
+    ghost takes = { λ pop scores. Unit {0} };
+
+    ghost makes = { λ first last limits old from new form. PopsMany first.from first.most last.told old from new form };
+
+    fn edit_zset<B: BlockStore>(&mut self, zset: &mut Scored, store: &mut B) -> Result<(), Memory> {
+        let span = Span {
+            from: self.from,
+            start: 0,
+            count: zset.len().min(self.most as usize),
+        };
+        self.told = Some(span_reply(self.alloc, store, zset, span, true)?);
+        take_span(self.alloc, zset, store, span)
+    }
+}
+
+/// The members from index a to index b to be taken out of a sorted set, and how many they are.
+#[derive(Drop)]
+pub struct DropRanks {
+    pub a: i64,
+    pub b: i64,
+    pub alloc: Global,
+    pub gone: usize,
+}
+
+impl ZsetEdit for DropRanks {
+    ghost takes = { λ remove scores. Unit {0} };
+
+    ghost makes = { λ first last limits old from new form. DropsPart (λ list. list_range list first.a first.b) last.gone old from new form };
+
+    fn edit_zset<B: BlockStore>(&mut self, zset: &mut Scored, store: &mut B) -> Result<(), Memory> {
+        let span = by_rank(zset.len(), Direction::Rising, self.a, self.b);
+        self.gone = span.count;
+        take_span(self.alloc, zset, store, span)
+    }
+}
+
+/// The members whose scores are within bounds to be taken out of a sorted set, and how many they are.
+#[derive(Drop)]
+pub struct DropScores {
+    pub min: ScoreBound,
+    pub max: ScoreBound,
+    pub alloc: Global,
+    pub gone: usize,
+}
+
+impl ZsetEdit for DropScores {
+    ghost takes = { λ remove scores. Unit {0} };
+
+    ghost makes = { λ first last limits old from new form. DropsPart (within first.min first.max) last.gone old from new form };
+
+    fn edit_zset<B: BlockStore>(&mut self, zset: &mut Scored, store: &mut B) -> Result<(), Memory> {
+        let span = by_score(store, zset, self.min, self.max, Direction::Rising);
+        self.gone = span.count;
+        take_span(self.alloc, zset, store, span)
+    }
+}
+
+// The empty array as a reply.
+fn empty_array(alloc: Global) -> Result<Reply, Memory>
+    ensures { IfOk result (λ reply. reply ≡ parts.Array 0 ∷ []) }
+{
+    let mut parts = Parts::new(alloc);
+    parts.push(Part::Array(0))?;
+    Ok(parts.into_reply())
+}
+
+// What was told, which is there.
+fn reply_of(told: Option<Reply>) -> Result<Reply, Memory>
+    requires { IsSome told }
+    ensures { IfOk result (λ reply. told ≡ Some reply) }
+{
+    match told {
+        None => unreachable!(),
+        Some(reply) => Ok(reply),
+    }
+}
+
+/// `ZPOPMIN key [n]` and ZPOPMAX: an array of the members that were taken off an end, each followed by its score.
+#[tactic(auto, using(crate::proofs::Looking::refused_other))]
+pub fn zpop<B: BlockStore>(
+    keyspace: &mut Keyspace<B>,
+    at: &Ctx,
+    key: &[u8],
+    from: Direction,
+    most: Option<u64>,
+) -> Result<Reply, Memory>
+    requires ready { Ready B.blocks keyspace.old at.now }
+    ensures gives { Gives B.blocks keyspace.old keyspace.new at.now (zsets.ZPop key.now from most) result }
+    ensures kept { Kept B.blocks B.step (one_key at.now.db key.now) keyspace.old keyspace.new result }
+    ensures forms { IfOk result (λ reply. Formed B.blocks (zset_form at.now.db (sight B.blocks keyspace.old at.now) (zsets.ZPop key.now from most)) keyspace.old keyspace.new) }
+{
+    let alloc = keyspace.alloc();
+    let found = seek(keyspace, at, key);
+    let item = match zset_sought(keyspace, at, key, found) {
+        Look::Other => return Reply::refused(alloc, Refusal::WrongType),
+        Look::Missing => return empty_array(alloc),
+        Look::There(item) => item,
+    };
+    let pop = PopMany {
+        from,
+        most: most.unwrap_or(1),
+        alloc,
+        told: None,
+    };
+    let pop = change_zset(keyspace, at, key, found.sought, Some(item), pop)?;
+    reply_of(pop.told)
+}
+
+/// `ZREMRANGEBYRANK key a b`: how many members from index a to index b were taken out, where a negative index counts from the end.
+#[tactic(auto, using(crate::proofs::Looking::refused_other))]
+pub fn zremrangebyrank<B: BlockStore>(
+    keyspace: &mut Keyspace<B>,
+    at: &Ctx,
+    key: &[u8],
+    a: i64,
+    b: i64,
+) -> Result<Reply, Memory>
+    requires ready { Ready B.blocks keyspace.old at.now }
+    ensures gives { Gives B.blocks keyspace.old keyspace.new at.now (zsets.ZRemRangeByRank key.now a b) result }
+    ensures kept { Kept B.blocks B.step (one_key at.now.db key.now) keyspace.old keyspace.new result }
+    ensures forms { IfOk result (λ reply. Formed B.blocks (zset_form at.now.db (sight B.blocks keyspace.old at.now) (zsets.ZRemRangeByRank key.now a b)) keyspace.old keyspace.new) }
+{
+    let alloc = keyspace.alloc();
+    let found = seek(keyspace, at, key);
+    let item = match zset_sought(keyspace, at, key, found) {
+        Look::Other => return Reply::refused(alloc, Refusal::WrongType),
+        Look::Missing => return count_reply(alloc, 0),
+        Look::There(item) => item,
+    };
+    let remove = DropRanks {
+        a,
+        b,
+        alloc,
+        gone: 0,
+    };
+    let remove = change_zset(keyspace, at, key, found.sought, Some(item), remove)?;
+    count_reply(alloc, remove.gone)
+}
+
+/// `ZREMRANGEBYSCORE key min max`: how many members whose scores are within the bounds were taken out.
+#[tactic(auto, using(crate::proofs::Looking::refused_other))]
+pub fn zremrangebyscore<B: BlockStore>(
+    keyspace: &mut Keyspace<B>,
+    at: &Ctx,
+    key: &[u8],
+    min: ScoreBound,
+    max: ScoreBound,
+) -> Result<Reply, Memory>
+    requires ready { Ready B.blocks keyspace.old at.now }
+    ensures gives { Gives B.blocks keyspace.old keyspace.new at.now (zsets.ZRemRangeByScore key.now min max) result }
+    ensures kept { Kept B.blocks B.step (one_key at.now.db key.now) keyspace.old keyspace.new result }
+    ensures forms { IfOk result (λ reply. Formed B.blocks (zset_form at.now.db (sight B.blocks keyspace.old at.now) (zsets.ZRemRangeByScore key.now min max)) keyspace.old keyspace.new) }
+{
+    let alloc = keyspace.alloc();
+    let found = seek(keyspace, at, key);
+    let item = match zset_sought(keyspace, at, key, found) {
+        Look::Other => return Reply::refused(alloc, Refusal::WrongType),
+        Look::Missing => return count_reply(alloc, 0),
+        Look::There(item) => item,
+    };
+    let remove = DropScores {
+        min,
+        max,
+        alloc,
+        gone: 0,
+    };
+    let remove = change_zset(keyspace, at, key, found.sought, Some(item), remove)?;
+    count_reply(alloc, remove.gone)
+}

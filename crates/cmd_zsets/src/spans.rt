@@ -1,0 +1,127 @@
+//! Members that are told one after the other.
+
+ghost use Rattle.std.specs.Prelude.{◌≡◌, ◌+◌, ◌<◌, ◌≤◌, ◌++◌, Some, MatchOption, slice_get, IfOk, OnOk};
+ghost use Rattle.std.specs.FinMap.{len as members};
+ghost use Rattle.listpack.specs.Element.{element_text};
+ghost use Rattle.zset_object.specs.Scored.{IsScored, scores};
+ghost use Rattle.plain_model.specs.ZsetSteps.{met, ranked, listed};
+ghost use Rattle.cmd_zsets.specs.Spans.{in_span, rank_of, told, told_all, sized};
+
+use crate::reading::score_text;
+use blocks::BlockStore;
+use keyspace::bytes_of;
+use listpack::Element;
+use plain_model::{Direction, Memory, Part, Parts, Reply};
+use std::alloc::{AllocError, Global};
+use zset_object::Scored;
+
+/// So many members from a place on, as they are met from an end.
+#[derive(Clone, Copy, Debug)]
+pub struct Span {
+    /// The end from which they are met.
+    pub from: Direction,
+    /// How many members are met before them.
+    pub start: usize,
+    /// How many they are.
+    pub count: usize,
+}
+
+/// The rank of the member that is met at a place, of so many.
+pub fn rank_met(from: Direction, len: usize, place: usize) -> usize
+    requires there { place < len }
+    ensures rank { result ≡ rank_of from len place }
+    ensures inside { result < len }
+{
+    match from {
+        Direction::Rising => place,
+        Direction::Falling => len - 1 - place,
+    }
+}
+
+// The member that is met at a place, of so many, and its score. `None` never comes.
+fn member_at<'a, B: BlockStore>(
+    store: &'a B,
+    zset: &'a Scored,
+    len: usize,
+    from: Direction,
+    place: usize,
+) -> Option<(Element<'a>, i64)>
+    requires sound { IsScored (B.blocks store.now) zset.now }
+    requires size { len ≡ members (scores (B.blocks store.now) zset.now) }
+    requires there { place < len }
+    ensures { MatchOption result ⊥ (λ pair. slice_get (met from (ranked (scores (B.blocks store.now) zset.now))) place ≡ Some (pair.1, element_text pair.0)) }
+{
+    zset.at_rank(store, rank_met(from, len, place))
+}
+
+// Adds a member, followed by its score where that is asked for.
+fn push_member(
+    alloc: Global,
+    member: Element<'_>,
+    score: i64,
+    with_score: bool,
+    parts: &mut Parts,
+) -> Result<(), Memory>
+    ensures { OnOk result (parts.new ≡ parts.old ++ told with_score (score, element_text member.entry)) }
+{
+    parts.push(Part::Bulk(bytes_of(alloc, member)?))?;
+    if with_score {
+        parts.push(Part::Bulk(score_text(alloc, score)?))?;
+    }
+    Ok(())
+}
+
+// Adds the members of a span, each followed by its score where that is asked for.
+fn push_span<B: BlockStore>(
+    alloc: Global,
+    store: &B,
+    zset: &Scored,
+    span: Span,
+    with_scores: bool,
+    parts: &mut Parts,
+) -> Result<(), Memory>
+    requires sound { IsScored (B.blocks store.now) zset.now }
+    requires inside { span.start + span.count ≤ members (scores (B.blocks store.now) zset.now) }
+    ensures { OnOk result (parts.new ≡ parts.old ++ told_all with_scores (in_span span (ranked (scores (B.blocks store.now) zset.now)))) }
+{
+    let len = zset.len();
+    for index in 0..span.count {
+        match member_at(store, zset, len, span.from, span.start + index) {
+            None => unreachable!(),
+            Some((member, score)) => push_member(alloc, member, score, with_scores, parts)?,
+        }
+    }
+    Ok(())
+}
+
+// How many replies tell of so many members. 2^64 or more are want of memory.
+fn told_size(count: usize, with_scores: bool) -> Result<u64, Memory>
+    ensures { IfOk result (λ size. size ≡ sized with_scores count) }
+{
+    let count = count as u64;
+    if with_scores {
+        return match count.checked_mul(2) {
+            Some(size) => Ok(size),
+            None => Err(AllocError),
+        };
+    }
+    Ok(count)
+}
+
+/// The members of a span as an array, each followed by its score where that is asked for.
+pub fn span_reply<B: BlockStore>(
+    alloc: Global,
+    store: &B,
+    zset: &Scored,
+    span: Span,
+    with_scores: bool,
+) -> Result<Reply, Memory>
+    requires sound { IsScored (B.blocks store.now) zset.now }
+    requires inside { span.start + span.count ≤ members (scores (B.blocks store.now) zset.now) }
+    ensures { IfOk result (λ reply. reply ≡ listed with_scores (in_span span (ranked (scores (B.blocks store.now) zset.now)))) }
+{
+    let mut parts = Parts::new(alloc);
+    parts.push(Part::Array(told_size(span.count, with_scores)?))?;
+    push_span(alloc, store, zset, span, with_scores, &mut parts)?;
+    Ok(parts.into_reply())
+}
