@@ -5,20 +5,22 @@ use Rattle.std.specs.List.{Contains}
 use Rattle.held.specs.Scopes.{keys_of}
 use Rattle.plain_model.specs.Meant.{IsAsked}
 use Rattle.plain_model.specs.declared.command.Command.{Command}
-use Rattle.plain_model.specs.declared.command.Command.TheVariants.{Strings, Lists, Sets, Hashes, Keys, Connection}
+use Rattle.plain_model.specs.declared.command.Command.TheVariants.{Strings, Lists, Sets, Hashes, Zsets, Keys, Connection}
 use Rattle.plain_model.specs.declared.command.StringCommand.{StringCommand}
 use Rattle.plain_model.specs.declared.command.StringCommand.TheVariants as strings
 use Rattle.plain_model.specs.declared.set_command.SetCommand.{SetCommand}
 use Rattle.plain_model.specs.declared.set_command.SetCommand.TheVariants as sets
 use Rattle.plain_model.specs.declared.hash_command.HashCommand.{HashCommand}
 use Rattle.plain_model.specs.declared.hash_command.HashCommand.TheVariants as hashes
+use Rattle.plain_model.specs.declared.zset_command.ZsetCommand.{ZsetCommand}
+use Rattle.plain_model.specs.declared.zset_command.ZsetCommand.TheVariants as zsets
 use Rattle.plain_model.specs.declared.list_command.ListCommand.{ListCommand}
 use Rattle.plain_model.specs.declared.list_command.ListCommand.TheVariants as lists
 use Rattle.plain_model.specs.declared.keys.KeyCommand.{KeyCommand}
 use Rattle.plain_model.specs.declared.keys.KeyCommand.TheVariants as keys
 use Rattle.plain_model.specs.declared.connection.ConnectionCommand.{ConnectionCommand}
 use Rattle.plain_model.specs.declared.connection.ConnectionCommand.TheVariants as connection
-use Rattle.keyspace.specs.Scopes.{Scope, Reach, untouched, two_keys, all_keys, everything, number_or, scope, string_reach, list_reach, set_reach, hash_reach, key_reach, connection_reach, reach_of, scope_of}
+use Rattle.keyspace.specs.Scopes.{Scope, Reach, untouched, two_keys, all_keys, everything, number_or, scope, string_reach, list_reach, set_reach, hash_reach, zset_reach, key_reach, connection_reach, reach_of, scope_of}
 use Rattle.keyspace.specs.Scopes as reach
 use Rattle.cmd_keys.specs.Found.{IsDatabase}
 use Rattle.cmd_keys.proofs.KeyLemmas.{asked_copy, asked_move}
@@ -110,6 +112,7 @@ set_databases db below (sets.SAdd key others) = below
 set_databases db below (sets.SRem key others) = below
 set_databases db below (sets.SIsMember key member) = tt
 set_databases db below (sets.SMIsMember key others) = tt
+set_databases db below (sets.SMembers key) = tt
 set_databases db below (sets.SCard key) = tt
 set_databases db below (sets.SMove from to member) = (below, below)
 
@@ -123,7 +126,25 @@ hash_databases db below (hashes.HDel key others) = below
 hash_databases db below (hashes.HExists key field) = tt
 hash_databases db below (hashes.HLen key) = tt
 hash_databases db below (hashes.HStrLen key field) = tt
+hash_databases db below (hashes.HKeys key) = tt
+hash_databases db below (hashes.HVals key) = tt
+hash_databases db below (hashes.HGetAll key) = tt
 hash_databases db below (hashes.HIncrBy key field n) = below
+
+pub zset_databases : (db : ℕ) → db < 16 → (command : ZsetCommand) → AreDatabases (databases (zset_reach db command))
+zset_databases db below (zsets.ZAdd key rules ch pairs) = below
+zset_databases db below (zsets.ZIncr key rules by member) = below
+zset_databases db below (zsets.ZRem key members) = below
+zset_databases db below (zsets.ZScore key member) = tt
+zset_databases db below (zsets.ZMScore key members) = tt
+zset_databases db below (zsets.ZCard key) = tt
+zset_databases db below (zsets.ZCount key min max) = tt
+zset_databases db below (zsets.ZRank key member from with_score) = tt
+zset_databases db below (zsets.ZRange key a b from with_scores) = tt
+zset_databases db below (zsets.ZRangeByScore key min max from limit with_scores) = tt
+zset_databases db below (zsets.ZRemRangeByRank key a b) = below
+zset_databases db below (zsets.ZRemRangeByScore key min max) = below
+zset_databases db below (zsets.ZPop key from n) = below
 
 pub key_databases : (db : ℕ) → db < 16 → (command : KeyCommand) → IsAsked (Keys command) → AreDatabases (databases (key_reach db command))
 key_databases db below (keys.Del names) asked = below
@@ -166,6 +187,7 @@ databases_of db below (Strings command) asked = string_databases db below comman
 databases_of db below (Lists command) asked = list_databases db below command
 databases_of db below (Sets command) asked = set_databases db below command
 databases_of db below (Hashes command) asked = hash_databases db below command
+databases_of db below (Zsets command) asked = zset_databases db below command
 databases_of db below (Keys command) asked = key_databases db below command asked
 databases_of db below (Connection command) asked = connection_databases db below command
 

@@ -20,15 +20,21 @@ use Rattle.plain_model.specs.declared.times.Lifetime.{Lifetime}
 use Rattle.plain_model.specs.declared.times.Lifetime.TheVariants as lifetimes
 use Rattle.plain_model.specs.declared.times.Renewal.{Renewal}
 use Rattle.plain_model.specs.declared.times.Renewal.TheVariants as renewals
-use Rattle.plain_model.specs.OfType.{of_type, on_type, list_in, set_in, hash_in}
-use Rattle.plain_model.specs.SetSteps.{Members, or_no_members, has, drop_members, move_to, move_from}
+use Rattle.plain_model.specs.OfType.{of_type, on_type, may_tell, may_tell_of, list_in, set_in, hash_in, zset_in}
+use Rattle.plain_model.specs.SetSteps.{Members, or_no_members, has, drop_members, move_to, move_from, may_sets}
 use Rattle.plain_model.specs.SetSteps as set_steps
-use Rattle.plain_model.specs.HashSteps.{Fields, or_no_fields, set_missing, unset_fields, number_in, count_field, count_on_field, hash_outcome}
+use Rattle.plain_model.specs.HashSteps.{Fields, or_no_fields, set_missing, unset_fields, number_in, count_field, count_on_field, hash_outcome, may_hashes}
+use Rattle.plain_model.specs.ZsetSteps.{Scores, Scored, or_no_scores, admits, passes, is_score, or_zero, add_to, raise, raise_to, drop_part, within, pop, or_one, zset_outcome}
+use Rattle.plain_model.specs.ZsetSteps as zset_steps
+use Rattle.plain_model.specs.declared.zset_command.ScoreRules.{ScoreRules}
+use Rattle.plain_model.specs.declared.zset_command.Direction.{Direction}
+use Rattle.plain_model.specs.declared.zset_command.ZsetCommand.{ZsetCommand}
+use Rattle.plain_model.specs.declared.zset_command.ZsetCommand.TheVariants as zsets
 use Rattle.plain_model.specs.declared.set_command.SetCommand.{SetCommand}
 use Rattle.plain_model.specs.declared.set_command.SetCommand.TheVariants as sets
 use Rattle.plain_model.specs.declared.hash_command.HashCommand.{HashCommand}
 use Rattle.plain_model.specs.declared.hash_command.HashCommand.TheVariants as hashes
-use Rattle.plain_model.specs.ListSteps.{Elements, from_end, first_or_null, push_there, pop_of, set_place, set_at, trim, insert_there, insert_beside, inserted_beside, remove_equal, place_of, move_first, move_there, list_outcome}
+use Rattle.plain_model.specs.ListSteps.{Elements, list_range, from_end, first_or_null, push_there, pop_of, set_place, set_at, trim, insert_there, insert_beside, inserted_beside, remove_equal, place_of, move_first, move_there, list_outcome}
 use Rattle.plain_model.specs.declared.list_command.Side.{Side}
 use Rattle.plain_model.specs.declared.list_command.ListEnd.{ListEnd}
 use Rattle.plain_model.specs.declared.list_command.ListEnd.TheVariants.{Head, Tail}
@@ -42,7 +48,7 @@ use Rattle.plain_model.specs.declared.connection.ConnectionCommand.TheVariants a
 use Rattle.plain_world.specs.Words.{longest}
 use Rattle.plain_model.specs.declared.command.Command.{Command}
 use Rattle.plain_model.specs.declared.command.Condition.{Condition}
-use Rattle.plain_model.specs.declared.command.Command.TheVariants.{Strings, Lists, Sets, Hashes, Keys, Connection}
+use Rattle.plain_model.specs.declared.command.Command.TheVariants.{Strings, Lists, Sets, Hashes, Zsets, Keys, Connection}
 use Rattle.plain_model.specs.declared.command.StringCommand.{StringCommand}
 use Rattle.plain_model.specs.declared.command.StringCommand.TheVariants as strings
 use Rattle.plain_world.specs.declared.refusal.Refusal.{Refusal}
@@ -273,6 +279,7 @@ module _ (old : World) where
   sets_keep (sets.SRem key others) = on_set_keeps key _ (dropped_keeps key others)
   sets_keep (sets.SIsMember key member) = on_set_keeps key _ (λ before r. refl)
   sets_keep (sets.SMIsMember key others) = on_set_keeps key _ (λ before r. refl)
+  sets_keep (sets.SMembers key) = λ r. absurd r
   sets_keep (sets.SCard key) = on_set_keeps key _ (λ before r. refl)
   sets_keep (sets.SMove from to member) = on_set_keeps from _ (from_keeps from to member)
 
@@ -301,7 +308,70 @@ module _ (old : World) where
   hashes_keep (hashes.HExists key field) = on_hash_keeps key _ (λ before r. refl)
   hashes_keep (hashes.HLen key) = on_hash_keeps key _ (λ before r. refl)
   hashes_keep (hashes.HStrLen key field) = on_hash_keeps key _ (λ before r. refl)
+  hashes_keep (hashes.HKeys key) = λ r. absurd r
+  hashes_keep (hashes.HVals key) = λ r. absurd r
+  hashes_keep (hashes.HGetAll key) = λ r. absurd r
   hashes_keep (hashes.HIncrBy key field by) = on_hash_keeps key _ (λ before. field_keeps key field (or_no_fields before) by (number_in (get (or_no_fields before) field)))
+
+  -- what may be told of a value leaves the world
+  told_of_keeps : {A : Type 0} (own : Option A) (told : Option A → List Part → Type 0) (reply : List Part) (new : World) → may_tell_of old own told reply new → new ≡ old
+  told_of_keeps None told reply new m = m.1
+  told_of_keeps (Some own) told reply new m = m.1
+
+  told_keeps : {A : Type 0} (in_value : Value → Option A) (entry : Option Entry) (told : Option A → List Part → Type 0) (reply : List Part) (new : World) → may_tell in_value old entry told reply new → new ≡ old
+  told_keeps in_value None told reply new m = m.1
+  told_keeps in_value (Some entry) told reply new m = told_of_keeps (in_value entry.value) told reply new m
+
+  may_sets_keep : (command : SetCommand) (reply : List Part) (new : World) → may_sets old command reply new → IsRefusal reply → new ≡ old
+  may_sets_keep (sets.SMembers key) reply new m r = told_keeps _ (look old key) _ reply new m
+  may_sets_keep command reply new m r = m.1 ∙ sets_keep command (subst IsRefusal m.0 r)
+
+  may_hashes_keep : (command : HashCommand) (reply : List Part) (new : World) → may_hashes old command reply new → IsRefusal reply → new ≡ old
+  may_hashes_keep (hashes.HKeys key) reply new m r = told_keeps _ (look old key) _ reply new m
+  may_hashes_keep (hashes.HVals key) reply new m r = told_keeps _ (look old key) _ reply new m
+  may_hashes_keep (hashes.HGetAll key) reply new m r = told_keeps _ (look old key) _ reply new m
+  may_hashes_keep command reply new m r = m.1 ∙ hashes_keep command (subst IsRefusal m.0 r)
+
+  -- what is answered of the sorted set at a key
+  on_zset_keeps : (key : List ℕ) (answer : Option Scores → Outcome) → ((before : Option Scores) → Keeps (answer before)) → Keeps (on_type zset_in old (look old key) answer)
+  on_zset_keeps key answer h = on_type_keeps zset_in (look old key) answer h
+
+  add_keeps : (key : List ℕ) (rules : ScoreRules) (ch : Bool) (pairs : List Scored) (before : Option Scores) → Keeps (add_to old key rules ch pairs before)
+  add_keeps key rules ch pairs None = either rules.xx _ _ (λ r. absurd r) (λ r. absurd r)
+  add_keeps key rules ch pairs (Some scores) = λ r. absurd r
+
+  raised_keeps : (key : List ℕ) (rules : ScoreRules) (member : List ℕ) (scores : Scores) (n : ℤ) → Keeps (raise_to old key rules member scores n)
+  raised_keeps key rules member scores n = either (is_score n) _ _ (either (passes rules (get scores member) n) _ _ (λ r. absurd r) (λ r. absurd r)) (λ r. refl)
+
+  raise_keeps : (key : List ℕ) (rules : ScoreRules) (by : ℤ) (member : List ℕ) (scores : Scores) → Keeps (raise old key rules by member scores)
+  raise_keeps key rules by member scores = either (admits rules (get scores member)) _ _ (raised_keeps key rules member scores (or_zero (get scores member) +ℤ by)) (λ r. absurd r)
+
+  without_keeps : (key : List ℕ) (members : List (List ℕ)) (before : Option Scores) → Keeps (zset_steps.drop_members old key members before)
+  without_keeps key members None = λ r. absurd r
+  without_keeps key members (Some scores) = λ r. absurd r
+
+  part_keeps : (key : List ℕ) (part : List Scored → List Scored) (before : Option Scores) → Keeps (drop_part old key part before)
+  part_keeps key part None = λ r. absurd r
+  part_keeps key part (Some scores) = λ r. absurd r
+
+  lowest_keep : (key : List ℕ) (from : Direction) (n : ℕ) (before : Option Scores) → Keeps (pop old key from n before)
+  lowest_keep key from n None = λ r. absurd r
+  lowest_keep key from n (Some scores) = λ r. absurd r
+
+  zsets_keep : (command : ZsetCommand) → Keeps (zset_outcome old command)
+  zsets_keep (zsets.ZAdd key rules ch pairs) = on_zset_keeps key _ (add_keeps key rules ch pairs)
+  zsets_keep (zsets.ZIncr key rules by member) = on_zset_keeps key _ (λ before. raise_keeps key rules by member (or_no_scores before))
+  zsets_keep (zsets.ZRem key members) = on_zset_keeps key _ (without_keeps key members)
+  zsets_keep (zsets.ZScore key member) = on_zset_keeps key _ (λ before r. refl)
+  zsets_keep (zsets.ZMScore key members) = on_zset_keeps key _ (λ before r. refl)
+  zsets_keep (zsets.ZCard key) = on_zset_keeps key _ (λ before r. refl)
+  zsets_keep (zsets.ZCount key min max) = on_zset_keeps key _ (λ before r. refl)
+  zsets_keep (zsets.ZRank key member from with_score) = on_zset_keeps key _ (λ before r. refl)
+  zsets_keep (zsets.ZRange key a b from with_scores) = on_zset_keeps key _ (λ before r. refl)
+  zsets_keep (zsets.ZRangeByScore key min max from limit with_scores) = on_zset_keeps key _ (λ before r. refl)
+  zsets_keep (zsets.ZRemRangeByRank key a b) = on_zset_keeps key _ (part_keeps key (λ list. list_range list a b))
+  zsets_keep (zsets.ZRemRangeByScore key min max) = on_zset_keeps key _ (part_keeps key (within min max))
+  zsets_keep (zsets.ZPop key from n) = on_zset_keeps key _ (lowest_keep key from (or_one n))
 
   connection_keeps : (moment : ℕ) (command : ConnectionCommand) (reply : List Part) (new : World) → may_connection old moment command reply new → IsRefusal reply → new ≡ old
   connection_keeps moment (connection.Ping text) reply new m r = m.1
@@ -318,8 +388,9 @@ module _ (old : World) where
   command_keeps : (seed moment : ℕ) (command : Command) (reply : List Part) (new : World) → may seed old moment command reply new → IsRefusal reply → new ≡ old
   command_keeps seed moment (Strings command) reply new m r = m.1 ∙ outcome_keeps moment command (subst IsRefusal m.0 r)
   command_keeps seed moment (Lists command) reply new m r = m.1 ∙ lists_keep command (subst IsRefusal m.0 r)
-  command_keeps seed moment (Sets command) reply new m r = m.1 ∙ sets_keep command (subst IsRefusal m.0 r)
-  command_keeps seed moment (Hashes command) reply new m r = m.1 ∙ hashes_keep command (subst IsRefusal m.0 r)
+  command_keeps seed moment (Sets command) reply new m r = may_sets_keep command reply new m r
+  command_keeps seed moment (Hashes command) reply new m r = may_hashes_keep command reply new m r
+  command_keeps seed moment (Zsets command) reply new m r = m.1 ∙ zsets_keep command (subst IsRefusal m.0 r)
   command_keeps seed moment (Keys command) reply new m r = keys_keep seed moment command reply new m r
   command_keeps seed moment (Connection command) reply new m r = connection_keeps moment command reply new m r
 

@@ -19,6 +19,7 @@ use cmd_keys::{debug_rehash, memory_slabs, run_connection, run_keys};
 use cmd_lists::run_lists;
 use cmd_sets::run_sets;
 use cmd_values::run_strings;
+use cmd_zsets::run_zsets;
 use command_table::{ReadingFault, read};
 use defrag::Walk;
 use keyspace::Keyspace;
@@ -87,6 +88,7 @@ fn run_family<B: BlockStore>(
         Command::Lists(own) => run_lists(keyspace, at, own),
         Command::Sets(own) => run_sets(keyspace, at, own),
         Command::Hashes(own) => run_hashes(keyspace, at, own),
+        Command::Zsets(own) => run_zsets(keyspace, at, own),
         Command::Keys(own) => run_keys(keyspace, at, own, dice),
         Command::Connection(own) => run_connection(keyspace, at, own),
     }

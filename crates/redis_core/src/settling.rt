@@ -3,7 +3,7 @@
 ghost use Rattle.std.specs.Prelude.{◌≡◌, ◌<◌, ℕ, OnOk, IfSome, IfNone};
 ghost use Rattle.keyspace.specs.Databases.{means};
 ghost use Rattle.keyspace.specs.Sound.{Sound};
-ghost use Rattle.keyspace.specs.Scopes.{no_key, number_or, AreSettled, string_reach, list_reach, set_reach, hash_reach, key_reach, connection_reach};
+ghost use Rattle.keyspace.specs.Scopes.{no_key, number_or, AreSettled, string_reach, list_reach, set_reach, hash_reach, zset_reach, key_reach, connection_reach};
 ghost use Rattle.keyspace.specs.Commands.{Held};
 ghost use Rattle.redis_core.specs.Touched.{covers, databases, shrinking, touched_of, AreDatabases};
 
@@ -11,7 +11,7 @@ use blocks::BlockStore;
 use keyspace::Keyspace;
 use plain_model::{
     Command, ConnectionCommand, HashCommand, KeyCommand, ListCommand, Memory, SetCommand,
-    StringCommand,
+    StringCommand, ZsetCommand,
 };
 
 // How many databases there are.
@@ -83,6 +83,7 @@ fn touched_by_sets(command: &SetCommand<'_>, db: usize) -> Touched
         SetCommand::SRem(_, _) => Touched::One(db),
         SetCommand::SIsMember(_, _) => Touched::Nothing,
         SetCommand::SMIsMember(_, _) => Touched::Nothing,
+        SetCommand::SMembers(_) => Touched::Nothing,
         SetCommand::SCard(_) => Touched::Nothing,
         SetCommand::SMove(_, _, _) => Touched::Two(db, db),
     }
@@ -101,7 +102,30 @@ fn touched_by_hashes(command: &HashCommand<'_>, db: usize) -> Touched
         HashCommand::HExists(_, _) => Touched::Nothing,
         HashCommand::HLen(_) => Touched::Nothing,
         HashCommand::HStrLen(_, _) => Touched::Nothing,
+        HashCommand::HKeys(_) => Touched::Nothing,
+        HashCommand::HVals(_) => Touched::Nothing,
+        HashCommand::HGetAll(_) => Touched::Nothing,
         HashCommand::HIncrBy(_, _, _) => Touched::One(db),
+    }
+}
+
+fn touched_by_zsets(command: &ZsetCommand<'_>, db: usize) -> Touched
+    ensures { result ≡ databases (zset_reach db command.now) }
+{
+    match command {
+        ZsetCommand::ZAdd(_, _, _, _) => Touched::One(db),
+        ZsetCommand::ZIncr(_, _, _, _) => Touched::One(db),
+        ZsetCommand::ZRem(_, _) => Touched::One(db),
+        ZsetCommand::ZScore(_, _) => Touched::Nothing,
+        ZsetCommand::ZMScore(_, _) => Touched::Nothing,
+        ZsetCommand::ZCard(_) => Touched::Nothing,
+        ZsetCommand::ZCount(_, _, _) => Touched::Nothing,
+        ZsetCommand::ZRank(_, _, _, _) => Touched::Nothing,
+        ZsetCommand::ZRange(_, _, _, _, _) => Touched::Nothing,
+        ZsetCommand::ZRangeByScore(_, _, _, _, _, _) => Touched::Nothing,
+        ZsetCommand::ZRemRangeByRank(_, _, _) => Touched::One(db),
+        ZsetCommand::ZRemRangeByScore(_, _, _) => Touched::One(db),
+        ZsetCommand::ZPop(_, _, _) => Touched::One(db),
     }
 }
 
@@ -170,6 +194,7 @@ pub fn touched_by(command: &Command<'_>, db: usize) -> Touched
         Command::Lists(own) => touched_by_lists(own, db),
         Command::Sets(own) => touched_by_sets(own, db),
         Command::Hashes(own) => touched_by_hashes(own, db),
+        Command::Zsets(own) => touched_by_zsets(own, db),
         Command::Keys(own) => touched_by_keys(own, db),
         Command::Connection(own) => touched_by_connection(own, db),
     }
