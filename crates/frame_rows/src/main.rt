@@ -10,6 +10,7 @@ mod frame_lines;
 mod frames;
 mod list_lines;
 mod member_lines;
+mod score_lines;
 mod served;
 mod serving_lines;
 

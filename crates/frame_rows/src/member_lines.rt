@@ -4,8 +4,8 @@ use crate::command_lines::{line, list_line, pairs_line};
 use plain_model::{HashCommand, PairList, SetCommand, Word, WordList};
 use std::alloc::{AllocError, Global};
 
-// The key of a command, and the words behind it.
-fn keyed_line(
+/// The key of a command, and the words behind it.
+pub fn keyed_line(
     alloc: Global,
     name: &str,
     key: &Word<'_>,
@@ -37,6 +37,7 @@ pub fn set_words_line(alloc: Global, command: &SetCommand<'_>) -> Result<Vec<u8>
         SetCommand::SIsMember(key, member) => {
             line(alloc, "SIsMember", &[key.as_slice(), member.as_slice()])
         }
+        SetCommand::SMembers(key) => line(alloc, "SMembers", &[key.as_slice()]),
         SetCommand::SCard(key) => line(alloc, "SCard", &[key.as_slice()]),
         SetCommand::SMove(from, to, member) => {
             line(
@@ -60,6 +61,9 @@ fn field_line(alloc: Global, command: &HashCommand<'_>) -> Result<Vec<u8>, Alloc
         HashCommand::HStrLen(key, field) => {
             line(alloc, "HStrLen", &[key.as_slice(), field.as_slice()])
         }
+        HashCommand::HKeys(key) => line(alloc, "HKeys", &[key.as_slice()]),
+        HashCommand::HVals(key) => line(alloc, "HVals", &[key.as_slice()]),
+        HashCommand::HGetAll(key) => line(alloc, "HGetAll", &[key.as_slice()]),
         _ => line(alloc, "another", &[]),
     }
 }
