@@ -1,5 +1,5 @@
-// The floor of what a server of strings and lists costs: it reads requests in RESP2 from its input in pieces of 64 KiB, keeps an
-// std::unordered_map of std::string and one of std::deque, and writes the replies. No deadline ends, no table grows in steps, and nothing is checked that a
+// The floor of what a server of strings, lists and sorted sets costs: it reads requests in RESP2 from its input in pieces of 64 KiB, keeps an
+// std::unordered_map of std::string, one of std::deque and one of trees that count ranks, and writes the replies. No deadline ends, no table grows in steps, and nothing is checked that a
 // workload doesn't do wrong.
 #include <algorithm>
 #include <cstdio>
@@ -7,6 +7,8 @@
 #include <cstring>
 #include <ctime>
 #include <deque>
+#include <ext/pb_ds/assoc_container.hpp>
+#include <ext/pb_ds/tree_policy.hpp>
 #include <string>
 #include <string_view>
 #include <unistd.h>
@@ -18,6 +20,14 @@ using Words = std::vector<std::string_view>;
 static std::unordered_map<std::string, std::string> values;
 static std::unordered_map<std::string, long long> deadlines;
 static std::unordered_map<std::string, std::deque<std::string>> lists;
+using Order = __gnu_pbds::tree<std::pair<long long, std::string>, __gnu_pbds::null_type,
+  std::less<std::pair<long long, std::string>>, __gnu_pbds::rb_tree_tag, __gnu_pbds::tree_order_statistics_node_update>;
+struct Scored {
+  std::unordered_map<std::string, long long> scores;
+  Order order;
+};
+
+static std::unordered_map<std::string, Scored> zsets;
 static std::string input, replies;
 
 static void put_all() {
@@ -91,6 +101,61 @@ static void execute_of_list(const Words &words) {
   else position(list, words[2]);
 }
 
+static long long whole(std::string_view word) { return atoll(std::string(word).c_str()); }
+
+// a member gets a score; whether it is new
+static bool score(Scored &set, const std::string &member, long long score) {
+  auto [at, fresh] = set.scores.try_emplace(member, score);
+  if (!fresh) {
+    set.order.erase({at->second, member});
+    at->second = score;
+  }
+  set.order.insert({score, member});
+  return fresh;
+}
+
+static void add_scores(Scored &set, const Words &words) {
+  long long fresh = 0;
+  for (size_t i = 2; i < words.size(); i += 2) fresh += score(set, std::string(words[i + 1]), whole(words[i]));
+  number(fresh);
+}
+
+static void range_from(const Scored &set, Order::const_iterator at, size_t most) {
+  std::string told;
+  size_t count = 0;
+  std::swap(told, replies);
+  for (; at != set.order.end() && count < most; ++at, ++count) bulk(at->second);
+  std::swap(told, replies);
+  replies += '*' + std::to_string(count) + "\r\n" + told;
+}
+
+static void pop_lowest(Scored &set) {
+  auto lowest = *set.order.begin();
+  set.order.erase(set.order.begin());
+  set.scores.erase(lowest.second);
+  replies += "*2\r\n";
+  bulk(lowest.second);
+  bulk(std::to_string(lowest.first));
+}
+
+// A workload asks for no member that isn't there.
+static void execute_of_zset(const Words &words) {
+  std::string_view name = words[0];
+  Scored &set = zsets[std::string(words[1])];
+  if (name == "ZADD") add_scores(set, words);
+  else if (name == "ZPOPMIN") pop_lowest(set);
+  else if (name == "ZRANK") {
+    std::string member(words[2]);
+    number(set.order.order_of_key({set.scores[member], member}));
+  } else if (name == "ZINCRBY") {
+    std::string member(words[3]);
+    long long sum = set.scores[member] + whole(words[2]);
+    score(set, member, sum);
+    bulk(std::to_string(sum));
+  } else if (name == "ZRANGE") range_from(set, set.order.find_by_order(place(words[2])), place(words[3]) + 1 - place(words[2]));
+  else range_from(set, set.order.lower_bound({whole(words[2]), ""}), place(words[6]));
+}
+
 static void execute(const Words &words) {
   std::string_view name = words[0];
   if (name == "GET") {
@@ -115,6 +180,8 @@ static void execute(const Words &words) {
     push(words, name == "LPUSH");
   } else if (name == "RPOP" || name == "LRANGE" || name == "LINDEX" || name == "LPOS") {
     execute_of_list(words);
+  } else if (name[0] == 'Z') {
+    execute_of_zset(words);
   } else if (name == "APPEND") {
     std::string &value = values[std::string(words[1])];
     value += words[2];

@@ -4,13 +4,18 @@ and prints how many are measured.
 
 usage: workloads.py set|get|incr|setex|expire|mset|mget|append|del|mix KEYS REQUESTS BYTES PREPARED MEASURED
        workloads.py lpush|pushpop|lrange|lindex|lpos KEYS REQUESTS BYTES PREPARED MEASURED ELEMENTS
+       workloads.py zadd|zrescore|zrank|zrange|zbyscore|zincrby|zaddpop KEYS REQUESTS BYTES PREPARED MEASURED MEMBERS
 
 A key has 16 bytes, and a value as many as BYTES says; for INCR a value is a number. MSET and MGET name 10 keys. The mix is of 80
 percent GET, 15 SET and 5 EXPIRE, with few keys that are named often. All keys are there before, but for those that DEL named.
 
-Each key of the others is a list of so many elements, each of as many bytes. LPUSH makes them longer; a push and a pop of the same
+Each key of the second line is a list of so many elements, each of as many bytes. LPUSH makes them longer; a push and a pop of the same
 element are two requests, and the list stays as long. LRANGE tells 100 elements from any place on. LINDEX asks for the element in the
 middle, and LPOS where that one stands, which is the only one of its kind.
+
+Each key of the third line is a sorted set of so many members of as many bytes. ZADD adds a new member, or gives one that is there
+another score; ZRANK, ZINCRBY ask for any member; ten members are told from a rank or from a score on. The lowest member is added and
+taken off by two requests, and the set stays as large.
 """
 import random
 import sys
@@ -26,7 +31,10 @@ SECONDS = b"100000"
 SKEW = 4
 # the workloads over lists, how many elements a request prepares, and how many LRANGE tells
 LISTS = ("lpush", "pushpop", "lrange", "lindex", "lpos")
+ZSETS = ("zadd", "zrescore", "zrank", "zrange", "zbyscore", "zincrby", "zaddpop")
 PUSHED = 100
+SCORES = 1_000_003
+RANGE = 10
 TOLD = 100
 
 
@@ -69,6 +77,34 @@ def of_list(kind, i, key, dice, elements, length):
     if kind == "lindex":
         return [request(b"LINDEX", key, b"%d" % (elements // 2))]
     return [request(b"LPOS", key, b"m" * length)]
+
+
+def prepared_zsets(keys, members, length):
+    """ZADD of all members of each sorted set."""
+    for i in range(keys):
+        for first in range(0, members, PUSHED):
+            behind = min(first + PUSHED, members)
+            pairs = [(b"%d" % (j * 7919 % SCORES), value(j, length)) for j in range(first, behind)]
+            yield request(b"ZADD", name(i), *[word for pair in pairs for word in pair])
+
+
+def of_zset(kind, i, key, dice, members, length):
+    """The requests of a workload over sorted sets."""
+    any_score, any_member = b"%d" % dice.randrange(SCORES), value(dice.randrange(members), length)
+    if kind == "zadd":
+        return [request(b"ZADD", key, any_score, value(members + i, length))]
+    if kind == "zrescore":
+        return [request(b"ZADD", key, any_score, any_member)]
+    if kind == "zrank":
+        return [request(b"ZRANK", key, any_member)]
+    if kind == "zrange":
+        first = dice.randrange(max(members - RANGE, 0) + 1)
+        return [request(b"ZRANGE", key, b"%d" % first, b"%d" % (first + RANGE - 1))]
+    if kind == "zbyscore":
+        return [request(b"ZRANGEBYSCORE", key, any_score, b"+inf", b"LIMIT", b"0", b"%d" % RANGE)]
+    if kind == "zincrby":
+        return [request(b"ZINCRBY", key, b"%d" % (dice.randrange(201) - 100), any_member)]
+    return [request(b"ZADD", key, b"-1", value(members, length)), request(b"ZPOPMIN", key)]
 
 
 def mixed(i, key, dice, length):
@@ -118,10 +154,10 @@ def measured(kind, keys, count, length):
         yield one(kind, i, name(number), dice, keys, length)
 
 
-def measured_lists(kind, keys, count, elements, length):
+def measured_values(of_value, kind, keys, count, elements, length):
     dice = random.Random(1)
     for i in range(count):
-        yield from of_list(kind, i, name(dice.randrange(keys)), dice, elements, length)
+        yield from of_value(kind, i, name(dice.randrange(keys)), dice, elements, length)
 
 
 def write(path, requests):
@@ -142,10 +178,11 @@ def write(path, requests):
 def main():
     kind, keys, count, length, first, second, *rest = sys.argv[1:]
     keys, count, length = int(keys), int(count), int(length)
-    if kind in LISTS:
+    if kind in LISTS + ZSETS:
         elements = int(rest[0])
-        write(first, prepared_lists(keys, elements, length))
-        print(write(second, measured_lists(kind, keys, count, elements, length)))
+        prepare, of_value = (prepared_lists, of_list) if kind in LISTS else (prepared_zsets, of_zset)
+        write(first, prepare(keys, elements, length))
+        print(write(second, measured_values(of_value, kind, keys, count, elements, length)))
         return
     write(first, prepared(kind, keys, length))
     print(write(second, measured(kind, keys, count, length)))

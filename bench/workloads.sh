@@ -3,9 +3,9 @@
 # and answers) over pipes, and a redis-server or valkey-server over a unix socket, where one is installed, all on the same bytes by the
 # same client, which sends ahead. The best of five turns counts; each turn begins without a key. The replies of all must be the same.
 # Then the resident memory with all keys, for values of 3, 32 and 100 bytes.
-# A workload over lists has a third number, the elements of each list: there are as many lists as hold together one element for each
-# request, and fewer requests where each looks at many elements.
-# usage: bench/workloads.sh [keys] [requests of each workload] [turns] [workloads, such as "set:32 get:32 mix:32 lpos:32:1000", or "lists"]
+# A workload over lists or sorted sets has a third number, the elements of each: there are as many keys as hold together one element for
+# each request, and fewer requests where each looks at many elements.
+# usage: bench/workloads.sh [keys] [requests of each workload] [turns] [workloads, such as "set:32 get:32 mix:32 lpos:32:1000", or "lists" or "zsets"]
 set -euo pipefail
 cd "$(dirname "$0")/.."
 . bench/beside.sh
@@ -17,6 +17,10 @@ kinds=${4:-set:3 set:32 set:100 set:1024 get:3 get:32 get:100 get:1024 incr:8 se
   kinds=$(for what in lpush pushpop lrange lindex lpos; do for elements in 10 1000 100000; do for length in 3 32 1000; do
     echo "$what:$length:$elements"
   done; done; done)
+[ "$kinds" != zsets ] ||
+  kinds=$(for what in zadd zrescore zrank zrange zbyscore zincrby zaddpop; do for elements in 100 10000 1000000; do
+    echo "$what:32:$elements"
+  done; done)
 gcc -O2 -o "$room/client" bench/client.c
 g++ -O2 -std=c++17 -o "$room/floor" bench/floor.cpp
 [ -z "$server" ] || start_server
@@ -51,7 +55,7 @@ for kind in $kinds; do
   [ -z "$server" ] || theirs=$(best_of socket "$room/socket" "$server_pid")
   echo "$many $ours $floor $theirs" | awk -v what="${what^^}" -v length_of="$length" -v keys="$of_keys" -v elements="$elements" -v name="$(basename "$server")" '
     { printf "%s, %s of %s bytes, %d %s: redis-core %.0f, floor %.0f requests a second, %.2f of the floor",
-        what, elements ? "elements" : "values", length_of, keys, elements ? "lists of " elements : "keys", $1 / $2, $1 / $6, $6 / $2
+        what, elements ? "elements" : "values", length_of, keys, elements ? "of " elements : "keys", $1 / $2, $1 / $6, $6 / $2
       same = $3 == $7
       if (NF > 9) {
         printf "; %s %.0f, %.2f times the server", name, $1 / $10, $10 / $2
