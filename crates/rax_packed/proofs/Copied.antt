@@ -1,6 +1,5 @@
 -- A map and its copy in one store.
-use Rattle.std.proofs.Common.{◌≡◌, ℕ, List, [], ◌++◌, sym, subst, arith}
-use Rattle.blocks.specs.declared.BlockRef.{BlockRef}
+use Rattle.std.proofs.Common.{[], ◌++◌, sym, subst, arith}
 use Rattle.blocks.specs.Blocks.{Blocks, times, Changes, Owned}
 use Rattle.blocks.proofs.Times.{times-append}
 use Rattle.blocks.proofs.Change.{Changes-beside, Changes-owned}

@@ -1,21 +1,20 @@
 -- A tree while it is copied: the copy's first links name copies, and the others still the nodes that are to be copied.
-use Rattle.std.proofs.Common.{◌≡◌, ◌∙◌, ℕ, zero, suc, ◌+◌, ◌*◌, ◌-◌, ◌<◌, ◌≤◌, false, cond, is_some, List, [], ◌∷◌, ◌++◌, length, take, drop, get_or, map, Option, Some, None, IsSome, unwrap_or, refl, sym, ap, subst, inl, inr, arith, append_assoc, length-append, length-drop}
-use Rattle.std.proofs.lemmas.List.{append-nil, take_at, take_all, take_more, drop_more, length-map}
+use Rattle.std.proofs.Common.{◌≡◌, ◌∙◌, ℕ, suc, ◌+◌, ◌*◌, ◌-◌, ◌<◌, ◌≤◌, false, cond, is_some, List, [], ◌∷◌, ◌++◌, length, take, drop, get_or, map, Option, Some, None, IsSome, unwrap_or, refl, sym, ap, subst, inl, inr, arith, append_assoc, length-append, length-drop}
+use Rattle.std.proofs.lemmas.List.{append-nil, take_at, take_all, take_more, drop_more}
 use Rattle.std.proofs.Math.ListN.{drop_of_length-le}
 use Rattle.std.specs.List.{AllByRecursion, flat_map}
 use Rattle.std.proofs.lemmas.List.Concat.{flat_map-append}
 use Rattle.std.proofs.lemmas.Bool.{cond-true}
 use Rattle.blocks.specs.declared.BlockRef.{BlockRef}
 use Rattle.blocks.specs.Blocks.{Blocks, ref_eq, times, live, IsIn, Changes, Owned, with_block, bytes_at, overwritten}
-use Rattle.blocks.proofs.Times.{times-append}
 use Rattle.blocks.proofs.Refs.{ref_eq-refl, ref_eq-sym, with_block-same, with_block-other, apart_live}
-use Rattle.blocks.proofs.Change.{one, cases_in, with_block-undone, live-is, live-once, other_than, Counts-then, Counts-changed, Counts-written, Changes-counted, Changes-both, Changes-owned, Changes-then}
+use Rattle.blocks.proofs.Change.{one, cases_in, with_block-undone, live-is, other_than, Counts-then, Counts-changed, Counts-written, Changes-counted, Changes-both, Changes-owned, Changes-then}
 use Rattle.rax_packed.specs.Nodes.{Link, Node, Leaf, Inner, IsInner, IsNode, HoldsNode, Fits, IsRef, spelled, ref_bytes, node_of}
-use Rattle.rax_packed.specs.Trees.{Entry, node_at, under, entries, refs, IsTree, entries_at, refs_at, IsTreeAt}
+use Rattle.rax_packed.specs.Trees.{Entry, node_at, under, entries, refs, IsTree, refs_at, IsTreeAt}
 use Rattle.rax_packed.specs.Ways.{IsInnerBytes, links_in, prefix_in}
 use Rattle.rax_packed.specs.Copies.{IsCopy}
 use Rattle.rax_packed.proofs.Entries.{below_links, all-append}
-use Rattle.rax_packed.proofs.Frames.{refs_below, SameTree, same_tree, SameBelow, same_below, LevelsBelow, levels_below, InnerAt, LeafAt, inner_at, leaf_at, inner_node, leaf_node, inner_tree, leaf_tree, inner_entries, leaf_entries, inner_refs, leaf_refs}
+use Rattle.rax_packed.proofs.Frames.{refs_below, SameTree, same_tree, SameBelow, same_below, LevelsBelow, levels_below, InnerAt, LeafAt, inner_at, inner_node, leaf_node, inner_tree, leaf_tree, inner_entries, leaf_entries, inner_refs, leaf_refs}
 use Rattle.rax_packed.proofs.Links.{inner_relinked, relinked_bytes}
 use Rattle.rax_packed.proofs.Looks.{Named, named, node_read, tree_node, same_some}
 use Rattle.rax_packed.proofs.Releases.{node_refs, node_trees, all_at, refs_split, with_link}

@@ -1,5 +1,5 @@
 -- A tree without a key.
-use Rattle.std.proofs.Common.{◌≡◌, ◌∙◌, ℕ, suc, ◌+◌, ◌*◌, ◌-◌, ◌<◌, ◌≤◌, List, [], ◌∷◌, ◌++◌, length, drop, take, replicate, map, Option, Some, None, IsSome, unwrap_or, refl, sym, ap, subst, arith, length-append, append_assoc}
+use Rattle.std.proofs.Common.{◌≡◌, ◌∙◌, Bool, true, false, not, ℕ, suc, ◌+◌, ◌*◌, ◌-◌, ◌<◌, ◌≤◌, List, [], ◌∷◌, ◌++◌, length, drop, take, replicate, map, Option, Some, None, IsSome, unwrap_or, refl, sym, ap, subst, arith, length-append, append_assoc}
 use Rattle.std.proofs.lemmas.List.{append-nil, take_at, drop_at, length-map, length-drop, length-take-le, replicate-append-replicate}
 use Rattle.std.specs.List.{remove}
 use Rattle.std.specs.Ordering.{is_ne}
@@ -167,3 +167,12 @@ no_value {o = o} is some = by_case (subst (λ p. IsSome p) is some)
   where
     by_case : IsSome {T = BlockRef} None → ⊥
     by_case h = cc
+
+-- what a test for the contrary says
+pub was_kept : (gone : Bool) → not gone ≡ true → gone ≡ false
+was_kept true h = sym h
+was_kept false h = refl
+
+pub was_gone : (gone : Bool) → not gone ≡ false → gone ≡ true
+was_gone true h = refl
+was_gone false h = sym h

@@ -1,18 +1,17 @@
 -- Maps over blocks that others change, and the keys of their nodes.
-use Rattle.std.proofs.Common.{◌≡◌, ◌∙◌, ℕ, zero, suc, ◌-◌, ◌<◌, ◌≤◌, cond, is_some, List, [], ◌∷◌, ◌++◌, length, map, Option, Some, None, IsSome, unwrap_or, refl, sym, ap, subst, inl, inr, arith, append_assoc, Bool, true, false}
+use Rattle.std.proofs.Common.{◌≡◌, ◌∙◌, ℕ, zero, suc, ◌-◌, ◌<◌, cond, is_some, List, [], ◌∷◌, ◌++◌, length, map, Option, Some, None, IsSome, refl, sym, ap, subst, inl, inr, arith, append_assoc, Bool, true, false}
 use Rattle.std.specs.List.{AllByRecursion, find}
 use Rattle.std.specs.Option.{option_map}
-use Rattle.std.proofs.lemmas.Bool.{cond-true}
 use Rattle.std.specs.Ordering.{is_eq}
 use Rattle.blocks.specs.declared.BlockRef.{BlockRef}
-use Rattle.blocks.specs.Blocks.{Blocks, live, times, IsIn, Changes, Owned}
+use Rattle.blocks.specs.Blocks.{Blocks, live, IsIn, Changes, Owned}
 use Rattle.blocks.proofs.Times.{times-append}
 use Rattle.blocks.proofs.Change.{cases_in, live-once, Owned-others}
 use Rattle.rax_packed.specs.declared.tree.PackedTree.{PackedTree}
 use Rattle.rax_packed.specs.Nodes.{Link, Node, Leaf, Inner, Fits, Rising, node_of}
-use Rattle.rax_packed.specs.Trees.{Entry, Mark, node_at, mark_under, entries, entries_in, refs, refs_at, first_key, marks, marks_in, Below, IsTree, IsTreeAt}
+use Rattle.rax_packed.specs.Trees.{Entry, Mark, node_at, mark_under, entries, entries_in, refs, first_key, marks, marks_in, Below, IsTree}
 use Rattle.rax_packed.specs.Packed.{order, value_at}
-use Rattle.rax_packed.specs.Maps.{root_entries, root_refs, root_marks, entries_of, refs_of, marks_of, IsRoot, IsSound}
+use Rattle.rax_packed.specs.Maps.{root_entries, root_refs, root_marks, refs_of, IsRoot}
 use Rattle.rax_packed.specs.Laws.{Stays, PackedLaws}
 use Rattle.rax_packed.proofs.Keys.{order-same}
 use Rattle.rax_packed.proofs.Entries.{all-append, value_at-link, key_under, below_links}
@@ -46,7 +45,12 @@ stays a b tree same =
       entries_are = all.entries_are;
       refs_are = all.refs_are;
       marks_are = all.marks_are;
-      sound = λ s. record { stands = all.tree s.stands; owned = subst (λ xs. Owned xs b) (sym all.refs_are) (still_owned a b (refs_of a tree) same s.owned) };
+      sound = λ s. record {
+        stands = all.tree s.stands;
+        owned = subst (λ xs. Owned xs b) (sym all.refs_are) (still_owned a b (refs_of a tree) same s.owned);
+        nodes_are = s.nodes_are ∙ sym (ap length all.refs_are);
+        keys_are = s.keys_are ∙ sym (ap length all.entries_are);
+      };
     }
 
 beside : (a b : Blocks) (refs old new : List BlockRef) → Owned (refs ++ old) a → Changes a b old new → (r : BlockRef) → IsIn r refs → b r ≡ a r

@@ -12,13 +12,17 @@ pub mod Layouts
 pub mod Links
 pub mod Looks
 pub mod Marked
+pub mod Onces
 pub mod Paths
 pub mod Releases
 pub mod Relocations
 pub mod Roots
 pub mod Seeks
+pub mod Settings
+pub mod Sounds
 pub mod Spellings
 pub mod Splits
 pub mod Steps
+pub mod Tallies
 pub mod Turnings
 pub mod Copied

@@ -10,7 +10,7 @@ use Rattle.rax_packed.specs.Trees.{Mark, refs, marks, refs_in, marks_in, mark_un
 use Rattle.rax_packed.specs.Maps.{refs_of, marks_of, root_marks, root_refs}
 
 -- what a mark names
-abbrev at_of : Mark → BlockRef
+abbrev pub at_of : Mark → BlockRef
 at_of m = m.at
 
 named_under : (begin : List ℕ) (ms : List Mark) → map at_of (map (mark_under begin) ms) ≡ map at_of ms
@@ -28,7 +28,7 @@ named_in : (levels : ℕ) (blocks : Blocks) → ((at : BlockRef) → map at_of (
 named_in levels blocks each (Leaf prefix value) = refl
 named_in levels blocks each (Inner prefix links) = named_links levels blocks each prefix links
 
-named : (levels : ℕ) (blocks : Blocks) (at : BlockRef) → map at_of (marks levels blocks at) ≡ refs levels blocks at
+pub named : (levels : ℕ) (blocks : Blocks) (at : BlockRef) → map at_of (marks levels blocks at) ≡ refs levels blocks at
 unfolding refs marks
 named zero blocks at = refl
 named (suc levels) blocks at = ap (λ rs. at ∷ rs) (named_in levels blocks (named levels blocks) (node_at blocks at))

@@ -15,7 +15,7 @@ use Rattle.rax_packed.proofs.Spellings.{node_cases}
 use Rattle.rax_packed.specs.Trees.{node_at, refs_in, refs, IsTree, refs_at, IsTreeAt, Below}
 use Rattle.rax_packed.specs.Ways.{IsInnerBytes, links_in, prefix_in}
 use Rattle.rax_packed.proofs.Frames.{refs_below, SameTree, same_tree}
-use Rattle.rax_packed.proofs.Looks.{Named, named, tree_live}
+use Rattle.rax_packed.proofs.Looks.{Named, named}
 
 -- a node's references by its links, of which a leaf has none
 in_links : (n : ℕ) (b : Blocks) (node : Node) → refs_in (refs n b) node ≡ refs_below n b (links_in node)

@@ -1,5 +1,5 @@
 -- What is left of a tree where the nodes of a key's way have moved.
-use Rattle.std.proofs.Common.{◌≡◌, ◌≢◌, ◌∙◌, ℕ, zero, suc, ◌+◌, ◌*◌, ◌<◌, ◌≤◌, Bool, true, false, cond, List, [], ◌∷◌, ◌++◌, length, drop, map, Some, unwrap_or, refl, sym, ap, subst, inl, inr, arith}
+use Rattle.std.proofs.Common.{◌≡◌, ◌≢◌, ◌∙◌, ℕ, ◌+◌, ◌*◌, Bool, true, false, cond, List, [], ◌∷◌, ◌++◌, length, drop, map, Some, unwrap_or, refl, sym, ap, subst, inl, inr, arith}
 use Rattle.std.proofs.lemmas.Bool.{cases_eq, cond-true}
 use Rattle.std.specs.Ordering.{is_eq}
 use Rattle.std.proofs.lemmas.List.Concat.{flat_map-append}
@@ -8,10 +8,10 @@ use Rattle.blocks.specs.Blocks.{Blocks, ref_eq, times, IsIn, Changes, Owned, wit
 use Rattle.blocks.specs.Slabs.{Heap, wants, Calmer}
 use Rattle.blocks.proofs.Refs.{ref_eq-refl}
 use Rattle.blocks.proofs.Change.{one, live-once, Owned-others, Changes-beside, Changes-then, Changes-owned}
-use Rattle.rax_packed.specs.Nodes.{Link, Node, Leaf, Inner, IsRef, ref_bytes, node_of}
+use Rattle.rax_packed.specs.Nodes.{Leaf, IsRef, ref_bytes, node_of}
 use Rattle.rax_packed.specs.Trees.{Entry, Mark, node_at, under, mark_under, entries_in, entries, refs_in, refs, first_key, marks_in, marks, Below, IsTree, entries_at, refs_at, marks_at, IsTreeAt, Becomes}
 use Rattle.rax_packed.specs.Ways.{LeadsTo, prefix_in, links_in}
-use Rattle.rax_packed.specs.Paths.{is_least, is_first, moved, IsPassed, ArePassed}
+use Rattle.rax_packed.specs.Paths.{is_first, moved, ArePassed}
 use Rattle.rax_packed.proofs.Entries.{below_links, key_under}
 use Rattle.rax_packed.proofs.Frames.{marks_below, same_tree, in_node, inner_marks, leaf_marks}
 use Rattle.rax_packed.proofs.Keys.{order-same}

@@ -56,10 +56,12 @@ module _ (b after : Blocks) (tree : PackedTree) (leaf : BlockRef) (key : List �
   pub first_refs : refs_at 16 after leaf ≡ leaf ∷ []
   first_refs = leaf_refs 16 after leaf key value (leaf_node 16 16 after leaf key value node)
 
-  pub first_sound : (now : PackedTree) → now.root ≡ Some leaf → IsSound after now
-  first_sound now root = record {
+  pub first_sound : (now : PackedTree) → now.root ≡ Some leaf → now.nodes ≡ 1 → now.keys ≡ 1 → IsSound after now
+  first_sound now root nodes keys = record {
     stands = subst (λ r. IsRoot after r) (sym root) (leaf_tree 16 16 after leaf key value node);
     owned = subst (λ xs. Owned xs after) (sym (ap (root_refs after) root ∙ first_refs)) (Changes-owned b after [] (leaf ∷ []) changes);
+    nodes_are = nodes ∙ sym (ap length (ap (root_refs after) root ∙ first_refs));
+    keys_are = keys ∙ sym (ap length (ap (root_entries after) root ∙ leaf_entries 16 after leaf key value (leaf_node 16 16 after leaf key value node)));
   }
 
   pub first_entries : entries_at 16 after leaf ≡ with_entry (entries_of b tree) key value

@@ -8,7 +8,7 @@ use Rattle.blocks.specs.Blocks.{Blocks, ref_eq, times, IsOut, Changes, Owned, wi
 use Rattle.blocks.proofs.Refs.{ref_eq-refl, with_block-same, with_block-other}
 use Rattle.blocks.proofs.Change.{one, live-once, Owned-others, Counts-written, Changes-counted}
 use Rattle.rax_packed.specs.Nodes.{Link, Leaf, Inner, HoldsNode, IsRef, IsNode, node_of, ref_bytes}
-use Rattle.rax_packed.specs.Trees.{Entry, Mark, under, mark_under, first_key, entries, refs, marks, IsTree, entries_at, marks_at, refs_at, IsTreeAt, Becomes}
+use Rattle.rax_packed.specs.Trees.{Entry, under, mark_under, first_key, entries, refs, marks, IsTree, entries_at, marks_at, refs_at, IsTreeAt, Becomes}
 use Rattle.rax_packed.specs.Ways.{LeadsTo, IsInnerBytes, prefix_in, links_in}
 use Rattle.rax_packed.specs.Packed.{order, with_entry, without}
 use Rattle.rax_packed.proofs.Entries.{below_links, with_entry-link, without-link}
@@ -128,7 +128,7 @@ module _ (b : Blocks) (at to : BlockRef) (bytes key : List ℕ) (place from : �
         (append-nil (map (mark_under (split.prefix ++ split.edge ∷ [])) (marks (length key) mid new)) ∙ ap (map (mark_under (split.prefix ++ split.edge ∷ []))) lifted.marks_are)
 
   -- the entries of the tree are those below the node's links
-  old_entries : entries_at (length key) b at ≡ below_links split.prefix (entries (length key) b) (split.before ++ (record { edge = split.edge; to = to }) ∷ split.after)
+  pub old_entries : entries_at (length key) b at ≡ below_links split.prefix (entries (length key) b) (split.before ++ (record { edge = split.edge; to = to }) ∷ split.after)
   old_entries =
       let links = split.before ++ (record { edge = split.edge; to = to }) ∷ split.after in
       inner_entries (length key) b at split.prefix links (inner_node (length key) (length key) b at split.prefix links split.node)
@@ -152,7 +152,7 @@ module _ (b : Blocks) (at to : BlockRef) (bytes key : List ℕ) (place from : �
       (ap (λ es. without es split.below) (sym child.entries_are) ∙ ap (λ k. without (entries_at (length (drop from key)) b to) k) (sym below_is))
 
   -- the link's reference is one that code can hold
-  ref_to : IsRef to
+  pub ref_to : IsRef to
   ref_to = all-middle (λ l. IsRef l.to) split.before split.after (record { edge = split.edge; to = to }) split.node.inner.refs
 
   -- where the tree below has come to hold the value under the same reference, so has the tree

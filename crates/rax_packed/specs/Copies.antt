@@ -1,5 +1,5 @@
 -- A tree copied.
-use Rattle.std.specs.Prelude.{◌≡◌, ℕ, List, [], length}
+use Rattle.std.specs.Prelude.{◌≡◌, ℕ, [], length}
 use Rattle.blocks.specs.declared.BlockRef.{BlockRef}
 use Rattle.blocks.specs.Blocks.{Blocks, Changes}
 use Rattle.rax_packed.specs.Trees.{entries_at, refs_at, IsTreeAt}

@@ -1,5 +1,5 @@
 -- What a `PackedTree` is in the blocks of a store.
-use Rattle.std.specs.Prelude.{List, [], Option, Some, None}
+use Rattle.std.specs.Prelude.{◌≡◌, List, [], length, Option, Some, None}
 use Rattle.blocks.specs.declared.BlockRef.{BlockRef}
 use Rattle.blocks.specs.Blocks.{Blocks, Owned}
 use Rattle.rax_packed.specs.declared.tree.PackedTree.{PackedTree}
@@ -33,7 +33,10 @@ refs_of blocks tree = root_refs blocks tree.root
 abbrev pub marks_of : Blocks → PackedTree → List Mark
 marks_of blocks tree = root_marks blocks tree.root
 
--- a tree of keys of sixteen bytes stands in the blocks, and no reference of it stands twice
+-- A tree of keys of sixteen bytes stands in the blocks, no reference of it stands twice, and it has as many nodes and keys
+-- as it counts.
 pub record IsSound (blocks : Blocks) (tree : PackedTree) : Type 0 where
   pub stands : IsRoot blocks tree.root
   pub owned : Owned (refs_of blocks tree) blocks
+  pub nodes_are : tree.nodes ≡ length (refs_of blocks tree)
+  pub keys_are : tree.keys ≡ length (entries_of blocks tree)

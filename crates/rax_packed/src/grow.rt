@@ -12,6 +12,15 @@ use crate::build::{forked, leaf_bytes, shortened, widened};
 use crate::node::{REF_LEN, Way, pack, read_sections, way_of};
 use blocks::{BlockRef, BlockStore, put_block};
 
+/// A tree that has got a key.
+#[derive(Clone, Copy)]
+pub(crate) struct Grown {
+    /// The node that stands in its place.
+    pub(crate) at: BlockRef,
+    /// How many nodes more it has: a leaf, and where that hangs at a new inner node that one too.
+    pub(crate) more: u64,
+}
+
 /// Puts in a key that is missing, of which the bytes from a node on are left, and answers the node that stands in its
 /// place then. `Memory` leaves all blocks.
 pub(crate) fn add_below<B: BlockStore>(
@@ -19,13 +28,15 @@ pub(crate) fn add_below<B: BlockStore>(
     at: BlockRef,
     rest: &[u8],
     value: BlockRef,
-) -> Result<BlockRef, Memory>
+) -> Result<Grown, Memory>
     requires tree { IsTreeAt (length rest.now) (B.blocks store.old) at }
     requires owned { Owned (refs_at (length rest.now) (B.blocks store.old) at) (B.blocks store.old) }
     requires short { length rest.now ≤ 16 }
     requires missing { value_at (entries_at (length rest.now) (B.blocks store.old) at) rest.now ≡ None }
-    ensures added { IfOk result (λ new. Becomes (length rest.now) (B.blocks store.old) (B.blocks store.new) at new
+    ensures added { IfOk result (λ new. Becomes (length rest.now) (B.blocks store.old) (B.blocks store.new) at new.at
         (with_entry (entries_at (length rest.now) (B.blocks store.old) at) rest.now value)) }
+    ensures more { IfOk result (λ new. length (refs_at (length rest.now) (B.blocks store.new) new.at) ≡ length (refs_at (length rest.now) (B.blocks store.old) at) + new.more) }
+    ensures few { IfOk result (λ new. new.more ≤ 2) }
     ensures served { Served B.step store.old store.new }
     ensures err { OnErr result (B.blocks store.new ≡ B.blocks store.old) }
 {
@@ -35,8 +46,8 @@ pub(crate) fn add_below<B: BlockStore>(
         Way::Missing(place, from) => attach(store, at, rest, place, from, value),
         Way::Link(place, from, to) => {
             let new = add_below(store, to, &rest[from..], value)?;
-            relink(store, at, place, new);
-            Ok(at)
+            relink(store, at, place, new.at);
+            Ok(Grown { at, more: new.more })
         }
     }
 }
@@ -75,13 +86,15 @@ fn attach<B: BlockStore>(
     place: usize,
     from: usize,
     value: BlockRef,
-) -> Result<BlockRef, Memory>
+) -> Result<Grown, Memory>
     requires tree { IsTreeAt (length rest.now) (B.blocks store.old) at }
     requires owned { Owned (refs_at (length rest.now) (B.blocks store.old) at) (B.blocks store.old) }
     requires short { length rest.now ≤ 16 }
     requires lacks { Lacks (node_of (bytes_at (B.blocks store.old) at)) rest.now place from }
-    ensures added { IfOk result (λ new. Becomes (length rest.now) (B.blocks store.old) (B.blocks store.new) at new
+    ensures added { IfOk result (λ new. Becomes (length rest.now) (B.blocks store.old) (B.blocks store.new) at new.at
         (with_entry (entries_at (length rest.now) (B.blocks store.old) at) rest.now value)) }
+    ensures more { IfOk result (λ new. length (refs_at (length rest.now) (B.blocks store.new) new.at) ≡ length (refs_at (length rest.now) (B.blocks store.old) at) + new.more) }
+    ensures few { IfOk result (λ new. new.more ≤ 2) }
     ensures served { Served B.step store.old store.new }
     ensures err { OnErr result (B.blocks store.new ≡ B.blocks store.old) }
 {
@@ -90,7 +103,7 @@ fn attach<B: BlockStore>(
     match put_block(store, wider.as_slice()) {
         Ok(new) => {
             store.give_back(at);
-            Ok(new)
+            Ok(Grown { at: new, more: 1 })
         }
         Err(error) => {
             store.give_back(leaf);
@@ -106,13 +119,15 @@ fn split<B: BlockStore>(
     rest: &[u8],
     shared: usize,
     value: BlockRef,
-) -> Result<BlockRef, Memory>
+) -> Result<Grown, Memory>
     requires tree { IsTreeAt (length rest.now) (B.blocks store.old) at }
     requires owned { Owned (refs_at (length rest.now) (B.blocks store.old) at) (B.blocks store.old) }
     requires short { length rest.now ≤ 16 }
     requires parts { PartsAt (node_of (bytes_at (B.blocks store.old) at)) rest.now shared }
-    ensures added { IfOk result (λ new. Becomes (length rest.now) (B.blocks store.old) (B.blocks store.new) at new
+    ensures added { IfOk result (λ new. Becomes (length rest.now) (B.blocks store.old) (B.blocks store.new) at new.at
         (with_entry (entries_at (length rest.now) (B.blocks store.old) at) rest.now value)) }
+    ensures more { IfOk result (λ new. length (refs_at (length rest.now) (B.blocks store.new) new.at) ≡ length (refs_at (length rest.now) (B.blocks store.old) at) + new.more) }
+    ensures few { IfOk result (λ new. new.more ≤ 2) }
     ensures served { Served B.step store.old store.new }
     ensures err { OnErr result (B.blocks store.new ≡ B.blocks store.old) }
 {
@@ -130,7 +145,7 @@ fn split<B: BlockStore>(
     match put_block(store, fork.as_slice()) {
         Ok(new) => {
             store.give_back(at);
-            Ok(new)
+            Ok(Grown { at: new, more: 2 })
         }
         Err(error) => {
             store.give_back(moved);

@@ -16,12 +16,15 @@ use crate::release::release_below;
 use crate::relocate::relocate_below;
 use crate::seek::seek_below;
 use blocks::{BlockRef, BlockStore, put_block};
+use std::alloc::AllocError;
 
 /// An ordered map from keys of sixteen bytes to references, in the order of the keys' bytes. It owns the blocks of its
 /// nodes in the store that each call is lent, and no other block: not those that its values name.
 #[derive(Debug, Drop)]
 pub struct PackedTree {
     root: Option<BlockRef>,
+    nodes: u64,
+    keys: u64,
 }
 
 impl PackedTree {
@@ -36,7 +39,25 @@ impl PackedTree {
         ensures refs { (blocks : Blocks) → refs_of blocks result ≡ [] }
         ensures sound { (blocks : Blocks) → IsSound blocks result }
     {
-        PackedTree { root: None }
+        PackedTree {
+            root: None,
+            nodes: 0,
+            keys: 0,
+        }
+    }
+
+    /// The number of its nodes, each of which is a block that it owns. It looks at no block.
+    pub fn nodes(&self) -> u64
+        ensures { (blocks : Blocks) → IsSound blocks self.now → result ≡ length (refs_of blocks self.now) }
+    {
+        self.nodes
+    }
+
+    /// The number of keys. It looks at no block.
+    pub fn len(&self) -> u64
+        ensures { (blocks : Blocks) → IsSound blocks self.now → result ≡ length (entries_of blocks self.now) }
+    {
+        self.keys
     }
 
     /// The value at a key, and `None` where the map has no such key.
@@ -94,15 +115,49 @@ impl PackedTree {
     {
         let Some(at) = self.root else {
             self.root = Some(put_block(store, leaf_bytes(key, value).as_slice())?);
+            self.nodes = 1;
+            self.keys = 1;
             return Ok(None);
         };
         match set_below(store, at, key, value) {
             Some(old) => Ok(Some(old)),
             None => {
-                self.root = Some(add_below(store, at, key, value)?);
+                self.grow(store, at, key, value)?;
                 Ok(None)
             }
         }
+    }
+
+    // Puts in a key that is missing below the root. `Memory`, which comes too where a count would pass the greatest number,
+    // leaves the map and all blocks.
+    fn grow<B: BlockStore>(
+        &mut self,
+        store: &mut B,
+        at: BlockRef,
+        key: &[u8; 16],
+        value: BlockRef,
+    ) -> Result<(), Memory>
+        requires sound { IsSound (B.blocks store.old) self.old }
+        requires root { self.old.root ≡ Some at }
+        requires missing { value_at (entries_of (B.blocks store.old) self.old) key.now ≡ None }
+        ensures sound { OnOk result (IsSound (B.blocks store.new) self.new) }
+        ensures inserted { OnOk result (entries_of (B.blocks store.new) self.new ≡ with_entry (entries_of (B.blocks store.old) self.old) key.now value) }
+        ensures changes { OnOk result (Changes (B.blocks store.old) (B.blocks store.new) (refs_of (B.blocks store.old) self.old) (refs_of (B.blocks store.new) self.new)) }
+        ensures served { Served B.step store.old store.new }
+        ensures err_tree { OnErr result (self.new ≡ self.old) }
+        ensures err_blocks { OnErr result (B.blocks store.new ≡ B.blocks store.old) }
+    {
+        let Some(keys) = self.keys.checked_add(1) else {
+            return Err(AllocError);
+        };
+        if self.nodes > u64::MAX - 2 {
+            return Err(AllocError);
+        }
+        let grown = add_below(store, at, key, value)?;
+        self.root = Some(grown.at);
+        self.nodes += grown.more;
+        self.keys = keys;
+        Ok(())
     }
 
     /// Puts a value at a key that stands in the map, and answers whether it does. It takes no memory.
@@ -110,6 +165,8 @@ impl PackedTree {
         requires { IsSound (B.blocks store.old) self.old }
         ensures sound { IsSound (B.blocks store.new) self.new }
         ensures set { result ≡ true → entries_of (B.blocks store.new) self.new ≡ with_entry (entries_of (B.blocks store.old) self.old) key.now value }
+        ensures marks { result ≡ true → marks_of (B.blocks store.new) self.new ≡ marks_of (B.blocks store.old) self.old }
+        ensures slabs { B.heap store.new ≡ B.heap store.old }
         ensures there { result ≡ is_some (value_at (entries_of (B.blocks store.old) self.old) key.now) }
         ensures changes { Changes (B.blocks store.old) (B.blocks store.new) (refs_of (B.blocks store.old) self.old) (refs_of (B.blocks store.new) self.new) }
         ensures served { Served B.step store.old store.new }
@@ -117,7 +174,10 @@ impl PackedTree {
     {
         match self.root {
             None => false,
-            Some(at) => set_below(store, at, key, value).is_some(),
+            Some(at) => match set_below(store, at, key, value) {
+                Some(_) => true,
+                None => false,
+            },
         }
     }
 
@@ -136,9 +196,12 @@ impl PackedTree {
         let Some(value) = find_below(store, at, key) else {
             return None;
         };
-        if cut_below(store, at, key) {
+        let cut = cut_below(store, at, key);
+        if cut.gone {
             self.root = None;
         }
+        self.nodes -= cut.fewer;
+        self.keys -= 1;
         Some(value)
     }
 
@@ -185,11 +248,17 @@ impl PackedTree {
         ensures served { Served B.step store.old store.new }
         ensures err { OnErr result (B.blocks store.new ≡ B.blocks store.old) }
     {
-        let root = match self.root {
-            None => None,
-            Some(at) => Some(copy_below(store, at, 16)?),
-        };
-        Ok(PackedTree { root })
+        match self.root {
+            None => Ok(PackedTree::new()),
+            Some(at) => {
+                let root = copy_below(store, at, 16)?;
+                Ok(PackedTree {
+                    root: Some(root),
+                    nodes: self.nodes,
+                    keys: self.keys,
+                })
+            }
+        }
     }
 
     /// Gives back all nodes. It takes no memory.

@@ -1,7 +1,6 @@
-use Rattle.std.proofs.Common.{◌≡◌, ◌∙◌, ℕ, suc, ◌+◌, ◌-◌, ◌≤◌, Some, None, [], ◌∷◌, length, take, refl, sym, ap, subst, arith, unwrap_or}
-use Rattle.blocks.specs.Blocks.{Blocks, Changes, with_block, bytes_at, no_step}
+use Rattle.std.proofs.Common.{◌≡◌, ◌∙◌, suc, ◌+◌, ◌-◌, [], ◌∷◌, length, take, sym, ap, subst, arith, unwrap_or}
+use Rattle.blocks.specs.Blocks.{Blocks, Changes, no_step}
 use Rattle.blocks.proofs.Serve.{Served-then}
-use Rattle.blocks.proofs.Change.{with_block-undone}
 use Rattle.rax_packed.specs.Nodes.{Link, IsNode, Fits, node_of}
 use Rattle.rax_packed.specs.Trees.{node_at}
 use Rattle.rax_packed.specs.Ways.{links_in, prefix_in}

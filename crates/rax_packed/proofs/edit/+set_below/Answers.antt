@@ -5,6 +5,8 @@ use Rattle.rax_packed.proofs.Spellings.{length-ref_bytes}
 use Rattle.blocks.proofs.Serve.{Served-same, Served-once}
 use Rattle.rax_packed.proofs.Looks.{tree_live, tree_node, found_leaf, found_parts, found_missing, found_link, link_below, shorter, leaf_room}
 use Rattle.rax_packed.proofs.Steps.{own_below, set_link, set_leaf}
+use Rattle.rax_packed.proofs.Settings.{both, leaf_marks_stay, leaf_keys_stay, link_keys_stay, link_marks_stay}
+use Rattle.rax_packed.proofs.Tallies.{written_live}
 use Rattle.rax_packed.proofs.edit.+set_below.Goals as goal
 
 pub bytes-requires : goal.bytes-requires
@@ -66,3 +68,30 @@ returns-in-Link-clause-set g t c =
     let b = g.B.BlockStore.blocks c.args.store.now in
     let mid = g.B.BlockStore.blocks c.set_below.new.store in
     IfSome_then c.set_below.result (rw (take_rest c.args.rest.now c.in-Link.from) at c.set_below.ensures.set) (λ old below. set_link b c.args.at c.in-Link.to c.bytes.result.now c.args.rest.now c.in-Link.field-0 c.in-Link.from c.requires.tree c.bytes.ensures c.in-Link.ensures mid c.args.value c.requires.owned below)
+
+pub returns-in-Leaf-clause-stays : goal.returns-in-Leaf-clause-stays
+returns-in-Leaf-clause-stays g t c = written_live (g.B.BlockStore.blocks c.args.store.now) (g.B.BlockStore.blocks c.write.new.self) c.args.at _ (tree_live _ _ _ _ c.requires.tree) c.write.ensures.written
+
+pub returns-in-Leaf-clause-keys : goal.returns-in-Leaf-clause-keys
+returns-in-Leaf-clause-keys g t c =
+    leaf_keys_stay (g.B.BlockStore.blocks c.args.store.now) (g.B.BlockStore.blocks c.write.new.self) c.args.at c.in-Leaf.old c.args.value c.bytes.result.now c.args.rest.now c.requires.tree c.requires.owned c.bytes.ensures c.in-Leaf.ensures c.pack.ensures.fits
+    (rw c.pack.ensures.bytes at c.write.ensures.written)
+
+pub returns-in-Leaf-clause-marks : goal.returns-in-Leaf-clause-marks
+returns-in-Leaf-clause-marks g t c =
+    leaf_marks_stay (g.B.BlockStore.blocks c.args.store.now) (g.B.BlockStore.blocks c.write.new.self) c.args.at c.in-Leaf.old c.args.value c.bytes.result.now c.args.rest.now c.requires.tree c.requires.owned c.bytes.ensures c.in-Leaf.ensures c.pack.ensures.fits
+    (rw c.pack.ensures.bytes at c.write.ensures.written)
+
+pub returns-in-Link-clause-keys : goal.returns-in-Link-clause-keys
+returns-in-Link-clause-keys g t c =
+    let b = g.B.BlockStore.blocks c.args.store.now in
+    let mid = g.B.BlockStore.blocks c.set_below.new.store in
+    IfSome_then c.set_below.result (rw (take_rest c.args.rest.now c.in-Link.from) at c.set_below.ensures.keys) (λ old same. link_keys_stay b mid c.args.at c.in-Link.to c.bytes.result.now c.args.rest.now c.in-Link.field-0 c.in-Link.from c.args.value c.requires.tree c.bytes.ensures c.in-Link.ensures same)
+
+pub returns-in-Link-clause-marks : goal.returns-in-Link-clause-marks
+returns-in-Link-clause-marks g t c =
+    let b = g.B.BlockStore.blocks c.args.store.now in
+    let mid = g.B.BlockStore.blocks c.set_below.new.store in
+    let all = take_rest c.args.rest.now c.in-Link.from in
+    IfSome_then c.set_below.result (both c.set_below.result _ _ (rw all at c.set_below.ensures.set) (both c.set_below.result _ _ (rw all at c.set_below.ensures.keys) (rw all at c.set_below.ensures.marks)))
+    (λ old all. link_marks_stay b mid c.args.at c.in-Link.to c.bytes.result.now c.args.rest.now c.in-Link.field-0 c.in-Link.from c.args.value c.requires.tree c.bytes.ensures c.in-Link.ensures c.requires.owned all.0 all.1.0 all.1.1)

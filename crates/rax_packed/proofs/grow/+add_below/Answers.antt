@@ -1,9 +1,10 @@
-use Rattle.std.proofs.Common.{◌∙◌, ◌<◌, sym, subst, arith, length, drop}
+use Rattle.std.proofs.Common.{◌∙◌, ◌<◌, refl, sym, subst, arith, length, drop}
 use Rattle.std.proofs.lemmas.List.{take_rest}
 use Rattle.blocks.proofs.Serve.{Served-then}
 use Rattle.rax_packed.specs.Trees.{refs_at}
 use Rattle.rax_packed.proofs.Looks.{tree_live, tree_node, found_leaf, found_link, link_below, shorter}
 use Rattle.rax_packed.proofs.Steps.{own_below, kept_block, add_link, link_ready}
+use Rattle.rax_packed.proofs.Tallies.{step_many, written_live}
 use Rattle.rax_packed.proofs.grow.+add_below.Goals as goal
 
 pub bytes-requires : goal.bytes-requires
@@ -44,7 +45,7 @@ relink-requires g t c =
     let b = g.B.BlockStore.blocks c.args.store.now in
     let mid = g.B.BlockStore.blocks c.add_below.new.store in
     let below = rw (take_rest c.args.rest.now c.in-Link.from) at c.in_ok-new-in-Link.ensures.added in
-    let same = kept_block b c.args.at c.in-Link.to c.bytes.result.now c.args.rest.now c.in-Link.place c.in-Link.from c.requires.tree c.bytes.ensures c.in-Link.ensures mid (refs_at (length (drop c.in-Link.from c.args.rest.now)) mid c.in_ok-new-in-Link.new) c.requires.owned below.changes in
+    let same = kept_block b c.args.at c.in-Link.to c.bytes.result.now c.args.rest.now c.in-Link.place c.in-Link.from c.requires.tree c.bytes.ensures c.in-Link.ensures mid (refs_at (length (drop c.in-Link.from c.args.rest.now)) mid c.in_ok-new-in-Link.new.at) c.requires.owned below.changes in
     let ready = link_ready b mid c.args.at c.in-Link.to c.bytes.result.now c.args.rest.now c.in-Link.place c.in-Link.from c.requires.tree c.bytes.ensures c.in-Link.ensures c.requires.short same in
     record { live = ready.live; inner = ready.inner; place = ready.within }
 
@@ -53,7 +54,25 @@ returns-in_ok-new-in-Link-clause-added g t c =
     let b = g.B.BlockStore.blocks c.args.store.now in
     let mid = g.B.BlockStore.blocks c.add_below.new.store in
     let below = rw (take_rest c.args.rest.now c.in-Link.from) at c.in_ok-new-in-Link.ensures.added in
-    add_link b mid (g.B.BlockStore.blocks c.relink.new.store) c.args.at c.in-Link.to c.in_ok-new-in-Link.new c.bytes.result.now c.args.rest.now c.in-Link.place c.in-Link.from c.args.value c.requires.tree c.bytes.ensures c.in-Link.ensures c.requires.owned below c.relink.ensures.fits c.relink.ensures.written
+    add_link b mid (g.B.BlockStore.blocks c.relink.new.store) c.args.at c.in-Link.to c.in_ok-new-in-Link.new.at c.bytes.result.now c.args.rest.now c.in-Link.place c.in-Link.from c.args.value c.requires.tree c.bytes.ensures c.in-Link.ensures c.requires.owned below c.relink.ensures.fits c.relink.ensures.written
 
 pub returns-in_ok-new-in-Link-clause-served : goal.returns-in_ok-new-in-Link-clause-served
 returns-in_ok-new-in-Link-clause-served g t c = Served-then _ _ _ c.in_ok-new-in-Link.ensures.served c.relink.ensures.served
+
+pub returns-in_ok-new-in-Link-clause-more : goal.returns-in_ok-new-in-Link-clause-more
+returns-in_ok-new-in-Link-clause-more g t c =
+    let b = g.B.BlockStore.blocks c.args.store.now in
+    let mid = g.B.BlockStore.blocks c.add_below.new.store in
+    let later = g.B.BlockStore.blocks c.relink.new.store in
+    let new = c.in_ok-new-in-Link.new.at in
+    let key = c.args.rest.now in
+    let all = take_rest key c.in-Link.from in
+    let below = rw all at c.in_ok-new-in-Link.ensures.added in
+    let more = rw all at c.in_ok-new-in-Link.ensures.more in
+    let same = kept_block b c.args.at c.in-Link.to c.bytes.result.now key c.in-Link.place c.in-Link.from c.requires.tree c.bytes.ensures c.in-Link.ensures mid (refs_at (length (drop c.in-Link.from key)) mid new) c.requires.owned below.changes in
+    let ready = link_ready b mid c.args.at c.in-Link.to c.bytes.result.now key c.in-Link.place c.in-Link.from c.requires.tree c.bytes.ensures c.in-Link.ensures c.requires.short same in
+    let done = add_link b mid later c.args.at c.in-Link.to new c.bytes.result.now key c.in-Link.place c.in-Link.from c.args.value c.requires.tree c.bytes.ensures c.in-Link.ensures c.requires.owned below c.relink.ensures.fits c.relink.ensures.written in
+    let part = own_below b c.args.at c.in-Link.to c.bytes.result.now key c.in-Link.place c.in-Link.from c.requires.tree c.bytes.ensures c.in-Link.ensures c.requires.owned in
+    let sum = step_many b mid later (refs_at (length key) b c.args.at) (refs_at (length key) later c.args.at) (refs_at (length (drop c.in-Link.from key)) b c.in-Link.to) (refs_at (length (drop c.in-Link.from key)) mid new)
+    c.requires.owned done.changes part below.changes (written_live mid later c.args.at _ ready.live (c.relink.ensures.written _ refl)) in
+    omega (arith, sum, more)

@@ -1,9 +1,11 @@
-use Rattle.std.proofs.Common.{◌∙◌, ap, sym, arith, IsSome, subst, []}
+use Rattle.std.proofs.Common.{◌∙◌, ap, sym, arith, IsSome, subst, [], ◌∷◌, length}
 use Rattle.std.proofs.lemmas.List.{take_rest}
 use Rattle.blocks.proofs.Serve.{Served-next, Served-then}
 use Rattle.rax_packed.specs.Nodes.{Leaf, spelled}
 use Rattle.rax_packed.proofs.Looks.{tree_live}
-use Rattle.rax_packed.proofs.Growths.{puts_none, puts_more, attach_ready, attach_done}
+use Rattle.rax_packed.proofs.Growths.{puts_none, puts_more, swaps, attach_ready, attach_done}
+use Rattle.rax_packed.proofs.Tallies.{many}
+use Rattle.rax_packed.specs.Trees.{refs_at}
 use Rattle.rax_packed.proofs.grow.attach.Goals as goal
 
 pub bytes-requires : goal.bytes-requires
@@ -38,3 +40,22 @@ returns-in-Ok-clause-served g c = Served-next _ _ _ (Served-then _ _ _ c.in_ok-l
 
 pub returns-in-Err-clause-served : goal.returns-in-Err-clause-served
 returns-in-Err-clause-served g c = Served-next _ _ _ (Served-then _ _ _ c.in_ok-leaf.ensures.served c.in-Err.ensures.served) c.give_back-in-Err.ensures.step
+
+pub returns-in-Ok-clause-more : goal.returns-in-Ok-clause-more
+returns-in-Ok-clause-more g c =
+    let b = g.B.BlockStore.blocks c.args.store.now in
+    let b1 = g.B.BlockStore.blocks c.put_block.new.store in
+    let b2 = g.B.BlockStore.blocks c.put_block-2.new.store in
+    let later = g.B.BlockStore.blocks c.give_back.new.self in
+    let leaf = c.in_ok-leaf.leaf in
+    let new = c.in-Ok.new in
+    let was = tree_live _ _ b c.args.at c.requires.tree in
+    let one_put = puts_more b b b1 [] leaf c.as_slice.result.now (puts_none b) c.in_ok-leaf.ensures.fresh c.in_ok-leaf.ensures.placed in
+    let two_put = puts_more b b1 b2 (leaf ∷ []) new c.as_slice-2.result.now one_put c.in-Ok.ensures.fresh c.in-Ok.ensures.placed in
+    let changed = swaps b b2 later c.args.at (new ∷ leaf ∷ []) two_put was c.give_back.ensures.ended in
+    let done = attach_done b b1 b2 later c.args.at leaf new c.args.rest.now c.args.place c.args.from c.args.value c.requires.tree c.requires.owned c.requires.lacks
+    c.in_ok-leaf.ensures.fresh c.as_slice.result.now c.in_ok-leaf.ensures.placed (c.as_slice.ensures.value ∙ c.leaf_bytes.ensures.bytes ∙ ap (λ k. spelled (Leaf k c.args.value)) (take_rest c.args.rest.now c.args.from))
+    c.bytes.result.now c.bytes.ensures c.as_slice-2.result.now (c.as_slice-2.ensures.value ∙ c.widened-wider.ensures.bytes)
+    c.in-Ok.ensures.fresh c.in-Ok.ensures.placed c.give_back.ensures.ended (λ i. omega (arith, c.type_inv.rest i)) c.widened-wider.ensures.fits c.leaf_bytes.ensures.fits in
+    let sum = many b later (refs_at (length c.args.rest.now) b c.args.at) (refs_at (length c.args.rest.now) later new) (c.args.at ∷ []) (new ∷ leaf ∷ []) c.requires.owned done.changes (λ r. (changed.counts (c.args.at ∷ []) (new ∷ leaf ∷ []) (λ q. omega arith)).balance r) in
+    omega (arith, sum)

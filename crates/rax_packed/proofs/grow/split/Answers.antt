@@ -1,9 +1,11 @@
-use Rattle.std.proofs.Common.{◌∙◌, ◌+◌, ap, sym, arith, IsSome, subst, []}
+use Rattle.std.proofs.Common.{◌∙◌, ◌+◌, ap, sym, arith, IsSome, subst, [], ◌∷◌, length}
 use Rattle.std.proofs.lemmas.List.{take_rest}
 use Rattle.blocks.proofs.Serve.{Served-next, Served-then}
 use Rattle.rax_packed.specs.Nodes.{Leaf, spelled}
 use Rattle.rax_packed.proofs.Looks.{tree_live}
-use Rattle.rax_packed.proofs.Growths.{puts_none, puts_more}
+use Rattle.rax_packed.proofs.Growths.{puts_none, puts_more, swaps}
+use Rattle.rax_packed.proofs.Tallies.{many}
+use Rattle.rax_packed.specs.Trees.{refs_at}
 use Rattle.rax_packed.proofs.Splits.{split_ready, split_done, undone_two}
 use Rattle.rax_packed.proofs.grow.split.Goals as goal
 
@@ -64,3 +66,27 @@ returns-in-Err-put_block-clause-err g c =
     undone_two b b1 b2 b3 (g.B.BlockStore.blocks c.give_back-in-Err-put_block-2.new.self) c.in_ok-leaf.leaf c.in-Ok.moved c.as_slice.result.now c.as_slice-2.result.now
     c.in_ok-leaf.ensures.fresh c.in_ok-leaf.ensures.placed c.in-Ok.ensures.fresh c.in-Ok.ensures.placed
     (rw c.in-Err-put_block.ensures.err_blocks at c.give_back-in-Err-put_block.ensures.ended) c.give_back-in-Err-put_block-2.ensures.ended
+
+pub returns-in-Ok-put_block-clause-more : goal.returns-in-Ok-put_block-clause-more
+returns-in-Ok-put_block-clause-more g c =
+    let b = g.B.BlockStore.blocks c.args.store.now in
+    let b1 = g.B.BlockStore.blocks c.put_block.new.store in
+    let b2 = g.B.BlockStore.blocks c.put_block-2.new.store in
+    let b3 = g.B.BlockStore.blocks c.put_block-3.new.store in
+    let later = g.B.BlockStore.blocks c.give_back-in-Ok-put_block.new.self in
+    let leaf = c.in_ok-leaf.leaf in
+    let moved = c.in-Ok.moved in
+    let new = c.in-Ok-put_block.new in
+    let was = tree_live _ _ b c.args.at c.requires.tree in
+    let one_put = puts_more b b b1 [] leaf c.as_slice.result.now (puts_none b) c.in_ok-leaf.ensures.fresh c.in_ok-leaf.ensures.placed in
+    let two_put = puts_more b b1 b2 (leaf ∷ []) moved c.as_slice-2.result.now one_put c.in-Ok.ensures.fresh c.in-Ok.ensures.placed in
+    let three_put = puts_more b b2 b3 (moved ∷ leaf ∷ []) new c.as_slice-3.result.now two_put c.in-Ok-put_block.ensures.fresh c.in-Ok-put_block.ensures.placed in
+    let changed = swaps b b3 later c.args.at (new ∷ moved ∷ leaf ∷ []) three_put was c.give_back-in-Ok-put_block.ensures.ended in
+    let done = split_done b b1 b2 b3 later c.args.at leaf moved new c.args.rest.now c.args.shared c.args.value c.requires.tree c.requires.short c.requires.owned c.requires.parts
+    c.in_ok-leaf.ensures.fresh c.as_slice.result.now c.in_ok-leaf.ensures.placed (c.as_slice.ensures.value ∙ c.leaf_bytes.ensures.bytes ∙ ap (λ k. spelled (Leaf k c.args.value)) (take_rest c.args.rest.now (c.args.shared + 1)))
+    c.bytes.result.now c.bytes-2.result.now c.bytes.ensures c.bytes-2.ensures c.as_slice-2.result.now (c.as_slice-2.ensures.value ∙ c.shortened-short.ensures)
+    c.in-Ok.ensures.fresh c.in-Ok.ensures.placed c.as_slice-3.result.now (c.as_slice-3.ensures.value ∙ c.forked-fork.ensures.bytes)
+    c.in-Ok-put_block.ensures.fresh c.in-Ok-put_block.ensures.placed c.give_back-in-Ok-put_block.ensures.ended
+    (λ i. omega (arith, c.type_inv.rest i)) c.forked-fork.ensures.byte c.forked-fork.ensures.fits.0 c.forked-fork.ensures.fits.1 c.leaf_bytes.ensures.fits in
+    let sum = many b later (refs_at (length c.args.rest.now) b c.args.at) (refs_at (length c.args.rest.now) later new) (c.args.at ∷ []) (new ∷ moved ∷ leaf ∷ []) c.requires.owned done.changes (λ r. (changed.counts (c.args.at ∷ []) (new ∷ moved ∷ leaf ∷ []) (λ q. omega arith)).balance r) in
+    omega (arith, sum)

@@ -2,7 +2,7 @@ use Rattle.std.proofs.Common.{refl, ◌∙◌, ◌+◌, ◌≤◌, ◌<◌, ◌+
 use Rattle.std.proofs.lemmas.List.{take_rest}
 use Rattle.rax_packed.specs.Trees.{entries_at, marks_at, IsTreeAt}
 use Rattle.rax_packed.specs.Packed.{value_at}
-use Rattle.rax_packed.specs.Paths.{is_first, nodes_with}
+use Rattle.rax_packed.specs.Paths.{nodes_with}
 use Rattle.rax_packed.proofs.Paths.{leaf_first, leaf_nodes, passed_nodes}
 use Rattle.rax_packed.proofs.Cuts.{no_value}
 use Rattle.rax_packed.proofs.Looks.{tree_live, tree_node, node_read, found_parts, found_missing, found_link, link_below, shorter}

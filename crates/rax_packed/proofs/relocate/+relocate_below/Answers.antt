@@ -1,7 +1,5 @@
-use Rattle.std.proofs.Common.{refl, ◌∙◌, ◌+◌, ◌≤◌, ◌<◌, ◌++◌, cond, [], sym, subst, ap, arith, length, IsSome, false, ◌≡◌}
+use Rattle.std.proofs.Common.{refl, ◌∙◌, ◌+◌, ◌<◌, cond, sym, subst, ap, arith, length, IsSome}
 use Rattle.std.proofs.lemmas.List.{take_rest}
-use Rattle.rax_packed.specs.Trees.{entries_at, marks_at, IsTreeAt}
-use Rattle.rax_packed.specs.Packed.{value_at}
 use Rattle.rax_packed.proofs.Cuts.{no_value}
 use Rattle.rax_packed.proofs.Looks.{tree_live, tree_node, node_read, found_parts, found_missing, found_link, link_below, shorter}
 use Rattle.rax_packed.proofs.Steps.{own_below, kept_block, link_ready}
