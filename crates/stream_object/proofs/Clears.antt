@@ -1,5 +1,5 @@
 -- Nodes taken out one after the other, and streams that stay.
-use Rattle.std.proofs.Common.{◌≡◌, ◌∙◌, ℕ, unwrap_or, ◌<◌, List, [], ◌∷◌, ◌++◌, length, map, Option, refl, sym, ap, subst, arith, length-append}
+use Rattle.std.proofs.Common.{◌+◌, ◌≡◌, ◌∙◌, ℕ, unwrap_or, ◌<◌, List, [], ◌∷◌, ◌++◌, length, map, Option, refl, sym, ap, subst, arith, length-append}
 use Rattle.std.specs.Prelude.{true}
 use Rattle.std.specs.List.{AllByRecursion}
 use Rattle.std.proofs.lemmas.List.{append-nil, length-map}
@@ -112,6 +112,18 @@ marked m s =
       length-append (rax.refs_of m s.tree) (map (λ (e : Entry). e.value) (rax.entries_of m s.tree)),
       length-map (rax.entries_of m s.tree) key,
       length-map (rax.entries_of m s.tree) (λ (e : Entry). e.value),
+      tree_marked number m s.tree,
+    )
+
+-- the marks are those of the tree's nodes, and of the stream's own
+pub units_are : (m : Blocks) (s : Log) → length (all_marks m s) ≡ length (rax.refs_of m s.tree) + length (rax.entries_of m s.tree)
+units_are m s =
+    let number : Mark → ℕ = λ (n : Mark). id_number (key_id n.least) in
+    let key : Entry → ℕ = λ (e : Entry). id_number (key_id e.key) in
+    omega (
+      arith,
+      length-append (map number (rax.marks_of m s.tree)) (map key (rax.entries_of m s.tree)),
+      length-map (rax.entries_of m s.tree) key,
       tree_marked number m s.tree,
     )
 

@@ -24,7 +24,7 @@ pub outside : (a b : Blocks) (xs ys zs : List BlockRef) → Owned (xs ++ zs) a �
 outside a b xs ys zs own c r isin =
     Owned-others a b xs ys (xs ++ zs) own c r (omega (arith, isin, times-append r xs zs)) (omega (arith, isin, own r, times-append r xs zs, live-once a r))
 
-counts_itself : (r : BlockRef) → one r r ≡ 1
+pub counts_itself : (r : BlockRef) → one r r ≡ 1
 counts_itself r = ap one_if (ref_eq-refl r)
 
 -- the tree stays where others change their blocks
@@ -61,7 +61,7 @@ module _ (m mid after : Blocks) (tree : PackedTree) (old others : List BlockRef)
       subst (λ rs. Changes m after old (rs ++ others)) (sym still.refs_are) (Changes-then m mid after old (was ∷ (rax.refs_of mid tree ++ others)) (rax.refs_of mid tree ++ others) c last)
 
 -- the tree changes beside some others' blocks
-beside_tree : (a b : Blocks) (old new : PackedTree) (xs : List BlockRef) → Owned (rax.refs_of a old ++ xs) a → Changes a b (rax.refs_of a old) (rax.refs_of b new) → Changes a b (rax.refs_of a old ++ xs) (rax.refs_of b new ++ xs)
+pub beside_tree : (a b : Blocks) (old new : PackedTree) (xs : List BlockRef) → Owned (rax.refs_of a old ++ xs) a → Changes a b (rax.refs_of a old) (rax.refs_of b new) → Changes a b (rax.refs_of a old ++ xs) (rax.refs_of b new ++ xs)
 beside_tree a b old new xs own c =
     Changes-beside a b (rax.refs_of a old) (rax.refs_of b new) (rax.refs_of a old ++ xs) (rax.refs_of b new ++ xs) c own (λ r. times r xs) (λ r. times-append r (rax.refs_of a old) xs) (λ r. times-append r (rax.refs_of b new) xs)
 

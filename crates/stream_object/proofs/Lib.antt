@@ -6,9 +6,12 @@ pub mod Grows
 pub mod Later
 pub mod Losing
 pub mod Marking
+pub mod Movings
 pub mod Nears
 pub mod Parts
+pub mod Passed
 pub mod Picks
 pub mod Rises
 pub mod Trims
+pub mod Walkings
 pub mod Walks

@@ -7,4 +7,5 @@ pub mod Laws
 pub mod Node
 pub mod Parts
 pub mod Ranges
+pub mod Relocation
 pub mod Streams

@@ -18,6 +18,7 @@ mod owned;
 mod picking;
 mod ranging;
 mod redelivering;
+mod relocating;
 mod removing;
 mod spot;
 mod stream;

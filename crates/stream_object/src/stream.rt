@@ -1,11 +1,11 @@
 // Streams.
 
-ghost use Rattle.std.specs.Prelude.{◌≡◌, ◌↔◌, ◌<◌, ◌≤◌, [], IsTrue, length, OnOk, OnErr, IfErr};
+ghost use Rattle.std.specs.Prelude.{◌≡◌, ◌↔◌, ◌-◌, ◌^◌, ◌<◌, ◌≤◌, [], IsTrue, length, min, OnOk, OnErr, IfErr};
 ghost use Rattle.blocks.specs.Blocks.{Blocks, Served};
 ghost use Rattle.std.specs.FinMap.{empty};
 ghost use Rattle.stream_node.specs.Entry.{IsBelow};
 ghost use Rattle.stream_node.specs.Room.{alone_len};
-ghost use Rattle.stream_object.specs.Streams.{AreBelow, IsAddable, IsChanged, IsStream, Refuses, added, appended, nodes, refs, stream_of};
+ghost use Rattle.stream_object.specs.Streams.{AreBelow, IsAddable, IsChanged, IsStream, Refuses, added, appended, marks, nodes, refs, stream_of};
 
 use crate::Memory;
 use crate::fault::AddFault;
@@ -29,6 +29,13 @@ pub struct Stream {
     pub(crate) deleted: Id,
     pub(crate) added: u64,
     pub(crate) groups: Groups,
+}
+
+// A count, or the greatest number where it is above.
+fn limited(count: u128) -> u32
+    ensures { result ≡ min count (2 ^ 32 - 1) }
+{
+    count.min(u32::MAX as u128) as u32
 }
 
 impl Stream {
@@ -83,6 +90,14 @@ impl Stream {
         ensures { (m : Blocks) → (stream_of m self.now).added ≡ result }
     {
         self.added
+    }
+
+    /// How many blocks it has: nodes, and nodes of the tree that names them. The greatest number stands for all above it too. It looks at
+    /// no block.
+    pub fn units(&self) -> u32
+        ensures { (m : Blocks) → IsStream m self.now → result ≡ min (length (marks m self.now)) (2 ^ 32 - 1) }
+    {
+        limited(self.tree.nodes() as u128 + self.tree.len() as u128)
     }
 
     /// Puts an entry behind all others, which doesn't count as added. `Memory` leaves all as before.
