@@ -1,5 +1,6 @@
 //! A stream in its store.
 
+use blocks::Moved;
 use scarce_store::ScarceStore;
 use std::alloc::Global;
 use std::marker::Model;
@@ -49,6 +50,24 @@ impl Held {
             Ok(()) => self.stream.add(&mut self.store, id, &pairs),
             Err(_) => Err(AddFault::Memory),
         }
+    }
+
+    /// Adds so many entries at one millisecond after the other, from the first one on.
+    pub fn fill(&mut self, alloc: Global, count: u64) -> Result<(), AddFault> {
+        for n in 0..count {
+            let id = Id {
+                ms: n.saturating_add(1),
+                seq: 0,
+            };
+            self.add(alloc, id, b"f", b"v")?;
+        }
+        Ok(())
+    }
+
+    /// Goes through the blocks from an id on, at most so many of them.
+    pub fn pass(&mut self, from: Id, room: u32) -> Moved {
+        self.stream
+            .relocate_part(&mut self.store, from.number(), room.max(32))
     }
 
     pub fn delete(&mut self, id: Id) -> Result<bool, Memory> {

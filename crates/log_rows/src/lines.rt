@@ -1,7 +1,7 @@
 //! What each line answers.
 
 use crate::held::Held;
-use crate::texts::{again_text, entries_text, id_text};
+use crate::texts::{again_text, entries_text, id_text, moved_text};
 use crate::twin::play;
 use row_words::{done, number, shown, told, unknown};
 use std::alloc::Global;
@@ -124,6 +124,10 @@ fn counted(held: &mut Held, alloc: Global, name: &str, count: u64) -> Result<Str
             held.store.allow(count as usize);
             done(alloc)
         }
+        "fill" => match held.fill(alloc, count) {
+            Ok(()) => done(alloc),
+            Err(_) => want(alloc),
+        },
         "play" => {
             let same = play(alloc, count)?;
             told(alloc, same)
@@ -153,6 +157,7 @@ fn plain(held: &mut Held, alloc: Global, name: &str) -> Result<String, Memory> {
         "deleted" => id_text(alloc, held.stream.greatest_deleted()),
         "added" => shown(alloc, Some(held.stream.added())),
         "nodes" => shown(alloc, Some(held.nodes())),
+        "units" => shown(alloc, Some(u64::from(held.stream.units()))),
         "count" => counts(held, alloc),
         _ => unknown(alloc),
     }
@@ -174,6 +179,10 @@ pub fn answer(held: &mut Held, alloc: Global, line: &str) -> Result<String, Memo
         }
         ["redeliver", group, consumer, limit] => {
             redeliver(held, alloc, group, consumer, number(limit))
+        }
+        ["pass", ms, seq, room] => {
+            let moved = held.pass(id_of(ms, seq), number(room).min(1000) as u32);
+            moved_text(alloc, moved)
         }
         [name, group, ms, seq] => on_group(held, alloc, name, group, id_of(ms, seq)),
         [name, ms, seq] => at_id(held, alloc, name, id_of(ms, seq)),

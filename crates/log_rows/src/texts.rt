@@ -1,5 +1,6 @@
 //! Entries as text.
 
+use blocks::Moved;
 use std::alloc::Global;
 use stream_object::{Again, Id, Memory, Owned, Pairs};
 
@@ -35,6 +36,18 @@ pub fn id_text(alloc: Global, id: Id) -> Result<String, Memory> {
     let mut text = String::new(alloc);
     put_id(&mut text, alloc, id)?;
     Ok(text)
+}
+
+/// How many blocks were passed, and the id to go on from.
+pub fn moved_text(alloc: Global, moved: Moved) -> Result<String, Memory> {
+    let Moved { next, used } = moved;
+    match next {
+        Some(mark) => {
+            let Id { ms, seq } = Id::of_number(mark);
+            format!(in alloc; "{used} {ms}-{seq}")
+        }
+        None => format!(in alloc; "{used}"),
+    }
 }
 
 /// Entries, one behind the other.
