@@ -51,7 +51,7 @@ line_plain [] h = tt
 line_plain (b ∷ l) h = (h.0.0, line_plain l h.1)
 
 abbrev all_refusals : List Refusal
-all_refusals = refusals.UnknownCommand ∷ refusals.WrongNumberOfArguments ∷ refusals.Syntax ∷ refusals.WrongType ∷ refusals.NotAnInteger ∷ refusals.Overflow ∷ refusals.NotAScore ∷ refusals.NotAWholeScore ∷ refusals.NoSuchKey ∷ refusals.IndexOutOfRange ∷ refusals.InvalidExpireTime ∷ refusals.InvalidCursor ∷ refusals.InvalidStreamId ∷ refusals.StreamIdNotGreater ∷ refusals.NoGreaterStreamId ∷ refusals.DatabaseOutOfRange ∷ refusals.ValueOutOfRange ∷ refusals.SameSourceAndDestination ∷ []
+all_refusals = refusals.UnknownCommand ∷ refusals.WrongNumberOfArguments ∷ refusals.Syntax ∷ refusals.WrongType ∷ refusals.NotAnInteger ∷ refusals.Overflow ∷ refusals.NotAScore ∷ refusals.NotAWholeScore ∷ refusals.NoSuchKey ∷ refusals.IndexOutOfRange ∷ refusals.InvalidExpireTime ∷ refusals.InvalidCursor ∷ refusals.InvalidStreamId ∷ refusals.StreamIdNotGreater ∷ refusals.NoGreaterStreamId ∷ refusals.DatabaseOutOfRange ∷ refusals.ValueOutOfRange ∷ refusals.SameSourceAndDestination ∷ refusals.GroupExists ∷ refusals.NoSuchGroup ∷ []
 
 -- the first refusal with this text behind its mark
 abbrev first_with : List ℕ → List Refusal → Refusal
@@ -83,6 +83,8 @@ computed refusals.NoGreaterStreamId = record { marked = refl; plain = refl; tell
 computed refusals.DatabaseOutOfRange = record { marked = refl; plain = refl; tells = refl }
 computed refusals.ValueOutOfRange = record { marked = refl; plain = refl; tells = refl }
 computed refusals.SameSourceAndDestination = record { marked = refl; plain = refl; tells = refl }
+computed refusals.GroupExists = record { marked = refl; plain = refl; tells = refl }
+computed refusals.NoSuchGroup = record { marked = refl; plain = refl; tells = refl }
 
 part_plain : (p : Part) → IsPart p → Plain (text p)
 part_plain (Simple line) h = line_plain line h

@@ -21,4 +21,6 @@ pub enum Refusal {
     DatabaseOutOfRange,
     ValueOutOfRange,
     SameSourceAndDestination,
+    GroupExists,
+    NoSuchGroup,
 }
