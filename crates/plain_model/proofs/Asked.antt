@@ -1,18 +1,35 @@
 -- What the words of a request tell of a command.
-use Rattle.std.proofs.Common.{◌≡◌, ℕ, ◌+◌, ◌<◌, ◌≤◌, ◌==◌, ◌%◌, ◌-◌, ◌^◌, List, [], ◌∷◌, ◌++◌, map, length, drop, Bool, true, false, Result, Ok, Err, Option, Some, None, refl, subst, arith}
-use Rattle.std.specs.Prelude.{◌&&◌, ◌||◌, bytes_eq, nat_le, nat_lt, int_lt, ℤ, pos, negsuc, zero, suc, if◌then◌else◌}
+use Rattle.std.proofs.Common.{◌≡◌, ℕ, ◌+◌, ◌<◌, ◌≤◌, ◌==◌, ◌%◌, ◌-◌, ◌^◌, List, [], ◌∷◌, ◌++◌, map, length, take, drop, Bool, true, false, Result, Ok, Err, Option, Some, None, refl, subst, arith}
+use Rattle.std.specs.Prelude.{◌&&◌, ◌||◌, bytes_eq, nat_le, nat_lt, int_lt, ℤ, pos, negsuc, zero, suc, is_some, codes, if◌then◌else◌}
 use Rattle.std.specs.List.{AllByRecursion}
 use Rattle.std.specs.Str.Parse.{digits_value}
 use Rattle.std.proofs.lemmas.Bool.Decides.{Decides-eqb}
 use Rattle.std.proofs.lemmas.Bool.{leb-true, ltb-true}
 use Rattle.plain_world.specs.Words.{Words, longest, in_lower_case}
-use Rattle.plain_model.specs.Shapes.{Kind, Plain, Whole, Offset, Span, Database, Count, Steps, Cursor, Amount, Rank, OnSide, AtEnd, Score, Bound, Told, told, AllTold, and_then, whole, span, database, count, steps, are_digits, cursor, all_told, Row, fixed, second_read, by_second, repeated, NamedOption, option_of, read_option, options_read, with_options, with_amount}
+use Rattle.plain_model.specs.Shapes.{Kind, Plain, Whole, Offset, Span, Database, Count, Steps, Cursor, Amount, Rank, OnSide, AtEnd, Score, Bound, EntryId, IdOr, ForEntry, FirstId, LastId, Picks, Aggregated, Told, told, AllTold, and_then, whole, span, database, count, steps, are_digits, cursor, all_told, Row, fixed, second_read, by_second, repeated, NamedOption, option_of, read_option, options_read, with_options, with_amount, with_picks, with_picked, counted}
+use Rattle.plain_model.specs.Shapes as shapes
 use Rattle.plain_model.specs.StringWords.{set_options, no_set_options, getex_options, no_getex_options, pairs_of, string_rows, set_of, getex_of, set_range_of, decrease_of}
-use Rattle.plain_model.specs.KeyWords.{expire_options, no_expire_options, expire_of, clash, copy_options, no_copy_options, scan_options, no_scan_options, object_rows, key_rows}
+use Rattle.plain_model.specs.KeyWords.{expire_options, no_expire_options, expire_of, clash, copy_options, no_copy_options, scan_options, page_options, page_words, no_scan_options, object_rows, key_rows}
 use Rattle.plain_model.specs.ListWords.{push_words, position_options, no_position_options, list_rows}
-use Rattle.plain_model.specs.SetWords.{set_rows}
+use Rattle.plain_model.specs.SetWords.{set_rows, limit_options, inter_card_of, inter_card_words}
+use Rattle.plain_model.specs.declared.set_command.SetCommand.{SetCommand}
+use Rattle.plain_model.specs.declared.set_command.SetCommand.TheVariants as sets
+use Rattle.plain_model.specs.declared.set_command.SetJoin.TheVariants.{Inter, Union, Diff}
 use Rattle.plain_model.specs.HashWords.{hash_rows}
-use Rattle.plain_model.specs.ZsetWords.{zset_rows}
+use Rattle.plain_model.specs.declared.hash_command.HashCommand.{HashCommand}
+use Rattle.plain_model.specs.declared.hash_command.HashCommand.TheVariants as hashes
+use Rattle.plain_model.specs.ZsetWords.{zset_rows, no_rules, add_options, no_add_options, options_in_front, scores_read, add_breaks, add_of, add_words, direction, with_scores_option, limit_option, range_options, no_range_options, rank_range_of, score_range_of, asks_scores, range_words, score_range_words, rank_words, join_options, no_join_options, weighed, join_of}
+use Rattle.plain_model.specs.ZsetWords as zset_words
+use Rattle.plain_model.specs.declared.zset_command.ZsetCommand.{ZsetCommand}
+use Rattle.plain_model.specs.declared.zset_command.ZsetCommand.TheVariants as zsets
+use Rattle.plain_model.specs.declared.zset_command.Direction.{Direction}
+use Rattle.plain_model.specs.declared.zset_command.Direction.TheVariants.{Rising, Falling}
+use Rattle.plain_model.specs.declared.zset_command.ScoreBound.{ScoreBound}
+use Rattle.plain_model.specs.declared.zset_command.ScoreJoin.{ScoreJoin}
+use Rattle.plain_model.specs.declared.zset_command.ScoreJoin.TheVariants as score_joins
+use Rattle.plain_model.specs.declared.zset_command.AddOptions.{AddOptions}
+use Rattle.plain_model.specs.declared.zset_command.RangeOptions.{RangeOptions}
+use Rattle.plain_model.specs.StreamWords.{stream_rows}
 use Rattle.plain_model.specs.declared.list_command.ListCommand.{ListCommand}
 use Rattle.plain_model.specs.declared.list_command.ListCommand.TheVariants as lists
 use Rattle.plain_model.specs.ConnectionWords.{ping_words, flush_options, memory_rows, debug_rows, connection_rows}
@@ -20,7 +37,7 @@ use Rattle.std.specs.Prelude.{neg_ℤ}
 use Rattle.int_text.specs.Decimal.{is_i64, number_of}
 use Rattle.plain_model.specs.Meant.{of_family, rows, read_by, meant}
 use Rattle.plain_model.specs.declared.command.Command.{Command}
-use Rattle.plain_model.specs.declared.command.Command.TheVariants.{Strings, Lists, Sets, Hashes, Zsets, Keys, Connection}
+use Rattle.plain_model.specs.declared.command.Command.TheVariants.{Strings, Lists, Sets, Hashes, Zsets, Streams, Keys, Connection}
 use Rattle.plain_model.specs.declared.command.SetOptionsRead.{SetOptionsRead}
 use Rattle.plain_model.specs.declared.command.GetExOptionsRead.{GetExOptionsRead}
 use Rattle.plain_model.specs.declared.command.StringCommand.{StringCommand}
@@ -43,22 +60,22 @@ use Rattle.plain_model.specs.declared.command.Condition.TheVariants.{Always, IfM
 -- what is made after something was told holds, if it holds of whatever is told
 module _ {A B : Type 0} (P : B → Type 0) where
   -- what is made of a first answer has a property, if whatever is made of each answer that is told has it
-  then_told : (first : Result A Refusal) (make : A → Result B Refusal) → ((a : A) → first ≡ Ok a → (b : B) → make a ≡ Ok b → P b) → (b : B) → and_then first make ≡ Ok b → P b
+  pub then_told : (first : Result A Refusal) (make : A → Result B Refusal) → ((a : A) → first ≡ Ok a → (b : B) → make a ≡ Ok b → P b) → (b : B) → and_then first make ≡ Ok b → P b
   then_told (Ok a) make h b e = h a refl b e
   then_told (Err refusal) make h b e = cc
 
 -- what a test picks of two answers has a property, if what either of them makes has it
-if_has : {B : Type 0} (P : B → Type 0) (test : Bool) (r s : Result B Refusal) → ((b : B) → r ≡ Ok b → P b) → ((b : B) → s ≡ Ok b → P b) → (b : B) → (if test then r else s) ≡ Ok b → P b
+pub if_has : {B : Type 0} (P : B → Type 0) (test : Bool) (r s : Result B Refusal) → ((b : B) → r ≡ Ok b → P b) → ((b : B) → s ≡ Ok b → P b) → (b : B) → (if test then r else s) ≡ Ok b → P b
 if_has P true r s h k b e = h b e
 if_has P false r s h k b e = k b e
 
 -- the same, where the test held
-if_true : {B : Type 0} (P : B → Type 0) (test : Bool) (r : Result B Refusal) (refusal : Refusal) → (test ≡ true → (b : B) → r ≡ Ok b → P b) → (b : B) → (if test then r else Err refusal) ≡ Ok b → P b
+pub if_true : {B : Type 0} (P : B → Type 0) (test : Bool) (r : Result B Refusal) (refusal : Refusal) → (test ≡ true → (b : B) → r ≡ Ok b → P b) → (b : B) → (if test then r else Err refusal) ≡ Ok b → P b
 if_true P true r refusal h b e = h refl b e
 if_true P false r refusal h b e = cc
 
 -- a refusal makes nothing, so all that it makes has any property
-never : {B : Type 0} (P : B → Type 0) (refusal : Refusal) (b : B) → Err refusal ≡ Ok b → P b
+pub never : {B : Type 0} (P : B → Type 0) (refusal : Refusal) (b : B) → Err refusal ≡ Ok b → P b
 never P refusal b e = cc
 
 -- a thing as an answer that isn't refused
@@ -66,7 +83,7 @@ abbrev ok : {B : Type 0} → B → Result B Refusal
 ok b = Ok b
 
 -- what is made is this one
-made : {B : Type 0} (P : B → Type 0) (x b : B) → P x → ok x ≡ ok b → P b
+pub made : {B : Type 0} (P : B → Type 0) (x b : B) → P x → ok x ≡ ok b → P b
 made P x b h e = let same : x ≡ b = cc in subst P same h
 
 -- what a word of this kind keeps
@@ -85,6 +102,14 @@ Keeps OnSide side = Unit {0}
 Keeps AtEnd end = Unit {0}
 Keeps Score n = Unit {0}
 Keeps Bound bound = Unit {0}
+Keeps Picks n = Unit {0}
+Keeps shapes.Keys n = Unit {0}
+Keeps Aggregated how = Unit {0}
+Keeps EntryId id = Unit {0}
+Keeps (IdOr sign) id = Unit {0}
+Keeps ForEntry id = Unit {0}
+Keeps FirstId id = Unit {0}
+Keeps LastId id = Unit {0}
 
 -- what words of these kinds keep, each by its own kind
 abbrev pub AllKeep : (kinds : List Kind) → AllTold kinds → Type 0
@@ -137,6 +162,14 @@ told_keeps OnSide word a e = tt
 told_keeps AtEnd word a e = tt
 told_keeps Score word a e = tt
 told_keeps Bound word a e = tt
+told_keeps Picks word a e = tt
+told_keeps shapes.Keys word a e = tt
+told_keeps Aggregated word a e = tt
+told_keeps EntryId word a e = tt
+told_keeps (IdOr sign) word a e = tt
+told_keeps ForEntry word a e = tt
+told_keeps FirstId word a e = tt
+told_keeps LastId word a e = tt
 
 -- what several words tell is in the range of each one's kind
 all_told_keep : (kinds : List Kind) (words : Words) (a : AllTold kinds) → all_told kinds words ≡ Ok a → AllKeep kinds a
@@ -190,7 +223,7 @@ module _ {B : Type 0} (P : B → Type 0) where
   RowKeeps read = (words : Words) (c : B) → read words ≡ Ok c → P c
 
   -- what a row of just these words makes has the property, if all that is made of words in range has it
-  fixed_fits : (kinds : List Kind) (make : AllTold kinds → Result B Refusal) → ((a : AllTold kinds) → AllKeep kinds a → (c : B) → make a ≡ Ok c → P c) → RowKeeps (fixed kinds make)
+  pub fixed_fits : (kinds : List Kind) (make : AllTold kinds → Result B Refusal) → ((a : AllTold kinds) → AllKeep kinds a → (c : B) → make a ≡ Ok c → P c) → RowKeeps (fixed kinds make)
   fixed_fits kinds make h words c e =
       if_has P (length words == length kinds) (and_then (all_told kinds words) make) (Err WrongNumberOfArguments) (then_told P (all_told kinds words) make (λ a is. h a (all_told_keep kinds words a is))) (never P WrongNumberOfArguments) c e
 
@@ -199,18 +232,18 @@ module _ {B : Type 0} (P : B → Type 0) where
   second_fits [] h second words c e = cc
   second_fits (row ∷ rows) h second words c e = if_has P (bytes_eq (in_lower_case second) row.name) (row.read words) (second_read rows second words) (h.0 words) (second_fits rows h.1 second words) c e
 
-  by_second_fits : (least : ℕ) (rows : List (Row B)) → AllByRecursion (λ row. RowKeeps row.read) rows → RowKeeps (by_second least rows)
+  pub by_second_fits : (least : ℕ) (rows : List (Row B)) → AllByRecursion (λ row. RowKeeps row.read) rows → RowKeeps (by_second least rows)
   by_second_fits least rows h [] c e = cc
   by_second_fits least rows h (second ∷ words) c e = if_has P (nat_le least (length (second ∷ words))) (second_read rows second words) (Err WrongNumberOfArguments) (second_fits rows h second words) (never P WrongNumberOfArguments) c e
 
   -- what a row with repeated groups of words makes has the property, if all that is made of any words has it
-  repeated_fits : (kinds : List Kind) (size : ℕ) (make : AllTold kinds → Words → Result B Refusal) → ((a : AllTold kinds) (rest : Words) (c : B) → make a rest ≡ Ok c → P c) → RowKeeps (repeated kinds size make)
+  pub repeated_fits : (kinds : List Kind) (size : ℕ) (make : AllTold kinds → Words → Result B Refusal) → ((a : AllTold kinds) (rest : Words) (c : B) → make a rest ≡ Ok c → P c) → RowKeeps (repeated kinds size make)
   repeated_fits kinds size make h words c e =
       if_has P (nat_lt (length kinds) (length words) && ((length words - length kinds) % size == 0)) (and_then (all_told kinds words) (λ first. make first (drop (length kinds) words))) (Err WrongNumberOfArguments)
       (then_told P (all_told kinds words) (λ first. make first (drop (length kinds) words)) (λ a is b. h a (drop (length kinds) words) b)) (never P WrongNumberOfArguments) c e
 
   -- what a row with options makes has the property, if all that is made of words and options in range has it
-  with_options_fits : {A : Type 0} (kinds : List Kind) (named : List (NamedOption A)) (start : A) (make : AllTold kinds → A → Result B Refusal) (Q : A → Type 0) → EachKeeps Q named × Q start → ((a : AllTold kinds) → AllKeep kinds a → (o : A) → Q o → (c : B) → make a o ≡ Ok c → P c) → RowKeeps (with_options kinds named start make)
+  pub with_options_fits : {A : Type 0} (kinds : List Kind) (named : List (NamedOption A)) (start : A) (make : AllTold kinds → A → Result B Refusal) (Q : A → Type 0) → EachKeeps Q named × Q start → ((a : AllTold kinds) → AllKeep kinds a → (o : A) → Q o → (c : B) → make a o ≡ Ok c → P c) → RowKeeps (with_options kinds named start make)
   with_options_fits kinds named start make Q keep h words c e =
       if_has P (nat_le (length kinds) (length words)) (and_then (all_told kinds words) (λ first. and_then (options_read named start 0 (drop (length kinds) words)) (make first))) (Err WrongNumberOfArguments)
       (then_told P (all_told kinds words) (λ first. and_then (options_read named start 0 (drop (length kinds) words)) (make first)) (λ a is.
@@ -242,11 +275,14 @@ abbrev pub IsOneOf16 : Option ℕ → Type 0
 IsOneOf16 None = Unit {0}
 IsOneOf16 (Some number) = number < 16
 
--- SCAN meets one key at least, and its cursor has 64 bits
+-- a scan meets one element at least, and its cursor has 64 bits
+abbrev pub IsPageAsked : ℕ → ScanOptions → Type 0
+IsPageAsked cursor options = (0 < options.count) × (cursor < 2 ^ 64)
+
 abbrev pub FitsKeys : KeyCommand → Type 0
 FitsKeys (keys.Copy from to options) = IsOneOf16 options.db
 FitsKeys (keys.MoveKey key number) = number < 16
-FitsKeys (keys.Scan cursor options) = (0 < options.count) × (cursor < 2 ^ 64)
+FitsKeys (keys.Scan cursor options) = IsPageAsked cursor options
 FitsKeys other = Unit {0}
 
 -- SELECT names one of 16 databases, and DEBUG asks for 1,000,000 steps at most
@@ -264,13 +300,26 @@ FitsLists (lists.LPushX key elements) = 0 < length elements
 FitsLists (lists.RPushX key elements) = 0 < length elements
 FitsLists other = Unit {0}
 
+abbrev pub FitsSets : SetCommand → Type 0
+FitsSets (sets.SScan key cursor options) = IsPageAsked cursor options
+FitsSets other = Unit {0}
+
+abbrev pub FitsHashes : HashCommand → Type 0
+FitsHashes (hashes.HScan key cursor options) = IsPageAsked cursor options
+FitsHashes other = Unit {0}
+
+abbrev pub FitsZsets : ZsetCommand → Type 0
+FitsZsets (zsets.ZScan key cursor options) = IsPageAsked cursor options
+FitsZsets other = Unit {0}
+
 -- a command of any family has its numbers and pieces in range
 abbrev pub FitsCommand : Command → Type 0
 FitsCommand (Strings c) = Fits c
 FitsCommand (Lists c) = FitsLists c
-FitsCommand (Sets c) = Unit {0}
-FitsCommand (Hashes c) = Unit {0}
-FitsCommand (Zsets c) = Unit {0}
+FitsCommand (Sets c) = FitsSets c
+FitsCommand (Hashes c) = FitsHashes c
+FitsCommand (Zsets c) = FitsZsets c
+FitsCommand (Streams c) = Unit {0}
 FitsCommand (Keys c) = FitsKeys c
 FitsCommand (Connection c) = FitsConnection c
 
@@ -314,6 +363,15 @@ copy_options_keep = (λ own o keeps q. keeps.0, (λ own o keeps q. q, tt))
 -- no option of SCAN sets a count of 0
 scan_options_keep : EachKeeps (λ (o : ScanOptions). 0 < o.count) scan_options
 scan_options_keep = (λ own o keeps q. q, (λ own o keeps q. keeps.0, (λ own o keeps q. q, tt)))
+
+-- nor does one of HSCAN, SSCAN or ZSCAN
+page_options_keep : EachKeeps (λ (o : ScanOptions). 0 < o.count) page_options
+page_options_keep = (λ own o keeps q. q, (λ own o keeps q. keeps.0, tt))
+
+-- options of which nothing is asked
+free : {A : Type 0} (named : List (NamedOption A)) → EachKeeps (λ o. Unit {0}) named
+free [] = tt
+free (option ∷ named) = (λ own o keeps q. tt, free named)
 
 -- nothing is asked of the options of FLUSHDB and FLUSHALL
 flush_options_keep : EachKeeps (λ (o : Unit {0}). Unit {0}) flush_options
@@ -366,16 +424,107 @@ push_fits make h (key ∷ rest) c e =
     let whole = (length (key ∷ rest) - 1) % 1 == 0 in
     if_true FitsLists (least && whole) (Ok (make key rest)) WrongNumberOfArguments (λ t b f. made FitsLists (make key rest) b (h key rest (omega (arith, ltb-true 1 (length (key ∷ rest)) (first_holds least whole t)))) f) c e
 
--- whatever LPOP and RPOP make of words has what is asked of them
-pop_fits : (make : List ℕ → Option ℕ → ListCommand) → ((key : List ℕ) (n : Option ℕ) → FitsLists (make key n)) → (words : Words) (c : ListCommand) → with_amount make words ≡ Ok c → FitsLists c
-pop_fits make h [] c e = cc
-pop_fits make h (key ∷ []) c e = made FitsLists (make key None) c (h key None) e
-pop_fits make h (key ∷ n ∷ []) c e = then_told FitsLists (told Amount n) (λ a. Ok (make key (Some a))) (λ a is b f. made FitsLists (make key (Some a)) b (h key (Some a)) f) c e
-pop_fits make h (key ∷ n ∷ more ∷ words) c e = cc
+-- whatever a row of a word and perhaps a number makes has what is asked of all that it makes
+module _ {B : Type 0} (P : B → Type 0) where
+  amount_fits : (make : List ℕ → Option ℕ → B) → ((key : List ℕ) (n : Option ℕ) → P (make key n)) → (words : Words) (c : B) → with_amount make words ≡ Ok c → P c
+  amount_fits make h [] c e = cc
+  amount_fits make h (key ∷ []) c e = made P (make key None) c (h key None) e
+  amount_fits make h (key ∷ n ∷ []) c e = then_told P (told Amount n) (λ a. Ok (make key (Some a))) (λ a is b f. made P (make key (Some a)) b (h key (Some a)) f) c e
+  amount_fits make h (key ∷ n ∷ more ∷ words) c e = cc
+
+  picks_fit : (make : List ℕ → Option ℤ → B) → ((key : List ℕ) (n : Option ℤ) → P (make key n)) → (words : Words) (c : B) → with_picks make words ≡ Ok c → P c
+  picks_fit make h [] c e = cc
+  picks_fit make h (key ∷ []) c e = made P (make key None) c (h key None) e
+  picks_fit make h (key ∷ n ∷ []) c e = then_told P (told Picks n) (λ a. Ok (make key (Some a))) (λ a is b f. made P (make key (Some a)) b (h key (Some a)) f) c e
+  picks_fit make h (key ∷ n ∷ more ∷ words) c e = cc
+
+  -- a row with options of which nothing is asked
+  freely_fits : {A : Type 0} (kinds : List Kind) (named : List (NamedOption A)) (start : A) (make : AllTold kinds → A → Result B Refusal) → ((a : AllTold kinds) (o : A) (c : B) → make a o ≡ Ok c → P c) → (words : Words) (c : B) → with_options kinds named start make words ≡ Ok c → P c
+  freely_fits kinds named start make h words c e = with_options_fits P kinds named start make (λ o. Unit {0}) (free named, tt) (λ a keeps o q b f. h a o b f) words c e
+
+  picked_fit : (name : List ℕ) (make : List ℕ → Option ℤ → Bool → B) → ((key : List ℕ) (n : Option ℤ) (more : Bool) → P (make key n more)) → (words : Words) (c : B) → with_picked name make words ≡ Ok c → P c
+  picked_fit name make h [] c e = cc
+  picked_fit name make h (key ∷ []) c e = made P (make key None false) c (h key None false) e
+  picked_fit name make h (key ∷ n ∷ words) c e = freely_fits (Plain ∷ Picks ∷ []) (record { name = name; kinds = []; sets = λ own o. true } ∷ []) false (λ a option. Ok (make a.0 (Some a.1.0) option)) (λ a o b f. made P (make a.0 (Some a.1.0) o) b (h a.0 (Some a.1.0) o) f) (key ∷ n ∷ words) c e
+
+  -- a page has a count and a cursor in range
+  page_fits : (make : List ℕ → ℕ → ScanOptions → B) → ((key : List ℕ) (cursor : ℕ) (options : ScanOptions) → IsPageAsked cursor options → P (make key cursor options)) → (words : Words) (c : B) → page_words make words ≡ Ok c → P c
+  page_fits make h words c e = with_options_fits P (Plain ∷ Cursor ∷ []) page_options no_scan_options (λ a o. Ok (make a.0 a.1.0 o)) (λ o. 0 < o.count) (page_options_keep, omega arith) (λ a keeps o above b f. made P (make a.0 a.1.0 o) b (h a.0 a.1.0 o (above, keeps.1.0)) f) words c e
+
+  -- keys that are counted
+  counted_fits : (make : Words → Words → Result B Refusal) → ((keys rest : Words) (c : B) → make keys rest ≡ Ok c → P c) → (n : ℕ) (words : Words) (c : B) → counted make n words ≡ Ok c → P c
+  counted_fits make h n words c e = if_has P (nat_le n (length words)) (make (take n words) (drop n words)) (Err Syntax) (h (take n words) (drop n words)) (never P Syntax) c e
 
 -- the rows of commands on lists make only commands that push an element at least, if they push
 list_rows_fit : AllByRecursion (RowFits FitsLists) list_rows
-list_rows_fit = (push_fits lists.LPush (λ key elements some. some), (push_fits lists.RPush (λ key elements some. some), (push_fits lists.LPushX (λ key elements some. some), (push_fits lists.RPushX (λ key elements some. some), (pop_fits lists.LPop (λ key n. tt), (pop_fits lists.RPop (λ key n. tt), (fixed_fits FitsLists (Plain ∷ []) (λ a. Ok (lists.LLen a.0)) (λ a keeps c. made FitsLists (lists.LLen a.0) c tt), (fixed_fits FitsLists (Plain ∷ Whole ∷ []) (λ a. Ok (lists.LIndex a.0 a.1.0)) (λ a keeps c. made FitsLists (lists.LIndex a.0 a.1.0) c tt), (fixed_fits FitsLists (Plain ∷ Whole ∷ Plain ∷ []) (λ a. Ok (lists.LSet a.0 a.1.0 a.1.1.0)) (λ a keeps c. made FitsLists (lists.LSet a.0 a.1.0 a.1.1.0) c tt), (fixed_fits FitsLists (Plain ∷ Whole ∷ Whole ∷ []) (λ a. Ok (lists.LRange a.0 a.1.0 a.1.1.0)) (λ a keeps c. made FitsLists (lists.LRange a.0 a.1.0 a.1.1.0) c tt), (fixed_fits FitsLists (Plain ∷ Whole ∷ Whole ∷ []) (λ a. Ok (lists.LTrim a.0 a.1.0 a.1.1.0)) (λ a keeps c. made FitsLists (lists.LTrim a.0 a.1.0 a.1.1.0) c tt), (fixed_fits FitsLists (Plain ∷ OnSide ∷ Plain ∷ Plain ∷ []) (λ a. Ok (lists.LInsert a.0 a.1.0 a.1.1.0 a.1.1.1.0)) (λ a keeps c. made FitsLists (lists.LInsert a.0 a.1.0 a.1.1.0 a.1.1.1.0) c tt), (fixed_fits FitsLists (Plain ∷ Whole ∷ Plain ∷ []) (λ a. Ok (lists.LRem a.0 a.1.0 a.1.1.0)) (λ a keeps c. made FitsLists (lists.LRem a.0 a.1.0 a.1.1.0) c tt), (with_options_fits FitsLists (Plain ∷ Plain ∷ []) position_options no_position_options (λ a o. Ok (lists.LPos a.0 a.1.0 o)) (λ o. Unit {0}) ((λ own o keeps q. tt, (λ own o keeps q. tt, (λ own o keeps q. tt, tt))), tt) (λ a keeps o q c. made FitsLists (lists.LPos a.0 a.1.0 o) c tt), (fixed_fits FitsLists (Plain ∷ Plain ∷ AtEnd ∷ AtEnd ∷ []) (λ a. Ok (lists.LMove a.0 a.1.0 a.1.1.0 a.1.1.1.0)) (λ a keeps c. made FitsLists (lists.LMove a.0 a.1.0 a.1.1.0 a.1.1.1.0) c tt), (fixed_fits FitsLists (Plain ∷ Plain ∷ []) (λ a. Ok (lists.RPopLPush a.0 a.1.0)) (λ a keeps c. made FitsLists (lists.RPopLPush a.0 a.1.0) c tt), tt))))))))))))))))
+list_rows_fit = (push_fits lists.LPush (λ key elements some. some), (push_fits lists.RPush (λ key elements some. some), (push_fits lists.LPushX (λ key elements some. some), (push_fits lists.RPushX (λ key elements some. some), (amount_fits FitsLists lists.LPop (λ key n. tt), (amount_fits FitsLists lists.RPop (λ key n. tt), (fixed_fits FitsLists (Plain ∷ []) (λ a. Ok (lists.LLen a.0)) (λ a keeps c. made FitsLists (lists.LLen a.0) c tt), (fixed_fits FitsLists (Plain ∷ Whole ∷ []) (λ a. Ok (lists.LIndex a.0 a.1.0)) (λ a keeps c. made FitsLists (lists.LIndex a.0 a.1.0) c tt), (fixed_fits FitsLists (Plain ∷ Whole ∷ Plain ∷ []) (λ a. Ok (lists.LSet a.0 a.1.0 a.1.1.0)) (λ a keeps c. made FitsLists (lists.LSet a.0 a.1.0 a.1.1.0) c tt), (fixed_fits FitsLists (Plain ∷ Whole ∷ Whole ∷ []) (λ a. Ok (lists.LRange a.0 a.1.0 a.1.1.0)) (λ a keeps c. made FitsLists (lists.LRange a.0 a.1.0 a.1.1.0) c tt), (fixed_fits FitsLists (Plain ∷ Whole ∷ Whole ∷ []) (λ a. Ok (lists.LTrim a.0 a.1.0 a.1.1.0)) (λ a keeps c. made FitsLists (lists.LTrim a.0 a.1.0 a.1.1.0) c tt), (fixed_fits FitsLists (Plain ∷ OnSide ∷ Plain ∷ Plain ∷ []) (λ a. Ok (lists.LInsert a.0 a.1.0 a.1.1.0 a.1.1.1.0)) (λ a keeps c. made FitsLists (lists.LInsert a.0 a.1.0 a.1.1.0 a.1.1.1.0) c tt), (fixed_fits FitsLists (Plain ∷ Whole ∷ Plain ∷ []) (λ a. Ok (lists.LRem a.0 a.1.0 a.1.1.0)) (λ a keeps c. made FitsLists (lists.LRem a.0 a.1.0 a.1.1.0) c tt), (with_options_fits FitsLists (Plain ∷ Plain ∷ []) position_options no_position_options (λ a o. Ok (lists.LPos a.0 a.1.0 o)) (λ o. Unit {0}) ((λ own o keeps q. tt, (λ own o keeps q. tt, (λ own o keeps q. tt, tt))), tt) (λ a keeps o q c. made FitsLists (lists.LPos a.0 a.1.0 o) c tt), (fixed_fits FitsLists (Plain ∷ Plain ∷ AtEnd ∷ AtEnd ∷ []) (λ a. Ok (lists.LMove a.0 a.1.0 a.1.1.0 a.1.1.1.0)) (λ a keeps c. made FitsLists (lists.LMove a.0 a.1.0 a.1.1.0 a.1.1.1.0) c tt), (fixed_fits FitsLists (Plain ∷ Plain ∷ []) (λ a. Ok (lists.RPopLPush a.0 a.1.0)) (λ a keeps c. made FitsLists (lists.RPopLPush a.0 a.1.0) c tt), tt))))))))))))))))
+
+-- whatever SINTERCARD makes of words is no scan
+inter_card_fits : (words : Words) (c : SetCommand) → inter_card_words words ≡ Ok c → FitsSets c
+inter_card_fits [] c e = cc
+inter_card_fits (n ∷ words) c e =
+    if_has FitsSets (nat_le 1 (length words)) (and_then (told shapes.Keys n) (λ count. counted inter_card_of count words)) (Err WrongNumberOfArguments)
+    (then_told FitsSets (told shapes.Keys n) (λ count. counted inter_card_of count words) (λ count is. counted_fits FitsSets inter_card_of (λ keys rest.
+    then_told FitsSets (options_read limit_options 0 0 rest) (λ limit. Ok (sets.SInterCard keys limit)) (λ limit are b f. made FitsSets (sets.SInterCard keys limit) b tt f)) count words))
+    (never FitsSets WrongNumberOfArguments) c e
+
+-- the rows of commands on sets make only pages in range
+set_rows_fit : AllByRecursion (RowFits FitsSets) set_rows
+set_rows_fit = (repeated_fits FitsSets (Plain ∷ []) 1 (λ a own. Ok (sets.SAdd a.0 own)) (λ a own c. made FitsSets (sets.SAdd a.0 own) c tt), (repeated_fits FitsSets (Plain ∷ []) 1 (λ a own. Ok (sets.SRem a.0 own)) (λ a own c. made FitsSets (sets.SRem a.0 own) c tt), (fixed_fits FitsSets (Plain ∷ Plain ∷ []) (λ a. Ok (sets.SIsMember a.0 a.1.0)) (λ a keeps c. made FitsSets (sets.SIsMember a.0 a.1.0) c tt), (repeated_fits FitsSets (Plain ∷ []) 1 (λ a own. Ok (sets.SMIsMember a.0 own)) (λ a own c. made FitsSets (sets.SMIsMember a.0 own) c tt), (fixed_fits FitsSets (Plain ∷ []) (λ a. Ok (sets.SMembers a.0)) (λ a keeps c. made FitsSets (sets.SMembers a.0) c tt), (fixed_fits FitsSets (Plain ∷ []) (λ a. Ok (sets.SCard a.0)) (λ a keeps c. made FitsSets (sets.SCard a.0) c tt), (fixed_fits FitsSets (Plain ∷ Plain ∷ Plain ∷ []) (λ a. Ok (sets.SMove a.0 a.1.0 a.1.1.0)) (λ a keeps c. made FitsSets (sets.SMove a.0 a.1.0 a.1.1.0) c tt), (amount_fits FitsSets sets.SPop (λ key n. tt), (picks_fit FitsSets sets.SRandMember (λ key n. tt), (repeated_fits FitsSets [] 1 (λ a keys. Ok (sets.SJoin Inter keys)) (λ a keys c. made FitsSets (sets.SJoin Inter keys) c tt), (repeated_fits FitsSets [] 1 (λ a keys. Ok (sets.SJoin Union keys)) (λ a keys c. made FitsSets (sets.SJoin Union keys) c tt), (repeated_fits FitsSets [] 1 (λ a keys. Ok (sets.SJoin Diff keys)) (λ a keys c. made FitsSets (sets.SJoin Diff keys) c tt), (repeated_fits FitsSets (Plain ∷ []) 1 (λ a keys. Ok (sets.SJoinStore Inter a.0 keys)) (λ a keys c. made FitsSets (sets.SJoinStore Inter a.0 keys) c tt), (repeated_fits FitsSets (Plain ∷ []) 1 (λ a keys. Ok (sets.SJoinStore Union a.0 keys)) (λ a keys c. made FitsSets (sets.SJoinStore Union a.0 keys) c tt), (repeated_fits FitsSets (Plain ∷ []) 1 (λ a keys. Ok (sets.SJoinStore Diff a.0 keys)) (λ a keys c. made FitsSets (sets.SJoinStore Diff a.0 keys) c tt), (inter_card_fits, (page_fits FitsSets sets.SScan (λ key cursor options asked. asked), tt)))))))))))))))))
+
+-- the rows of commands on hashes make only pages in range
+hash_rows_fit : AllByRecursion (RowFits FitsHashes) hash_rows
+hash_rows_fit = (repeated_fits FitsHashes (Plain ∷ []) 2 (λ a own. Ok (hashes.HSet a.0 (pairs_of own))) (λ a own c. made FitsHashes (hashes.HSet a.0 (pairs_of own)) c tt), (repeated_fits FitsHashes (Plain ∷ []) 2 (λ a own. Ok (hashes.HMSet a.0 (pairs_of own))) (λ a own c. made FitsHashes (hashes.HMSet a.0 (pairs_of own)) c tt), (fixed_fits FitsHashes (Plain ∷ Plain ∷ Plain ∷ []) (λ a. Ok (hashes.HSetNx a.0 a.1.0 a.1.1.0)) (λ a keeps c. made FitsHashes (hashes.HSetNx a.0 a.1.0 a.1.1.0) c tt), (fixed_fits FitsHashes (Plain ∷ Plain ∷ []) (λ a. Ok (hashes.HGet a.0 a.1.0)) (λ a keeps c. made FitsHashes (hashes.HGet a.0 a.1.0) c tt), (repeated_fits FitsHashes (Plain ∷ []) 1 (λ a own. Ok (hashes.HMGet a.0 own)) (λ a own c. made FitsHashes (hashes.HMGet a.0 own) c tt), (repeated_fits FitsHashes (Plain ∷ []) 1 (λ a own. Ok (hashes.HDel a.0 own)) (λ a own c. made FitsHashes (hashes.HDel a.0 own) c tt), (fixed_fits FitsHashes (Plain ∷ Plain ∷ []) (λ a. Ok (hashes.HExists a.0 a.1.0)) (λ a keeps c. made FitsHashes (hashes.HExists a.0 a.1.0) c tt), (fixed_fits FitsHashes (Plain ∷ []) (λ a. Ok (hashes.HLen a.0)) (λ a keeps c. made FitsHashes (hashes.HLen a.0) c tt), (fixed_fits FitsHashes (Plain ∷ Plain ∷ []) (λ a. Ok (hashes.HStrLen a.0 a.1.0)) (λ a keeps c. made FitsHashes (hashes.HStrLen a.0 a.1.0) c tt), (fixed_fits FitsHashes (Plain ∷ []) (λ a. Ok (hashes.HKeys a.0)) (λ a keeps c. made FitsHashes (hashes.HKeys a.0) c tt), (fixed_fits FitsHashes (Plain ∷ []) (λ a. Ok (hashes.HVals a.0)) (λ a keeps c. made FitsHashes (hashes.HVals a.0) c tt), (fixed_fits FitsHashes (Plain ∷ []) (λ a. Ok (hashes.HGetAll a.0)) (λ a keeps c. made FitsHashes (hashes.HGetAll a.0) c tt), (fixed_fits FitsHashes (Plain ∷ Plain ∷ Whole ∷ []) (λ a. Ok (hashes.HIncrBy a.0 a.1.0 a.1.1.0)) (λ a keeps c. made FitsHashes (hashes.HIncrBy a.0 a.1.0 a.1.1.0) c tt), (picked_fit FitsHashes (codes "withvalues") hashes.HRandField (λ key n more. tt), (page_fits FitsHashes hashes.HScan (λ key cursor options asked. asked), tt)))))))))))))))
+
+-- whatever ZADD makes of words is no scan
+add_of_fits : (key : List ℕ) (o : AddOptions) (pairs : List (ℤ × List ℕ)) (c : ZsetCommand) → add_of key o pairs ≡ Ok c → FitsZsets c
+add_of_fits key o [] c e = cc
+add_of_fits key o (pair ∷ pairs) c e =
+    let one : Result ZsetCommand Refusal = Ok (zsets.ZIncr key o.rules pair.0 pair.1) in
+    let all : Result ZsetCommand Refusal = Ok (zsets.ZAdd key o.rules o.ch (pair ∷ pairs)) in
+    if_has FitsZsets (add_breaks o pairs) (Err Syntax) (if o.incr then one else all) (never FitsZsets Syntax)
+    (if_has FitsZsets o.incr one all (λ b. made FitsZsets (zsets.ZIncr key o.rules pair.0 pair.1) b tt) (λ b. made FitsZsets (zsets.ZAdd key o.rules o.ch (pair ∷ pairs)) b tt)) c e
+
+add_fits : (words : Words) (c : ZsetCommand) → add_words words ≡ Ok c → FitsZsets c
+add_fits [] c e = cc
+add_fits (key ∷ words) c e =
+    let front = options_read add_options no_add_options 0 (take (options_in_front words) words) in
+    let behind = scores_read (drop (options_in_front words) words) in
+    if_has FitsZsets (nat_le 2 (length words)) (and_then front (λ options. and_then behind (add_of key options))) (Err WrongNumberOfArguments)
+    (then_told FitsZsets front (λ options. and_then behind (add_of key options)) (λ o is. then_told FitsZsets behind (add_of key o) (λ pairs are. add_of_fits key o pairs)))
+    (never FitsZsets WrongNumberOfArguments) c e
+
+-- whatever a rank or a range makes of words is no scan
+rank_fits : (from : Direction) (words : Words) (c : ZsetCommand) → rank_words from words ≡ Ok c → FitsZsets c
+rank_fits from = freely_fits FitsZsets (Plain ∷ Plain ∷ []) (record { name = codes "withscore"; kinds = []; sets = λ own o. true } ∷ []) false (λ a o. Ok (zsets.ZRank a.0 a.1.0 from o)) (λ a o c. made FitsZsets (zsets.ZRank a.0 a.1.0 from o) c tt)
+
+score_range_is : (key : List ℕ) (a b : ScoreBound) (rev : Bool) (o : RangeOptions) → FitsZsets (score_range_of key a b rev o)
+score_range_is key a b false o = tt
+score_range_is key a b true o = tt
+
+score_range_fits : (rev : Bool) (words : Words) (c : ZsetCommand) → score_range_words rev words ≡ Ok c → FitsZsets c
+score_range_fits rev = freely_fits FitsZsets (Plain ∷ Bound ∷ Bound ∷ []) (with_scores_option ∷ limit_option ∷ []) no_range_options (λ a o. Ok (score_range_of a.0 a.1.0 a.1.1.0 rev o)) (λ a o c. made FitsZsets (score_range_of a.0 a.1.0 a.1.1.0 rev o) c (score_range_is a.0 a.1.0 a.1.1.0 rev o))
+
+range_fits_scores : (words : Words) (c : ZsetCommand) → range_words words ≡ Ok c → FitsZsets c
+range_fits_scores words c e =
+    if_has FitsZsets (asks_scores (drop 3 words)) (with_options (Plain ∷ Bound ∷ Bound ∷ []) range_options no_range_options (λ a o. Ok (score_range_of a.0 a.1.0 a.1.1.0 o.rev o)) words) (with_options (Plain ∷ Whole ∷ Whole ∷ []) range_options no_range_options (λ a o. rank_range_of a.0 a.1.0 a.1.1.0 o) words)
+    (freely_fits FitsZsets (Plain ∷ Bound ∷ Bound ∷ []) range_options no_range_options (λ a o. Ok (score_range_of a.0 a.1.0 a.1.1.0 o.rev o)) (λ a o b. made FitsZsets (score_range_of a.0 a.1.0 a.1.1.0 o.rev o) b (score_range_is a.0 a.1.0 a.1.1.0 o.rev o)) words)
+    (freely_fits FitsZsets (Plain ∷ Whole ∷ Whole ∷ []) range_options no_range_options (λ a o. rank_range_of a.0 a.1.0 a.1.1.0 o)
+    (λ a o b. if_has FitsZsets (is_some o.limit) (Err Syntax) (Ok (zsets.ZRange a.0 a.1.0 a.1.1.0 (direction o.rev) o.with_scores)) (never FitsZsets Syntax) (λ b. made FitsZsets (zsets.ZRange a.0 a.1.0 a.1.1.0 (direction o.rev) o.with_scores) b tt) b) words) c e
+
+-- whatever a join makes of words is no scan
+join_fits : (join : ScoreJoin) (words : Words) (c : ZsetCommand) → zset_words.join_words join words ≡ Ok c → FitsZsets c
+join_fits join [] c e = cc
+join_fits join (to ∷ []) c e = cc
+join_fits join (to ∷ n ∷ words) c e =
+    if_has FitsZsets (nat_le 1 (length words)) (and_then (told shapes.Keys n) (λ count. counted (join_of join to count) count words)) (Err WrongNumberOfArguments)
+    (then_told FitsZsets (told shapes.Keys n) (λ count. counted (join_of join to count) count words) (λ count is. counted_fits FitsZsets (join_of join to count) (λ keys rest.
+    then_told FitsZsets (options_read (join_options count) (no_join_options count) 0 rest) (λ read. Ok (zsets.ZJoinStore join to (weighed read.0 keys) read.1)) (λ read are b f. made FitsZsets (zsets.ZJoinStore join to (weighed read.0 keys) read.1) b tt f)) count words))
+    (never FitsZsets WrongNumberOfArguments) c e
+
+-- the rows of commands on sorted sets make only pages in range
+zset_rows_fit : AllByRecursion (RowFits FitsZsets) zset_rows
+zset_rows_fit = (add_fits, (fixed_fits FitsZsets (Plain ∷ Score ∷ Plain ∷ []) (λ a. Ok (zsets.ZIncr a.0 no_rules a.1.0 a.1.1.0)) (λ a keeps c. made FitsZsets (zsets.ZIncr a.0 no_rules a.1.0 a.1.1.0) c tt), (repeated_fits FitsZsets (Plain ∷ []) 1 (λ a own. Ok (zsets.ZRem a.0 own)) (λ a own c. made FitsZsets (zsets.ZRem a.0 own) c tt), (fixed_fits FitsZsets (Plain ∷ Plain ∷ []) (λ a. Ok (zsets.ZScore a.0 a.1.0)) (λ a keeps c. made FitsZsets (zsets.ZScore a.0 a.1.0) c tt), (repeated_fits FitsZsets (Plain ∷ []) 1 (λ a own. Ok (zsets.ZMScore a.0 own)) (λ a own c. made FitsZsets (zsets.ZMScore a.0 own) c tt), (fixed_fits FitsZsets (Plain ∷ []) (λ a. Ok (zsets.ZCard a.0)) (λ a keeps c. made FitsZsets (zsets.ZCard a.0) c tt), (fixed_fits FitsZsets (Plain ∷ Bound ∷ Bound ∷ []) (λ a. Ok (zsets.ZCount a.0 a.1.0 a.1.1.0)) (λ a keeps c. made FitsZsets (zsets.ZCount a.0 a.1.0 a.1.1.0) c tt), (rank_fits Rising, (rank_fits Falling, (range_fits_scores, (freely_fits FitsZsets (Plain ∷ Whole ∷ Whole ∷ []) (with_scores_option ∷ []) no_range_options (λ a o. Ok (zsets.ZRange a.0 a.1.0 a.1.1.0 Falling o.with_scores)) (λ a o c. made FitsZsets (zsets.ZRange a.0 a.1.0 a.1.1.0 Falling o.with_scores) c tt), (score_range_fits false, (score_range_fits true, (fixed_fits FitsZsets (Plain ∷ Whole ∷ Whole ∷ []) (λ a. Ok (zsets.ZRemRangeByRank a.0 a.1.0 a.1.1.0)) (λ a keeps c. made FitsZsets (zsets.ZRemRangeByRank a.0 a.1.0 a.1.1.0) c tt), (fixed_fits FitsZsets (Plain ∷ Bound ∷ Bound ∷ []) (λ a. Ok (zsets.ZRemRangeByScore a.0 a.1.0 a.1.1.0)) (λ a keeps c. made FitsZsets (zsets.ZRemRangeByScore a.0 a.1.0 a.1.1.0) c tt), (amount_fits FitsZsets (λ key n. zsets.ZPop key Rising n) (λ key n. tt), (amount_fits FitsZsets (λ key n. zsets.ZPop key Falling n) (λ key n. tt), (picked_fit FitsZsets (codes "withscores") zsets.ZRandMember (λ key n more. tt), (join_fits score_joins.Union, (join_fits score_joins.Inter, (page_fits FitsZsets zsets.ZScan (λ key cursor options asked. asked), tt)))))))))))))))))))))
 
 -- of commands of which nothing is asked
 all_fit : {A : Type 0} (own : List (Row A)) → AllByRecursion (RowFits (λ a. Unit {0})) own
@@ -387,16 +536,18 @@ rows_fit : AllByRecursion (RowFits FitsCommand) rows
 rows_fit =
     let last = map (of_family Connection) connection_rows in
     let behind = map (of_family Keys) key_rows ++ last in
-    let zsets = map (of_family Zsets) zset_rows ++ behind in
+    let streams = map (of_family Streams) stream_rows ++ behind in
+    let zsets = map (of_family Zsets) zset_rows ++ streams in
     let hashes = map (of_family Hashes) hash_rows ++ zsets in
     let sets = map (of_family Sets) set_rows ++ hashes in
     family_fits Strings Fits (λ a h. h) string_rows string_rows_fit (map (of_family Lists) list_rows ++ sets)
     (family_fits Lists FitsLists (λ a h. h) list_rows list_rows_fit sets
-    (family_fits Sets (λ a. Unit {0}) (λ a h. h) set_rows (all_fit set_rows) hashes
-    (family_fits Hashes (λ a. Unit {0}) (λ a h. h) hash_rows (all_fit hash_rows) zsets
-    (family_fits Zsets (λ a. Unit {0}) (λ a h. h) zset_rows (all_fit zset_rows) behind
+    (family_fits Sets FitsSets (λ a h. h) set_rows set_rows_fit hashes
+    (family_fits Hashes FitsHashes (λ a h. h) hash_rows hash_rows_fit zsets
+    (family_fits Zsets FitsZsets (λ a h. h) zset_rows zset_rows_fit streams
+    (family_fits Streams (λ a. Unit {0}) (λ a h. h) stream_rows (all_fit stream_rows) behind
     (family_fits Keys FitsKeys (λ a h. h) key_rows key_rows_fit last
-    (family_alone Connection FitsConnection (λ a h. h) connection_rows connection_rows_fit))))))
+    (family_alone Connection FitsConnection (λ a h. h) connection_rows connection_rows_fit)))))))
 
 -- what the row of a name makes of words is in range, if all rows make only commands that are
 found_fits : (all : List (Row Command)) → AllByRecursion (RowFits FitsCommand) all → (name : List ℕ) (words : Words) (c : Command) → read_by all name words ≡ Ok c → FitsCommand c
@@ -415,3 +566,13 @@ meant_fits words c e = command_fits words (Strings c) e
 -- a command on lists that words mean pushes an element at least, if it pushes
 pub lists_fit : (words : Words) (c : ListCommand) → meant words ≡ Ok (Lists c) → FitsLists c
 lists_fit words c e = command_fits words (Lists c) e
+
+-- a page that words ask for is in range
+pub sets_fit : (words : Words) (c : SetCommand) → meant words ≡ Ok (Sets c) → FitsSets c
+sets_fit words c e = command_fits words (Sets c) e
+
+pub hashes_fit : (words : Words) (c : HashCommand) → meant words ≡ Ok (Hashes c) → FitsHashes c
+hashes_fit words c e = command_fits words (Hashes c) e
+
+pub zsets_fit : (words : Words) (c : ZsetCommand) → meant words ≡ Ok (Zsets c) → FitsZsets c
+zsets_fit words c e = command_fits words (Zsets c) e

@@ -1,5 +1,5 @@
 -- Complete scans of a run cover what stayed.
-use Rattle.std.proofs.Common.{◌≡◌, ℕ, ◌<◌, ◌≤◌, ◌^◌, ◌-◌, List, [], ◌∷◌, ◌++◌, map, Result, Ok, Err, Some, refl, sym, ap, subst, ◌∙◌, arith, ◌⊎◌, inl, inr}
+use Rattle.std.proofs.Common.{◌≡◌, ℕ, ◌<◌, ◌≤◌, ◌^◌, ◌-◌, List, [], ◌∷◌, ◌++◌, map, Bool, Result, Ok, Err, Option, Some, None, refl, sym, subst, ◌∙◌, arith, ◌⊎◌, inl, inr}
 use Rattle.std.specs.Prelude.{MatchResult, true, false, nat_lt}
 use Rattle.std.proofs.Common.{ltb-true, ltb-false}
 use Rattle.digests.specs.Siphash.{sip}
@@ -9,36 +9,35 @@ use Rattle.std.proofs.lemmas.Fmt.{decimal_injective}
 use Rattle.rev_cursor.specs.Place.{place, end_of, reversed}
 use Rattle.rev_cursor.proofs.Walks.{end_of-more, end_of-zero}
 use Rattle.rev_cursor.proofs.Reversal.{reversed-below}
-use Rattle.plain_world.specs.Worlds.{World, live}
+use Rattle.plain_world.specs.Worlds.{World, Value, Entry, live, look}
 use Rattle.plain_world.specs.declared.refusal.Refusal.{Refusal}
+use Rattle.plain_world.specs.declared.refusal.Refusal.TheVariants.{WrongType}
 use Rattle.plain_world.specs.declared.reply.Part.{Part}
 use Rattle.plain_world.specs.declared.reply.Part.TheVariants.{Bulk, Refused}
 use Rattle.plain_model.proofs.Containing.{contains_first, contains_later, contains_cases}
 use Rattle.plain_model.specs.Meant.{meant}
 use Rattle.plain_model.specs.Steps.{may, step}
 use Rattle.plain_model.specs.Runs.{Turn, run}
-use Rattle.plain_model.specs.Scans.{Sought, Passes, is_in, place_of, Page, keys_sought, paged}
-use Rattle.plain_model.specs.Coverage.{ScanCall, scan_asked, Reports, Chain, between, more, last, IsReported}
+use Rattle.plain_model.specs.Scans.{Sought, Passes, is_in, place_of, Page, keys_sought, held_sought, listed, listed_with, paged_as, paged}
+use Rattle.plain_model.specs.OfType.{set_in, hash_in, zset_in, may_tell, may_tell_of}
+use Rattle.plain_model.proofs.Bulks.{bulks_same, followed, pairs_same}
+use Rattle.plain_model.specs.Coverage.{ScanCall, key_scan, set_scan, hash_scan, zset_scan, scan_asked, TellsPage, Reports, Chain, between, more, last, IsReported}
 use Rattle.plain_model.specs.Laws.{RunsAreCovered}
 use Rattle.plain_model.specs.declared.command.Command.{Command}
-use Rattle.plain_model.specs.declared.command.Command.TheVariants.{Strings, Lists, Sets, Hashes, Zsets, Keys, Connection}
+use Rattle.plain_model.specs.declared.command.Command.TheVariants.{Strings, Lists, Sets, Hashes, Zsets, Streams, Keys, Connection}
 use Rattle.plain_model.specs.declared.keys.KeyCommand.{KeyCommand}
 use Rattle.plain_model.specs.declared.keys.KeyCommand.TheVariants as keys
+use Rattle.plain_model.specs.declared.set_command.SetCommand.{SetCommand}
+use Rattle.plain_model.specs.declared.set_command.SetCommand.TheVariants as sets
+use Rattle.plain_model.specs.declared.hash_command.HashCommand.{HashCommand}
+use Rattle.plain_model.specs.declared.hash_command.HashCommand.TheVariants as hashes
+use Rattle.plain_model.specs.declared.zset_command.ZsetCommand.{ZsetCommand}
+use Rattle.plain_model.specs.declared.zset_command.ZsetCommand.TheVariants as zsets
 
 true_not_false : true ≡ false → ⊥
 true_not_false e = cc
 
 -- ---- a reply tells its page
-
-bulks_same : (xs ys : List (List ℕ)) → map Bulk xs ≡ map Bulk ys → xs ≡ ys
-bulks_same [] [] e = refl
-bulks_same [] (y ∷ ys) e = absurd (cc e)
-bulks_same (x ∷ xs) [] e = absurd (cc e)
-bulks_same (x ∷ xs) (y ∷ ys) e =
-    let rest : map Bulk xs ≡ map Bulk ys = cc in
-    let first : x ≡ y = cc in
-    let later = bulks_same xs ys rest in
-    ap (λ z. z ∷ xs) first ∙ ap (λ z. y ∷ z) later
 
 pages_same : (next other : ℕ) (xs ys : List (List ℕ)) → next < 2 ^ 64 → other < 2 ^ 64 → paged next xs ≡ paged other ys → (next ≡ other) × (xs ≡ ys)
 pages_same next other xs ys fits fits' e =
@@ -46,40 +45,99 @@ pages_same next other xs ys fits fits' e =
     let bulks : map Bulk xs ≡ map Bulk ys = cc in
     (decimal_injective next other fits fits' text, bulks_same xs ys bulks)
 
+pair_pages_same : (next other : ℕ) (f g : List ℕ → Part) (xs ys : List (List ℕ)) → next < 2 ^ 64 → other < 2 ^ 64 → paged_as next (listed_with f xs) ≡ paged_as other (listed_with g ys) → (next ≡ other) × (xs ≡ ys)
+pair_pages_same next other f g xs ys fits fits' e =
+    let text : decimal next ≡ decimal other = cc in
+    let pairs : followed f xs ≡ followed g ys = cc in
+    (decimal_injective next other fits fits' text, pairs_same f g xs ys pairs)
+
+tells_same : (pairs : Bool) (next other : ℕ) (xs ys : List (List ℕ)) (reply : List Part) → next < 2 ^ 64 → other < 2 ^ 64 → TellsPage pairs next xs reply → TellsPage pairs other ys reply → (next ≡ other) × (xs ≡ ys)
+tells_same false next other xs ys reply fits fits' a b = pages_same next other xs ys fits fits' (sym a ∙ b)
+tells_same true next other xs ys reply fits fits' a b = pair_pages_same next other a.0 b.0 xs ys fits fits' (sym a.1 ∙ b.1)
+
 -- a reply that tells a page is that page
-page_told : (seed : ℕ) (world : World) (sought : Sought) (cursor next other : ℕ) (xs ys : List (List ℕ)) → next < 2 ^ 64 → Page seed world sought cursor other ys → paged other ys ≡ paged next xs → Page seed world sought cursor next xs
-page_told seed world sought cursor next other xs ys fits page e =
-    let same = pages_same other next ys xs page.fits fits e in
+page_told : (seed : ℕ) (world : World) (sought : Sought) (cursor next other : ℕ) (xs ys : List (List ℕ)) (pairs : Bool) (reply : List Part) → next < 2 ^ 64 → Page seed world sought cursor other ys → TellsPage pairs other ys reply → TellsPage pairs next xs reply
+    → Page seed world sought cursor next xs
+page_told seed world sought cursor next other xs ys pairs reply fits page e f =
+    let same = tells_same pairs other next ys xs reply page.fits fits e f in
     let P : ℕ → Type 0 = λ n. Page seed world sought cursor n ys in
     let Q : List (List ℕ) → Type 0 = λ l. Page seed world sought cursor next l in
     subst Q same.1 (subst P same.0 page)
 
+-- a refusal tells no page
+no_refusal : (pairs : Bool) (next : ℕ) (xs : List (List ℕ)) (reply : List Part) (refusal : Refusal) → reply ≡ Refused refusal ∷ [] → TellsPage pairs next xs reply → ⊥
+no_refusal false next xs reply refusal e told = cc
+no_refusal true next xs reply refusal e told = let is = told.1 in cc
+
 call_of : {c d : ScanCall} → Some c ≡ Some d → c ≡ d
 call_of e = cc
 
-key_page : (seed : ℕ) (world : World) (moment : ℕ) (c : KeyCommand) (reply : List Part) (new : World) (sought : Sought) (cursor next : ℕ) (xs : List (List ℕ)) → may seed world moment (Keys c) reply new
-    → scan_asked world.selected (Ok (Keys c)) ≡ Some (record { cursor = cursor; sought = sought }) → next < 2 ^ 64 → reply ≡ paged next xs → Page seed world sought cursor next xs
-key_page seed world moment (keys.Scan from options) reply new sought cursor next xs may asked fits told =
-    let same = call_of asked in
-    let page = page_told seed world (keys_sought world.selected options) from next may.0.0 xs may.0.1 fits may.0.2 (sym may.0.3 ∙ told) in
-    let P : ScanCall → Type 0 = λ c. Page seed world c.sought c.cursor next xs in
-    subst P same page
-key_page seed world moment c reply new sought cursor next xs may asked fits told = absurd (cc asked)
+-- what is asked and told of a page
+module _ (seed : ℕ) (world : World) (asked : Option ScanCall) (reply : List Part) (sought : Sought) (cursor next : ℕ) (xs : List (List ℕ)) (pairs : Bool) (same : asked ≡ Some (record { cursor = cursor; sought = sought; pairs = pairs })) (fits : next < 2 ^ 64) (told : TellsPage pairs next xs reply) where
+  -- a call that is answered by a page
+  call_page : (call : ScanCall) → asked ≡ Some call → (other : ℕ) (ys : List (List ℕ)) → Page seed world call.sought call.cursor other ys → TellsPage call.pairs other ys reply → Page seed world sought cursor next xs
+  call_page call is other ys page e =
+      let one = call_of (sym is ∙ same) in
+      let P : ScanCall → Type 0 = λ c. TellsPage c.pairs next xs reply → Page seed world c.sought c.cursor next xs in
+      subst P one (page_told seed world call.sought call.cursor next other xs ys call.pairs reply fits page e) told
+
+  no_page : {A : Type 0} (refusal : Refusal) → reply ≡ Refused refusal ∷ [] → A
+  no_page refusal e = absurd (no_refusal pairs next xs reply refusal e told)
+
+  told_of_page : {A : Type 0} (own : Option A) (tells : Option A → List Part → Type 0) (new : World) → may_tell_of world own tells reply new → ((before : Option A) → tells before reply → Page seed world sought cursor next xs) → Page seed world sought cursor next xs
+  told_of_page None tells new may page = no_page WrongType may.0
+  told_of_page (Some own) tells new may page = page (Some own) may.0
+
+  held_page : {A : Type 0} (in_value : Value → Option A) (entry : Option Entry) (tells : Option A → List Part → Type 0) (new : World) → may_tell in_value world entry tells reply new → ((before : Option A) → tells before reply → Page seed world sought cursor next xs) → Page seed world sought cursor next xs
+  held_page in_value None tells new may page = page None may.0
+  held_page in_value (Some entry) tells new may page = told_of_page (in_value entry.value) tells new may page
+
+key_page : (seed : ℕ) (world : World) (moment : ℕ) (c : KeyCommand) (reply : List Part) (new : World) (sought : Sought) (cursor next : ℕ) (xs : List (List ℕ)) (pairs : Bool) → may seed world moment (Keys c) reply new
+    → key_scan world.selected c ≡ Some (record { cursor = cursor; sought = sought; pairs = pairs }) → next < 2 ^ 64 → TellsPage pairs next xs reply → Page seed world sought cursor next xs
+key_page seed world moment (keys.Scan from options) reply new sought cursor next xs pairs may asked fits told =
+    call_page seed world (key_scan world.selected (keys.Scan from options)) reply sought cursor next xs pairs asked fits told
+    (record { cursor = from; sought = keys_sought world.selected options; pairs = false }) refl may.0.0 may.0.1 may.0.2 may.0.3
+key_page seed world moment c reply new sought cursor next xs pairs may asked fits told = absurd (cc asked)
+
+set_page : (seed : ℕ) (world : World) (moment : ℕ) (c : SetCommand) (reply : List Part) (new : World) (sought : Sought) (cursor next : ℕ) (xs : List (List ℕ)) (pairs : Bool) → may seed world moment (Sets c) reply new
+    → set_scan world.selected c ≡ Some (record { cursor = cursor; sought = sought; pairs = pairs }) → next < 2 ^ 64 → TellsPage pairs next xs reply → Page seed world sought cursor next xs
+set_page seed world moment (sets.SScan key from options) reply new sought cursor next xs pairs may asked fits told =
+    held_page seed world (set_scan world.selected (sets.SScan key from options)) reply sought cursor next xs pairs asked fits told set_in (look world key) _ new may
+    (λ before is. call_page seed world (set_scan world.selected (sets.SScan key from options)) reply sought cursor next xs pairs asked fits told
+    (record { cursor = from; sought = held_sought world.selected key options; pairs = false }) refl is.0 is.1 is.2 is.3)
+set_page seed world moment c reply new sought cursor next xs pairs may asked fits told = absurd (cc asked)
+
+hash_page : (seed : ℕ) (world : World) (moment : ℕ) (c : HashCommand) (reply : List Part) (new : World) (sought : Sought) (cursor next : ℕ) (xs : List (List ℕ)) (pairs : Bool) → may seed world moment (Hashes c) reply new
+    → hash_scan world.selected c ≡ Some (record { cursor = cursor; sought = sought; pairs = pairs }) → next < 2 ^ 64 → TellsPage pairs next xs reply → Page seed world sought cursor next xs
+hash_page seed world moment (hashes.HScan key from options) reply new sought cursor next xs pairs may asked fits told =
+    held_page seed world (hash_scan world.selected (hashes.HScan key from options)) reply sought cursor next xs pairs asked fits told hash_in (look world key) _ new may
+    (λ before is. call_page seed world (hash_scan world.selected (hashes.HScan key from options)) reply sought cursor next xs pairs asked fits told
+    (record { cursor = from; sought = held_sought world.selected key options; pairs = true }) refl is.0 is.1 is.2 (_, is.3))
+hash_page seed world moment c reply new sought cursor next xs pairs may asked fits told = absurd (cc asked)
+
+zset_page : (seed : ℕ) (world : World) (moment : ℕ) (c : ZsetCommand) (reply : List Part) (new : World) (sought : Sought) (cursor next : ℕ) (xs : List (List ℕ)) (pairs : Bool) → may seed world moment (Zsets c) reply new
+    → zset_scan world.selected c ≡ Some (record { cursor = cursor; sought = sought; pairs = pairs }) → next < 2 ^ 64 → TellsPage pairs next xs reply → Page seed world sought cursor next xs
+zset_page seed world moment (zsets.ZScan key from options) reply new sought cursor next xs pairs may asked fits told =
+    held_page seed world (zset_scan world.selected (zsets.ZScan key from options)) reply sought cursor next xs pairs asked fits told zset_in (look world key) _ new may
+    (λ before is. call_page seed world (zset_scan world.selected (zsets.ZScan key from options)) reply sought cursor next xs pairs asked fits told
+    (record { cursor = from; sought = held_sought world.selected key options; pairs = true }) refl is.0 is.1 is.2 (_, is.3))
+zset_page seed world moment c reply new sought cursor next xs pairs may asked fits told = absurd (cc asked)
 
 abbrev leads : ℕ → World → ℕ → List Part → World → Result Command Refusal → Type 0
 leads seed old moment reply new m =
     MatchResult m (λ command. may seed (live old moment) moment command reply new) (λ refusal. (reply ≡ Refused refusal ∷ []) × (new ≡ live old moment))
 
-meant_page : (seed : ℕ) (old : World) (moment : ℕ) (m : Result Command Refusal) (reply : List Part) (new : World) (sought : Sought) (cursor next : ℕ) (xs : List (List ℕ)) → leads seed old moment reply new m
-    → scan_asked old.selected m ≡ Some (record { cursor = cursor; sought = sought }) → next < 2 ^ 64 → reply ≡ paged next xs → Page seed (live old moment) sought cursor next xs
-meant_page seed old moment (Ok (Strings c)) reply new sought cursor next xs l asked fits told = absurd (cc asked)
-meant_page seed old moment (Ok (Lists c)) reply new sought cursor next xs l asked fits told = absurd (cc asked)
-meant_page seed old moment (Ok (Sets c)) reply new sought cursor next xs l asked fits told = absurd (cc asked)
-meant_page seed old moment (Ok (Hashes c)) reply new sought cursor next xs l asked fits told = absurd (cc asked)
-meant_page seed old moment (Ok (Zsets c)) reply new sought cursor next xs l asked fits told = absurd (cc asked)
-meant_page seed old moment (Ok (Keys c)) reply new sought cursor next xs l asked fits told = key_page seed (live old moment) moment c reply new sought cursor next xs l asked fits told
-meant_page seed old moment (Ok (Connection c)) reply new sought cursor next xs l asked fits told = absurd (cc asked)
-meant_page seed old moment (Err refusal) reply new sought cursor next xs l asked fits told = absurd (cc asked)
+meant_page : (seed : ℕ) (old : World) (moment : ℕ) (m : Result Command Refusal) (reply : List Part) (new : World) (sought : Sought) (cursor next : ℕ) (xs : List (List ℕ)) (pairs : Bool) → leads seed old moment reply new m
+    → scan_asked old.selected m ≡ Some (record { cursor = cursor; sought = sought; pairs = pairs }) → next < 2 ^ 64 → TellsPage pairs next xs reply → Page seed (live old moment) sought cursor next xs
+meant_page seed old moment (Ok (Strings c)) reply new sought cursor next xs pairs l asked fits told = absurd (cc asked)
+meant_page seed old moment (Ok (Lists c)) reply new sought cursor next xs pairs l asked fits told = absurd (cc asked)
+meant_page seed old moment (Ok (Sets c)) reply new sought cursor next xs pairs l asked fits told = set_page seed (live old moment) moment c reply new sought cursor next xs pairs l asked fits told
+meant_page seed old moment (Ok (Hashes c)) reply new sought cursor next xs pairs l asked fits told = hash_page seed (live old moment) moment c reply new sought cursor next xs pairs l asked fits told
+meant_page seed old moment (Ok (Zsets c)) reply new sought cursor next xs pairs l asked fits told = zset_page seed (live old moment) moment c reply new sought cursor next xs pairs l asked fits told
+meant_page seed old moment (Ok (Streams c)) reply new sought cursor next xs pairs l asked fits told = absurd (cc asked)
+meant_page seed old moment (Ok (Keys c)) reply new sought cursor next xs pairs l asked fits told = key_page seed (live old moment) moment c reply new sought cursor next xs pairs l asked fits told
+meant_page seed old moment (Ok (Connection c)) reply new sought cursor next xs pairs l asked fits told = absurd (cc asked)
+meant_page seed old moment (Err refusal) reply new sought cursor next xs pairs l asked fits told = absurd (cc asked)
 
 -- ---- each call of a run is answered by a page
 
@@ -89,9 +147,9 @@ IsPaged seed sought turn = (cursor next : ℕ) (page : List (List ℕ)) → Repo
 turn_paged : (seed : ℕ) (sought : Sought) (old : World) (turn : Turn) (new : World) → turn.seen ≡ live old turn.call.moment → step seed old turn.call.moment turn.call.words turn.reply new → IsPaged seed sought turn
 turn_paged seed sought old turn new seen done cursor next page r =
     let P : World → Type 0 = λ w. Page seed w sought cursor next page in
-    let A : World → Type 0 = λ w. scan_asked w.selected (meant turn.call.words) ≡ Some (record { cursor = cursor; sought = sought }) in
+    let A : World → Type 0 = λ w. scan_asked w.selected (meant turn.call.words) ≡ Some (record { cursor = cursor; sought = sought; pairs = r.pairs }) in
     let asked = subst A seen r.asked in
-    subst P (sym seen) (meant_page seed old turn.call.moment (meant turn.call.words) turn.reply new sought cursor next page done asked r.fits r.reply)
+    subst P (sym seen) (meant_page seed old turn.call.moment (meant turn.call.words) turn.reply new sought cursor next page r.pairs done asked r.fits r.reply)
 
 run_paged : (seed : ℕ) (sought : Sought) (old : World) (turns : List Turn) (new : World) → run seed old turns new → AllByRecursion (IsPaged seed sought) turns
 run_paged seed sought old [] new r = tt

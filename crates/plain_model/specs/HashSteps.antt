@@ -1,6 +1,5 @@
 -- What commands on hashes answer, and what they leave (Redis command reference, "Commands operating on hashes").
-use Rattle.std.specs.Prelude.{◌≡◌, ℕ, ◌-◌, ◌*◌, ◌==◌, List, [], ◌∷◌, length, map, ℤ, pos, ◌+ℤ◌, Option, None, Some, Bool, true, false, is_some, codes, if◌then◌else◌}
-use Rattle.std.specs.List.{flat_map}
+use Rattle.std.specs.Prelude.{◌≡◌, ℕ, ◌-◌, ◌==◌, List, [], ◌∷◌, length, map, ℤ, pos, ◌+ℤ◌, Option, None, Some, Bool, true, false, is_some, codes, if◌then◌else◌}
 use Rattle.std.specs.FinMap.{FinMap, empty, get, insert, len}
 use Rattle.std.specs.FinMap as finite
 use Rattle.std.specs.Cmp.Lexicographic.{slice_cmp}
@@ -9,7 +8,8 @@ use Rattle.int_text.specs.Decimal.{canonical, is_i64, number_of}
 use Rattle.plain_world.specs.Worlds.{World, HashOf, look, remove}
 use Rattle.plain_model.specs.Outcomes.{Outcome, tells, refused, leaves, IsOutcome}
 use Rattle.plain_model.specs.OfType.{hash_in, on_type, may_tell, keep}
-use Rattle.plain_model.specs.Scans.{Lists, listed}
+use Rattle.plain_model.specs.Scans.{Lists, listed, listed_with, IsHeldPage}
+use Rattle.plain_model.specs.Picks.{TellsPicks}
 use Rattle.plain_model.specs.ListSteps.{tells_number}
 use Rattle.plain_model.specs.declared.hash_command.HashCommand.{HashCommand}
 use Rattle.plain_model.specs.declared.hash_command.HashCommand.TheVariants as hashes
@@ -100,8 +100,18 @@ values_listed fields names = Array (length names) ∷ map (λ field. value_or_nu
 
 -- these fields, each followed by its value
 abbrev pub pairs_listed : Fields → List (List ℕ) → List Part
-pairs_listed fields names =
-    Array (2 * length names) ∷ flat_map (λ field. Bulk field ∷ value_or_null (get fields field) ∷ []) names
+pairs_listed fields names = listed_with (λ field. value_or_null (get fields field)) names
+
+-- these fields, with their values where they are asked for
+abbrev pub fields_listed : Bool → Fields → List (List ℕ) → List Part
+fields_listed false fields names = listed names
+fields_listed true fields names = pairs_listed fields names
+
+-- fields that are picked are told
+abbrev pub PicksFields : Option ℤ → Bool → Option Fields → List Part → Type 0
+PicksFields n with_values before reply =
+    let fields = or_no_fields before in
+    TellsPicks (λ field. is_some (get fields field)) (len fields) n (fields_listed with_values fields) reply
 
 -- so all fields are told, each once, in any order
 abbrev pub TellsFields : (Fields → List (List ℕ) → List Part) → Option Fields → List Part → Type 0
@@ -109,8 +119,8 @@ TellsFields told before reply =
     let is = IsField (or_no_fields before) in
     (names : List (List ℕ)) × Lists is is names × (reply ≡ told (or_no_fields before) names)
 
--- What a command answers and leaves, in a live world. Of HKEYS, HVALS and HGETALL only the world is fixed: `may_hashes`
--- says what they may answer.
+-- What a command answers and leaves, in a live world, where it has one answer: of the others `may_hashes` says what they may
+-- answer.
 abbrev pub hash_outcome : World → HashCommand → Outcome
 hash_outcome old (hashes.HSet key pairs) = on_hash old key (λ before. set_fields old key pairs (or_no_fields before))
 hash_outcome old (hashes.HMSet key pairs) =
@@ -127,18 +137,24 @@ hash_outcome old (hashes.HExists key field) =
 hash_outcome old (hashes.HLen key) = tell_hash old key (λ fields. Number (pos (len fields)) ∷ [])
 hash_outcome old (hashes.HStrLen key field) =
     tell_hash old key (λ fields. Number (pos (value_length (get fields field))) ∷ [])
-hash_outcome old (hashes.HKeys key) = tells [] old
-hash_outcome old (hashes.HVals key) = tells [] old
-hash_outcome old (hashes.HGetAll key) = tells [] old
 hash_outcome old (hashes.HIncrBy key field by) =
     on_hash old key
     (λ before.
     count_on_field old key field (or_no_fields before) by (number_in (get (or_no_fields before) field)))
+hash_outcome old other = tells [] old
 
--- from the world that is live at the moment the command may be answered by this reply, and leave the new world
-abbrev pub may_hashes : World → HashCommand → List Part → World → Type 0
-may_hashes old (hashes.HKeys key) reply new =
+-- under this seed of the hash, and from the world that is live at the moment, the command may be answered by this reply, and
+-- leave the new world
+abbrev pub may_hashes : ℕ → World → HashCommand → List Part → World → Type 0
+may_hashes seed old (hashes.HKeys key) reply new =
     may_tell hash_in old (look old key) (TellsFields (λ fields names. listed names)) reply new
-may_hashes old (hashes.HVals key) reply new = may_tell hash_in old (look old key) (TellsFields values_listed) reply new
-may_hashes old (hashes.HGetAll key) reply new = may_tell hash_in old (look old key) (TellsFields pairs_listed) reply new
-may_hashes old command reply new = IsOutcome (hash_outcome old command) reply new
+may_hashes seed old (hashes.HVals key) reply new =
+    may_tell hash_in old (look old key) (TellsFields values_listed) reply new
+may_hashes seed old (hashes.HGetAll key) reply new =
+    may_tell hash_in old (look old key) (TellsFields pairs_listed) reply new
+may_hashes seed old (hashes.HRandField key n with_values) reply new =
+    may_tell hash_in old (look old key) (PicksFields n with_values) reply new
+may_hashes seed old (hashes.HScan key cursor options) reply new =
+    may_tell hash_in old (look old key)
+    (λ before. IsHeldPage seed old key cursor options (pairs_listed (or_no_fields before))) reply new
+may_hashes seed old command reply new = IsOutcome (hash_outcome old command) reply new

@@ -1,6 +1,7 @@
 -- What the words of commands on hashes mean (Redis command reference, "Commands operating on hashes").
 use Rattle.std.specs.Prelude.{List, [], ◌∷◌, Ok, codes}
-use Rattle.plain_model.specs.Shapes.{Plain, Whole, Row, fixed, repeated}
+use Rattle.plain_model.specs.Shapes.{Plain, Whole, Row, fixed, repeated, with_picked}
+use Rattle.plain_model.specs.KeyWords.{page_words}
 use Rattle.plain_model.specs.StringWords.{pairs_of}
 use Rattle.plain_model.specs.declared.hash_command.HashCommand.{HashCommand}
 use Rattle.plain_model.specs.declared.hash_command.HashCommand.TheVariants as hashes
@@ -26,4 +27,6 @@ hash_rows =
       name = codes "hincrby";
       read = fixed (Plain ∷ Plain ∷ Whole ∷ []) (λ a. Ok (hashes.HIncrBy a.0 a.1.0 a.1.1.0));
     }
+    ∷ record { name = codes "hrandfield"; read = with_picked (codes "withvalues") hashes.HRandField }
+    ∷ record { name = codes "hscan"; read = page_words hashes.HScan }
     ∷ []

@@ -1,5 +1,5 @@
 -- What the words of commands on keys mean (Redis command reference, "Generic").
-use Rattle.std.specs.Prelude.{ℕ, List, [], ◌∷◌, ℤ, None, Some, Bool, true, false, ◌&&◌, ◌||◌, Result, Ok, Err, codes, if◌then◌else◌}
+use Rattle.std.specs.Prelude.{ℕ, List, [], ◌∷◌, ◌++◌, ℤ, None, Some, Bool, true, false, ◌&&◌, ◌||◌, Result, Ok, Err, codes, if◌then◌else◌}
 use Rattle.plain_world.specs.Words.{Words}
 use Rattle.plain_model.specs.Shapes.{Plain, Whole, Database, Count, Cursor, Row, fixed, by_second, repeated, NamedOption, with_options}
 use Rattle.plain_model.specs.declared.keys.KeyCommand.{KeyCommand}
@@ -47,8 +47,9 @@ copy_options =
 abbrev pub no_copy_options : CopyOptions
 no_copy_options = record { db = None; replace = false }
 
-abbrev pub scan_options : List (NamedOption ScanOptions)
-scan_options =
+-- the options of SCAN that HSCAN, SSCAN and ZSCAN have too
+abbrev pub page_options : List (NamedOption ScanOptions)
+page_options =
     record {
       name = codes "match";
       kinds = Plain
@@ -61,17 +62,28 @@ scan_options =
           ∷ [];
       sets = λ own o. record { pattern = o.pattern; count = own.0; type_name = o.type_name };
     }
-    ∷ record {
+    ∷ []
+
+abbrev pub type_option : NamedOption ScanOptions
+type_option =
+    record {
       name = codes "type";
       kinds = Plain
           ∷ [];
       sets = λ own o. record { pattern = o.pattern; count = o.count; type_name = Some own.0 };
     }
-    ∷ []
+
+abbrev pub scan_options : List (NamedOption ScanOptions)
+scan_options = page_options ++ type_option ∷ []
 
 -- none of the options of SCAN: ten keys are to be met
 abbrev pub no_scan_options : ScanOptions
 no_scan_options = record { pattern = None; count = 10; type_name = None }
+
+-- a key, a cursor and options
+abbrev pub page_words : {A : Type 0} → (List ℕ → ℕ → ScanOptions → A) → Words → Result A Refusal
+page_words make =
+    with_options (Plain ∷ Cursor ∷ []) page_options no_scan_options (λ a options. Ok (make a.0 a.1.0 options))
 
 -- the second words of OBJECT
 abbrev pub object_rows : List (Row KeyCommand)

@@ -1,4 +1,5 @@
 pub mod ScoreTexts
+pub mod IdTexts
 pub mod Shapes
 pub mod StringWords
 pub mod KeyWords
@@ -7,17 +8,21 @@ pub mod ListWords
 pub mod HashWords
 pub mod SetWords
 pub mod ZsetWords
+pub mod StreamWords
 pub mod Outcomes
 pub mod Deadlines
 pub mod StringSteps
 pub mod Types
 pub mod Scans
+pub mod Picks
 pub mod KeySteps
 pub mod OfType
 pub mod ListSteps
 pub mod HashSteps
 pub mod SetSteps
 pub mod ZsetSteps
+pub mod StreamSteps
+pub mod GroupSteps
 pub mod ConnectionSteps
 pub mod Meant
 pub mod Steps

@@ -8,9 +8,10 @@ use Rattle.plain_model.specs.ListWords.{list_rows}
 use Rattle.plain_model.specs.SetWords.{set_rows}
 use Rattle.plain_model.specs.HashWords.{hash_rows}
 use Rattle.plain_model.specs.ZsetWords.{zset_rows}
+use Rattle.plain_model.specs.StreamWords.{stream_rows}
 use Rattle.plain_model.specs.ConnectionWords.{connection_rows}
 use Rattle.plain_model.specs.declared.command.Command.{Command}
-use Rattle.plain_model.specs.declared.command.Command.TheVariants.{Strings, Lists, Sets, Hashes, Zsets, Keys, Connection}
+use Rattle.plain_model.specs.declared.command.Command.TheVariants.{Strings, Lists, Sets, Hashes, Zsets, Streams, Keys, Connection}
 use Rattle.plain_model.specs.declared.connection.ConnectionCommand.TheVariants.{Quit}
 use Rattle.plain_world.specs.declared.refusal.Refusal.{Refusal}
 use Rattle.plain_world.specs.declared.refusal.Refusal.TheVariants.{UnknownCommand}
@@ -24,7 +25,8 @@ of_family family row =
 abbrev pub rows : List (Row Command)
 rows = map (of_family Strings) string_rows ++ map (of_family Lists) list_rows
     ++ map (of_family Sets) set_rows ++ map (of_family Hashes) hash_rows
-    ++ map (of_family Zsets) zset_rows ++ map (of_family Keys) key_rows ++ map (of_family Connection) connection_rows
+    ++ map (of_family Zsets) zset_rows ++ map (of_family Streams) stream_rows
+    ++ map (of_family Keys) key_rows ++ map (of_family Connection) connection_rows
 
 -- the row of this name, in lower case, reads the words
 abbrev pub read_by : List (Row Command) → List ℕ → Words → Result Command Refusal

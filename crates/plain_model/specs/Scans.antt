@@ -1,6 +1,6 @@
 -- What scans report (Redis command reference, "SCAN", "KEYS").
-use Rattle.std.specs.Prelude.{◌≡◌, ◌<◌, ◌≤◌, ◌-◌, ◌^◌, ℕ, List, ◌∷◌, length, map, Option, None, Some, is_some, Bool, true, false, bytes_eq}
-use Rattle.std.specs.List.{Contains, count_by}
+use Rattle.std.specs.Prelude.{◌≡◌, ◌<◌, ◌≤◌, ◌-◌, ◌*◌, ◌^◌, ℕ, List, [], ◌∷◌, length, map, Option, None, Some, is_some, Bool, true, false, bytes_eq}
+use Rattle.std.specs.List.{Contains, count_by, flat_map}
 use Rattle.std.specs.FinMap.{get}
 use Rattle.digests.specs.Siphash.{sip}
 use Rattle.rev_cursor.specs.Place.{place, end_of}
@@ -96,10 +96,30 @@ pub record Page (seed : ℕ) (world : World) (sought : Sought) (cursor next : �
 abbrev pub listed : List (List ℕ) → List Part
 listed elements = Array (length elements) ∷ map Bulk elements
 
+-- an array of them, each followed by what is told of it
+abbrev pub listed_with : (List ℕ → Part) → List (List ℕ) → List Part
+listed_with told elements =
+    Array (2 * length elements) ∷ flat_map (λ element. Bulk element ∷ told element ∷ []) elements
+
+-- the next cursor, and an array
+abbrev pub paged_as : ℕ → List Part → List Part
+paged_as next elements = Array 2 ∷ Bulk (decimal next) ∷ elements
+
 -- the next cursor, and an array of them
 abbrev pub paged : ℕ → List (List ℕ) → List Part
-paged next elements = Array 2 ∷ Bulk (decimal next) ∷ listed elements
+paged next elements = paged_as next (listed elements)
 
 -- what SCAN asks for
 abbrev pub keys_sought : ℕ → ScanOptions → Sought
 keys_sought number options = record { target = KeysOf number; pattern = options.pattern; type_name = options.type_name }
+
+-- what HSCAN, SSCAN and ZSCAN ask for: what a key of a database holds, without a type
+abbrev pub held_sought : ℕ → List ℕ → ScanOptions → Sought
+held_sought number key options =
+    record { target = HeldAt number key; pattern = options.pattern; type_name = None }
+
+-- a page of what a key of the selected database holds, told in this way
+abbrev pub IsHeldPage : ℕ → World → List ℕ → ℕ → ScanOptions → (List (List ℕ) → List Part) → List Part → Type 0
+IsHeldPage seed old key cursor options told reply =
+    (next : ℕ) × (elements : List (List ℕ)) × Page seed old (held_sought old.selected key options) cursor next elements
+    × (reply ≡ paged_as next (told elements))

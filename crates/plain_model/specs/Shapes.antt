@@ -2,7 +2,7 @@
 --
 -- First their number is looked at, then they are read from left to right, and each is refused where it stands. What
 -- words break together comes last. A command is a row: the kinds of its first words, and what may follow them.
-use Rattle.std.specs.Prelude.{ℕ, zero, suc, ◌-◌, ◌%◌, ◌==◌, List, [], ◌∷◌, length, drop, ℤ, pos, negsuc, Option, Some, None, Bool, ◌&&◌, ◌||◌, ◌^◌, nat_le, nat_lt, int_lt, bytes_eq, codes, Result, Ok, Err, if◌then◌else◌}
+use Rattle.std.specs.Prelude.{ℕ, zero, suc, ◌-◌, ◌%◌, ◌==◌, List, [], ◌∷◌, length, take, drop, ℤ, pos, negsuc, int_le, Option, Some, None, Bool, true, false, ◌&&◌, ◌||◌, ◌^◌, nat_le, nat_lt, int_lt, neg_ℤ, bytes_eq, codes, Result, Ok, Err, if◌then◌else◌}
 use Rattle.std.specs.Str.{all_ascii_digits}
 use Rattle.std.specs.Str.Parse.{digits_value}
 use Rattle.plain_world.specs.Words.{Words, in_lower_case}
@@ -14,8 +14,13 @@ use Rattle.plain_model.specs.declared.list_command.ListEnd.TheVariants.{Head, Ta
 use Rattle.int_text.specs.declared.score.ScoreFault.{ScoreFault}
 use Rattle.int_text.specs.declared.score.ScoreFault.TheVariants.{Malformed, NotWhole, TooLarge}
 use Rattle.plain_model.specs.ScoreTexts.{score_of}
+use Rattle.stream_groups.specs.Groups.{Id}
+use Rattle.plain_model.specs.IdTexts.{entry_id, id_or, new_id, range_end, first_in, last_in}
+use Rattle.plain_model.specs.declared.stream_command.NewId.{NewId}
 use Rattle.plain_model.specs.declared.zset_command.ScoreBound.{ScoreBound}
 use Rattle.plain_model.specs.declared.zset_command.ScoreBound.TheVariants.{Lowest, Including, Excluding, Highest}
+use Rattle.plain_model.specs.declared.zset_command.Aggregate.{Aggregate}
+use Rattle.plain_model.specs.declared.zset_command.Aggregate.TheVariants.{Sum, Min, Max}
 use Rattle.plain_world.specs.declared.refusal.Refusal.{Refusal}
 use Rattle.plain_world.specs.declared.refusal.Refusal.TheVariants.{WrongNumberOfArguments, Syntax, NotAnInteger, NotAScore, NotAWholeScore, IndexOutOfRange, InvalidExpireTime, InvalidCursor, DatabaseOutOfRange, ValueOutOfRange}
 
@@ -54,6 +59,22 @@ pub data Kind : Type 0 where
   Score : Kind
   -- an infinity whatever the case, a score text, or `(` and a score text, as an end of a range
   Bound : Kind
+  -- a whole number from -1,048,576 on, as how many are picked
+  Picks : Kind
+  -- a whole number from 1 on, as how many keys stand behind it
+  Keys : Kind
+  -- SUM, MIN or MAX, whatever the case
+  Aggregated : Kind
+  -- the id of an entry
+  EntryId : Kind
+  -- the same, or this sign that stands for one
+  IdOr : List ℕ → Kind
+  -- `*`, an id, or milliseconds with `-*` behind them, as the id of a new entry
+  ForEntry : Kind
+  -- an id, `-` or `+`, and with `(` before it the next one, as the start of a range; 0 where the second number is missing
+  FirstId : Kind
+  -- the same as the end of a range; `(` tells the id before, and 2^64 - 1 stands where the second number is missing
+  LastId : Kind
 
 -- what a word of this kind tells
 abbrev pub Told : Kind → Type 0
@@ -71,6 +92,14 @@ Told OnSide = Side
 Told AtEnd = ListEnd
 Told Score = ℤ
 Told Bound = ScoreBound
+Told Picks = ℤ
+Told Keys = ℕ
+Told Aggregated = Aggregate
+Told EntryId = Id
+Told (IdOr sign) = Option Id
+Told ForEntry = NewId
+Told FirstId = Id
+Told LastId = Id
 
 abbrev pub whole : Option ℤ → Result ℤ Refusal
 whole None = Err NotAnInteger
@@ -133,6 +162,19 @@ bound word =
     else (if bytes_eq (in_lower_case word) (codes "inf") || bytes_eq (in_lower_case word) (codes "+inf") then Ok Highest
     else score_bound word)
 
+abbrev pub picks : ℤ → Result ℤ Refusal
+picks n = if int_le (neg_ℤ (pos 1048576)) n then Ok n else Err ValueOutOfRange
+
+abbrev pub keys : ℤ → Result ℕ Refusal
+keys (pos n) = if nat_lt 0 n then Ok n else Err ValueOutOfRange
+keys (negsuc n) = Err ValueOutOfRange
+
+abbrev pub aggregate : List ℕ → Result Aggregate Refusal
+aggregate word =
+    if bytes_eq word (codes "sum") then Ok Sum
+    else (if bytes_eq word (codes "min") then Ok Min
+    else (if bytes_eq word (codes "max") then Ok Max else Err Syntax))
+
 -- one digit or more, and nothing else
 abbrev pub are_digits : List ℕ → Bool
 are_digits word = nat_lt 0 (length word) && all_ascii_digits word
@@ -157,6 +199,14 @@ told OnSide word = side (in_lower_case word)
 told AtEnd word = end (in_lower_case word)
 told Score word = score (score_of word)
 told Bound word = bound word
+told Picks word = and_then (whole (number_of word)) picks
+told Keys word = and_then (whole (number_of word)) keys
+told Aggregated word = aggregate (in_lower_case word)
+told EntryId word = entry_id word
+told (IdOr sign) word = id_or sign word
+told ForEntry word = new_id word
+told FirstId word = range_end first_in word
+told LastId word = range_end last_in word
 
 -- what words of these kinds tell
 abbrev pub AllTold : List Kind → Type 0
@@ -246,3 +296,22 @@ module _ {A : Type 0} where
       then and_then (all_told kinds words)
       (λ first. and_then (options_read named none 0 (drop (length kinds) words)) (make first))
       else Err WrongNumberOfArguments
+
+-- a row of one word, and then a number of picks or none
+abbrev pub with_picks : {A : Type 0} → (List ℕ → Option ℤ → A) → Words → Result A Refusal
+with_picks make [] = Err WrongNumberOfArguments
+with_picks make (word ∷ []) = Ok (make word None)
+with_picks make (word ∷ n ∷ []) = and_then (told Picks n) (λ a. Ok (make word (Some a)))
+with_picks make (word ∷ n ∷ more ∷ words) = Err WrongNumberOfArguments
+
+-- the same with an option of this name behind the number
+abbrev pub with_picked : {A : Type 0} → List ℕ → (List ℕ → Option ℤ → Bool → A) → Words → Result A Refusal
+with_picked name make [] = Err WrongNumberOfArguments
+with_picked name make (word ∷ []) = Ok (make word None false)
+with_picked name make (word ∷ n ∷ words) =
+    with_options (Plain ∷ Picks ∷ []) (record { name = name; kinds = []; sets = λ own o. true } ∷ []) false
+    (λ a option. Ok (make a.0 (Some a.1.0) option)) (word ∷ n ∷ words)
+
+-- so many keys, and what stands behind them
+abbrev pub counted : {A : Type 0} → (Words → Words → Result A Refusal) → ℕ → Words → Result A Refusal
+counted make n words = if nat_le n (length words) then make (take n words) (drop n words) else Err Syntax

@@ -8,10 +8,11 @@ use Rattle.plain_model.specs.ListSteps.{may_lists}
 use Rattle.plain_model.specs.SetSteps.{may_sets}
 use Rattle.plain_model.specs.HashSteps.{may_hashes}
 use Rattle.plain_model.specs.ZsetSteps.{may_zsets}
+use Rattle.plain_model.specs.GroupSteps.{may_streams}
 use Rattle.plain_model.specs.KeySteps.{may_keys}
 use Rattle.plain_model.specs.ConnectionSteps.{may_connection}
 use Rattle.plain_model.specs.declared.command.Command.{Command}
-use Rattle.plain_model.specs.declared.command.Command.TheVariants.{Strings, Lists, Sets, Hashes, Zsets, Keys, Connection}
+use Rattle.plain_model.specs.declared.command.Command.TheVariants.{Strings, Lists, Sets, Hashes, Zsets, Streams, Keys, Connection}
 use Rattle.plain_world.specs.declared.reply.Part.{Part}
 use Rattle.plain_world.specs.declared.reply.Part.TheVariants.{Refused}
 
@@ -20,9 +21,10 @@ use Rattle.plain_world.specs.declared.reply.Part.TheVariants.{Refused}
 abbrev pub may : ℕ → World → ℕ → Command → List Part → World → Type 0
 may seed old moment (Strings command) reply new = may_strings old moment command reply new
 may seed old moment (Lists command) reply new = may_lists old command reply new
-may seed old moment (Sets command) reply new = may_sets old command reply new
-may seed old moment (Hashes command) reply new = may_hashes old command reply new
-may seed old moment (Zsets command) reply new = may_zsets old command reply new
+may seed old moment (Sets command) reply new = may_sets seed old command reply new
+may seed old moment (Hashes command) reply new = may_hashes seed old command reply new
+may seed old moment (Zsets command) reply new = may_zsets seed old command reply new
+may seed old moment (Streams command) reply new = may_streams old moment command reply new
 may seed old moment (Keys command) reply new = may_keys seed old moment command reply new
 may seed old moment (Connection command) reply new = may_connection old moment command reply new
 

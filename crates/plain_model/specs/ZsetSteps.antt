@@ -1,5 +1,5 @@
 -- What commands on sorted sets answer, and what they leave (Redis command reference, "Commands operating on sorted sets").
-use Rattle.std.specs.Prelude.{ℕ, suc, ◌+◌, ◌-◌, ◌*◌, ◌^◌, ◌==◌, List, [], ◌∷◌, length, take, drop, map, reverse, ℤ, pos, negsuc, neg_ℤ, ◌+ℤ◌, int_lt, int_le, Option, None, Some, Bool, true, false, not, ◌&&◌, ◌||◌, bytes_eq, if◌then◌else◌}
+use Rattle.std.specs.Prelude.{◌≡◌, ℕ, suc, ◌+◌, ◌-◌, ◌*◌, ◌^◌, ◌==◌, List, [], ◌∷◌, length, take, drop, map, reverse, ℤ, pos, negsuc, neg_ℤ, ◌+ℤ◌, ◌*ℤ◌, int_lt, int_le, Option, None, Some, is_some, Bool, true, false, not, ◌&&◌, ◌||◌, bytes_eq, if◌then◌else◌}
 use Rattle.std.specs.List.{filter, flat_map}
 use Rattle.std.specs.FinMap.{FinMap, empty, entries, from_entries, keys, get, insert, len}
 use Rattle.std.specs.FinMap as finite
@@ -7,9 +7,12 @@ use Rattle.std.specs.declared.cmp.Ordering.{Ordering}
 use Rattle.std.specs.Cmp.Lexicographic.{slice_cmp}
 use Rattle.std.specs.Ordering.{nat_cmp, int_cmp, ordering_then}
 use Rattle.int_text.specs.Decimal.{canonical}
-use Rattle.plain_world.specs.Worlds.{World, SortedOf, look, remove}
+use Rattle.plain_world.specs.Worlds.{World, Value, SetOf, SortedOf, look, put, remove}
 use Rattle.plain_model.specs.Outcomes.{Outcome, tells, refused, leaves, IsOutcome}
-use Rattle.plain_model.specs.OfType.{zset_in, on_type, keep}
+use Rattle.plain_model.specs.OfType.{zset_in, on_type, may_tell, may_do_of, sources, or_no_sources, keep}
+use Rattle.plain_model.specs.Scans.{listed_with, IsHeldPage}
+use Rattle.plain_model.specs.Scans as scans
+use Rattle.plain_model.specs.Picks.{TellsPicks}
 use Rattle.plain_model.specs.ListSteps.{tells_number, list_range}
 use Rattle.plain_model.specs.declared.zset_command.ZsetCommand.{ZsetCommand}
 use Rattle.plain_model.specs.declared.zset_command.ZsetCommand.TheVariants as zsets
@@ -19,6 +22,10 @@ use Rattle.plain_model.specs.declared.zset_command.ScoreBound.{ScoreBound}
 use Rattle.plain_model.specs.declared.zset_command.ScoreBound.TheVariants.{Lowest, Including, Excluding, Highest}
 use Rattle.plain_model.specs.declared.zset_command.ScoreRules.{ScoreRules}
 use Rattle.plain_model.specs.declared.zset_command.Limit.{Limit}
+use Rattle.plain_model.specs.declared.zset_command.ScoreJoin.{ScoreJoin}
+use Rattle.plain_model.specs.declared.zset_command.ScoreJoin.TheVariants.{Inter, Union}
+use Rattle.plain_model.specs.declared.zset_command.Aggregate.{Aggregate}
+use Rattle.plain_model.specs.declared.zset_command.Aggregate.TheVariants.{Sum, Min, Max}
 use Rattle.plain_world.specs.declared.refusal.Refusal.TheVariants.{NotAWholeScore}
 use Rattle.plain_world.specs.declared.reply.Part.{Part}
 use Rattle.plain_world.specs.declared.reply.Part.TheVariants.{Number, Bulk, Null, NullArray, Array}
@@ -227,9 +234,104 @@ pop old key from n (Some scores) =
     let gone = take n (met from (ranked scores)) in
     leaves (listed true gone) (keep_zset old key (without_members scores (members_of gone)))
 
+-- ---- picks and pages
+
+-- these members, each followed by its score
+abbrev pub scores_listed : Scores → List (List ℕ) → List Part
+scores_listed scores members = listed_with (λ member. score_or_null (get scores member)) members
+
+-- these members, with their scores where they are asked for
+abbrev pub members_listed : Bool → Scores → List (List ℕ) → List Part
+members_listed false scores members = scans.listed members
+members_listed true scores members = scores_listed scores members
+
+-- members that are picked are told
+abbrev pub PicksMembers : Option ℤ → Bool → Option Scores → List Part → Type 0
+PicksMembers n with_scores before reply =
+    let scores = or_no_scores before in
+    TellsPicks (λ member. is_some (get scores member)) (len scores) n (members_listed with_scores scores) reply
+
+-- ---- joins
+
+-- the scores of the members of a set
+abbrev pub one_each : FinMap (slice_cmp nat_cmp) (Unit {0}) → Scores
+one_each members = from_entries (map (λ entry. (entry.0, pos 1)) (entries members))
+
+-- the scores that a value gives to a join: a sorted set its own, and a set 1 for each member
+abbrev pub scores_in : Value → Option Scores
+scores_in (SortedOf scores) = Some scores
+scores_in (SetOf members) = Some (one_each members)
+scores_in other = None
+
+-- two scores of a member as one
+abbrev pub aggregated : Aggregate → ℤ → ℤ → ℤ
+aggregated Sum a b = a +ℤ b
+aggregated Min a b = if int_le a b then a else b
+aggregated Max a b = if int_le a b then b else a
+
+-- what is there already, and one score more
+abbrev pub score_with : Aggregate → Option ℤ → Option ℤ → Option ℤ
+score_with how before None = before
+score_with how None (Some score) = Some score
+score_with how (Some before) (Some score) = Some (aggregated how before score)
+
+abbrev pub weighted : ℤ → Option ℤ → Option ℤ
+weighted weight None = None
+weighted weight (Some score) = Some (weight *ℤ score)
+
+-- the scores of a member in some sources, each times its weight, as one
+abbrev pub score_from : Aggregate → Option ℤ → List ℤ → List Scores → List ℕ → Option ℤ
+score_from how before [] scores member = before
+score_from how before (weight ∷ weights) [] member = before
+score_from how before (weight ∷ weights) (scores ∷ others) member =
+    score_from how (score_with how before (weighted weight (get scores member))) weights others member
+
+-- all sources have the member
+abbrev pub have_all : List Scores → List ℕ → Bool
+have_all [] member = true
+have_all (scores ∷ others) member = is_some (get scores member) && have_all others member
+
+-- the score of a member in a join of sources
+abbrev pub joined_score : ScoreJoin → Aggregate → List ℤ → List Scores → List ℕ → Option ℤ
+joined_score Union how weights own member = score_from how None weights own member
+joined_score Inter how weights own member = if have_all own member then score_from how None weights own member else None
+
+-- a map has just the scores of a join
+abbrev pub IsJoin : ScoreJoin → Aggregate → List ℤ → List Scores → Scores → Type 0
+IsJoin join how weights own scores = (member : List ℕ) → get scores member ≡ joined_score join how weights own member
+
+abbrev pub are_scores : List (List ℕ × ℤ) → Bool
+are_scores [] = true
+are_scores (entry ∷ entries) = is_score entry.1 && are_scores entries
+
+-- a join takes the place of whatever stands at a key; without a member nothing stands there
+abbrev pub store_zset : World → List ℕ → Scores → World
+store_zset old to scores =
+    if len scores == 0 then remove old to else put old to (record { value = SortedOf scores; deadline = None })
+
+-- how many members a join has, if all its scores are in range
+abbrev pub store_scores : World → List ℕ → Scores → Outcome
+store_scores old to scores =
+    if are_scores (entries scores) then tells_number (pos (len scores)) (store_zset old to scores)
+    else refused NotAWholeScore old
+
+abbrev pub StoresScores : World → List ℕ → ScoreJoin → Aggregate → List ℤ → Option (List Scores) → List Part → World
+    → Type 0
+StoresScores old to join how weights own reply new =
+    (scores : Scores) × IsJoin join how weights (or_no_sources own) scores
+    × IsOutcome (store_scores old to scores) reply new
+
+-- the weights of keys, and the keys
+abbrev pub weights_of : List Scored → List ℤ
+weights_of keys = map (λ key. key.0) keys
+
+abbrev pub zsets_at : World → List Scored → Option (List Scores)
+zsets_at old keys = sources scores_in empty old (members_of keys)
+
 -- ---- each command
 
--- what a command answers and leaves, in a live world
+-- What a command answers and leaves, in a live world, where it has one answer: of the others `may_zsets` says what they may
+-- answer.
 abbrev pub zset_outcome : World → ZsetCommand → Outcome
 zset_outcome old (zsets.ZAdd key rules ch pairs) = on_zset old key (add_to old key rules ch pairs)
 zset_outcome old (zsets.ZIncr key rules by member) =
@@ -253,7 +355,16 @@ zset_outcome old (zsets.ZRemRangeByRank key a b) =
     on_zset old key (drop_part old key (λ list. list_range list a b))
 zset_outcome old (zsets.ZRemRangeByScore key min max) = on_zset old key (drop_part old key (within min max))
 zset_outcome old (zsets.ZPop key from n) = on_zset old key (pop old key from (or_one n))
+zset_outcome old other = tells [] old
 
--- from the world that is live at the moment the command may be answered by this reply, and leave the new world
-abbrev pub may_zsets : World → ZsetCommand → List Part → World → Type 0
-may_zsets old command reply new = IsOutcome (zset_outcome old command) reply new
+-- under this seed of the hash, and from the world that is live at the moment, the command may be answered by this reply, and
+-- leave the new world
+abbrev pub may_zsets : ℕ → World → ZsetCommand → List Part → World → Type 0
+may_zsets seed old (zsets.ZRandMember key n with_scores) reply new =
+    may_tell zset_in old (look old key) (PicksMembers n with_scores) reply new
+may_zsets seed old (zsets.ZJoinStore join to keys how) reply new =
+    may_do_of old (zsets_at old keys) (StoresScores old to join how (weights_of keys)) reply new
+may_zsets seed old (zsets.ZScan key cursor options) reply new =
+    may_tell zset_in old (look old key)
+    (λ before. IsHeldPage seed old key cursor options (scores_listed (or_no_scores before))) reply new
+may_zsets seed old command reply new = IsOutcome (zset_outcome old command) reply new

@@ -1,13 +1,18 @@
 -- What the words of commands on sorted sets mean (Redis command reference, "Commands operating on sorted sets").
-use Rattle.std.specs.Prelude.{ℕ, suc, List, [], ◌∷◌, length, take, drop, ℤ, None, Some, is_some, Bool, true, false, ◌&&◌, ◌||◌, nat_le, nat_lt, bytes_eq, Ok, Err, codes, Result, if◌then◌else◌}
+use Rattle.std.specs.Prelude.{ℕ, zero, suc, pos, List, [], ◌∷◌, length, take, drop, ℤ, None, Some, is_some, Bool, true, false, ◌&&◌, ◌||◌, nat_le, nat_lt, bytes_eq, Ok, Err, codes, Result, if◌then◌else◌}
 use Rattle.std.specs.List.{list_any}
 use Rattle.plain_world.specs.Words.{Words, in_lower_case}
-use Rattle.plain_model.specs.Shapes.{Plain, Whole, Score, Bound, told, and_then, Row, fixed, with_amount, repeated, NamedOption, option_of, options_read, with_options}
+use Rattle.plain_model.specs.KeyWords.{page_words}
+use Rattle.plain_model.specs.Shapes.{Kind, Plain, Whole, Score, Bound, Keys, Aggregated, AllTold, told, and_then, counted, Row, fixed, with_amount, with_picked, repeated, NamedOption, option_of, options_read, with_options}
 use Rattle.plain_model.specs.declared.zset_command.ZsetCommand.{ZsetCommand}
 use Rattle.plain_model.specs.declared.zset_command.ZsetCommand.TheVariants as zsets
 use Rattle.plain_model.specs.declared.zset_command.Direction.{Direction}
 use Rattle.plain_model.specs.declared.zset_command.Direction.TheVariants.{Rising, Falling}
 use Rattle.plain_model.specs.declared.zset_command.ScoreBound.{ScoreBound}
+use Rattle.plain_model.specs.declared.zset_command.ScoreJoin.{ScoreJoin}
+use Rattle.plain_model.specs.declared.zset_command.ScoreJoin.TheVariants.{Inter, Union}
+use Rattle.plain_model.specs.declared.zset_command.Aggregate.{Aggregate}
+use Rattle.plain_model.specs.declared.zset_command.Aggregate.TheVariants.{Sum}
 use Rattle.plain_model.specs.declared.zset_command.ScoreRules.{ScoreRules}
 use Rattle.plain_model.specs.declared.zset_command.AddOptions.{AddOptions}
 use Rattle.plain_model.specs.declared.zset_command.RangeOptions.{RangeOptions}
@@ -169,6 +174,52 @@ rank_words from =
     }
     ∷ []) false (λ a o. Ok (zsets.ZRank a.0 a.1.0 from o))
 
+-- ---- joins
+
+-- so many scores
+abbrev pub score_kinds : ℕ → List Kind
+score_kinds zero = []
+score_kinds (suc n) = Score ∷ score_kinds n
+
+abbrev pub scores_told : (n : ℕ) → AllTold (score_kinds n) → List ℤ
+scores_told zero own = []
+scores_told (suc n) own = own.0 ∷ scores_told n own.1
+
+-- so many times 1
+abbrev pub ones : ℕ → List ℤ
+ones zero = []
+ones (suc n) = pos 1 ∷ ones n
+
+-- the weights of so many keys, and the aggregate
+abbrev pub join_options : ℕ → List (NamedOption (List ℤ × Aggregate))
+join_options n =
+    record { name = codes "weights"; kinds = score_kinds n; sets = λ own o. (scores_told n own, o.1) }
+    ∷ record { name = codes "aggregate"; kinds = Aggregated ∷ []; sets = λ own o. (o.0, own.0) } ∷ []
+
+-- without options each weight is 1, and scores are added
+abbrev pub no_join_options : ℕ → List ℤ × Aggregate
+no_join_options n = (ones n, Sum)
+
+-- each key with its weight
+abbrev pub weighed : List ℤ → Words → List (ℤ × List ℕ)
+weighed [] keys = []
+weighed (weight ∷ weights) [] = []
+weighed (weight ∷ weights) (key ∷ keys) = (weight, key) ∷ weighed weights keys
+
+-- keys, and options behind them
+abbrev pub join_of : ScoreJoin → List ℕ → ℕ → Words → Words → Read
+join_of join to n keys words =
+    and_then (options_read (join_options n) (no_join_options n) 0 words)
+    (λ read. Ok (zsets.ZJoinStore join to (weighed read.0 keys) read.1))
+
+-- where the join is to stand, how many keys there are, the keys, and options
+abbrev pub join_words : ScoreJoin → Words → Read
+join_words join [] = Err WrongNumberOfArguments
+join_words join (to ∷ []) = Err WrongNumberOfArguments
+join_words join (to ∷ n ∷ words) =
+    if nat_le 1 (length words) then and_then (told Keys n) (λ count. counted (join_of join to count) count words)
+    else Err WrongNumberOfArguments
+
 -- ---- each command
 
 abbrev pub zset_rows : List (Row ZsetCommand)
@@ -206,4 +257,8 @@ zset_rows =
     }
     ∷ record { name = codes "zpopmin"; read = with_amount (λ key n. zsets.ZPop key Rising n) }
     ∷ record { name = codes "zpopmax"; read = with_amount (λ key n. zsets.ZPop key Falling n) }
+    ∷ record { name = codes "zrandmember"; read = with_picked (codes "withscores") zsets.ZRandMember }
+    ∷ record { name = codes "zunionstore"; read = join_words Union }
+    ∷ record { name = codes "zinterstore"; read = join_words Inter }
+    ∷ record { name = codes "zscan"; read = page_words zsets.ZScan }
     ∷ []

@@ -2,7 +2,7 @@
 
 use crate::{
     ConnectionCommand, HashCommand, KeyCommand, Lifetime, ListCommand, PairList, Renewal,
-    SetCommand, Word, WordList, ZsetCommand,
+    SetCommand, StreamCommand, Word, WordList, ZsetCommand,
 };
 
 /// A command with its words.
@@ -13,6 +13,7 @@ pub enum Command<'a> {
     Sets(SetCommand<'a>),
     Hashes(HashCommand<'a>),
     Zsets(ZsetCommand<'a>),
+    Streams(StreamCommand<'a>),
     Keys(KeyCommand<'a>),
     Connection(ConnectionCommand<'a>),
 }

@@ -1,6 +1,6 @@
 //! Commands on hashes.
 
-use crate::{PairList, Word, WordList};
+use crate::{PairList, ScanOptions, Word, WordList};
 
 /// A command on hashes.
 #[derive(Drop)]
@@ -31,4 +31,8 @@ pub enum HashCommand<'a> {
     HGetAll(Word<'a>),
     /// `HINCRBY key field n`
     HIncrBy(Word<'a>, Word<'a>, i64),
+    /// `HRANDFIELD key [n [WITHVALUES]]`
+    HRandField(Word<'a>, Option<i64>, bool),
+    /// `HSCAN key cursor [MATCH pattern] [COUNT n]`
+    HScan(Word<'a>, u64, ScanOptions<'a>),
 }

@@ -10,6 +10,8 @@ mod laws;
 mod list_command;
 mod lists;
 mod set_command;
+mod stream_command;
+mod stream_lists;
 mod times;
 mod word;
 mod zset_command;
@@ -25,9 +27,12 @@ pub use laws::{replies_fix_the_run, runs_are_covered};
 pub use list_command::{ListCommand, ListEnd, PositionOptions, Side};
 pub use lists::{PairList, ScoreList, WordList};
 pub use plain_world::{Bytes, LONGEST, Line, Memory, Part, Parts, Refusal, Reply};
-pub use set_command::SetCommand;
+pub use set_command::{SetCommand, SetJoin};
+pub use stream_command::{AppendOptions, EntryId, NewId, StreamCommand, Trim};
+pub use stream_lists::{IdList, ReadList};
 pub use times::{Lifetime, Renewal, Time, TimeOrigin, TimeUnit};
 pub use word::Word;
 pub use zset_command::{
-    AddOptions, Direction, Limit, RangeOptions, ScoreBound, ScoreRules, ZsetCommand,
+    AddOptions, Aggregate, Direction, Limit, RangeOptions, ScoreBound, ScoreJoin, ScoreRules,
+    ZsetCommand,
 };

@@ -1,13 +1,13 @@
 //! Commands on sorted sets.
 
-use crate::{ScoreList, Word, WordList};
+use crate::{ScanOptions, ScoreList, Word, WordList};
 
-/// The order in which members are met.
+/// The order in which members of a sorted set, or entries of a stream, are met.
 #[derive(Clone, Copy, Debug, PartialEq, Eq)]
 pub enum Direction {
-    /// From the lowest score on.
+    /// From the lowest score or id on.
     Rising,
-    /// From the highest score on.
+    /// From the highest score or id on.
     Falling,
 }
 
@@ -69,6 +69,26 @@ pub struct RangeOptions {
     pub with_scores: bool,
 }
 
+/// Whose members a join has.
+#[derive(Clone, Copy, Debug, PartialEq, Eq)]
+pub enum ScoreJoin {
+    /// Those that all sources have.
+    Inter,
+    /// Those that any source has.
+    Union,
+}
+
+/// What a join makes of the scores of a member.
+#[derive(Clone, Copy, Debug, PartialEq, Eq)]
+pub enum Aggregate {
+    /// `SUM`
+    Sum,
+    /// `MIN`
+    Min,
+    /// `MAX`
+    Max,
+}
+
 /// A command on sorted sets.
 #[derive(Drop)]
 pub enum ZsetCommand<'a> {
@@ -98,4 +118,10 @@ pub enum ZsetCommand<'a> {
     ZRemRangeByScore(Word<'a>, ScoreBound, ScoreBound),
     /// `ZPOPMIN key [n]`, and ZPOPMAX
     ZPop(Word<'a>, Direction, Option<u64>),
+    /// `ZRANDMEMBER key [n [WITHSCORES]]`
+    ZRandMember(Word<'a>, Option<i64>, bool),
+    /// `ZUNIONSTORE to n key.. [WEIGHTS score..] [AGGREGATE SUM, MIN or MAX]`, and ZINTERSTORE, with the weight of each key
+    ZJoinStore(ScoreJoin, Word<'a>, ScoreList<'a>, Aggregate),
+    /// `ZSCAN key cursor [MATCH pattern] [COUNT n]`
+    ZScan(Word<'a>, u64, ScanOptions<'a>),
 }
