@@ -9,3 +9,6 @@ pub mod Forming
 pub mod Editing
 pub mod Founding
 pub mod Absent
+pub mod Sifting
+pub mod PageParts
+pub mod HeldPages

@@ -1,6 +1,6 @@
 -- Values whose blocks move: what a bounded call passes, a lemma for each type of value.
-use Rattle.std.proofs.Common.{◌≡◌, ℕ, zero, suc, ◌+◌, ◌-◌, ◌<◌, ◌≤◌, inl, inr, ◌⊎◌, Bool, true, false, cond, eqb, ◌&&◌, List, [], ◌∷◌, length, map, count_by, Option, Some, None, refl, sym, ap, ◌∙◌, subst, arith}
-use Rattle.std.specs.Prelude.{IfSome, nat_le, nat_lt, get_or}
+use Rattle.std.proofs.Common.{◌≡◌, ℕ, zero, suc, ◌+◌, ◌-◌, ◌<◌, ◌≤◌, inl, inr, Bool, true, false, cond, eqb, ◌&&◌, List, [], ◌∷◌, length, map, count_by, Option, Some, None, refl, sym, ap, ◌∙◌, subst, arith}
+use Rattle.std.specs.Prelude.{IfSome, nat_le}
 use Rattle.std.specs.List.{All, slice_get, range_with_len}
 use Rattle.std.proofs.lemmas.List.FromFn.{length-range_with_len, get_or-range_with_len}
 use Rattle.std.proofs.lemmas.Option.{slice_get-map, slice_get_within, get_or_from_slice_get, slice_get-get_or}
@@ -16,20 +16,21 @@ use Rattle.blocks.specs.Blocks.{Blocks, Changes}
 use Rattle.blocks.specs.Slabs.{Heap, wants, Calmer}
 use Rattle.blocks.proofs.Sums.{count_cons}
 use Rattle.collection_walk.specs.Marks.{is_before, is_passed, ArePassed, IsCounted}
-use Rattle.object_codec.specs.declared.limits.Limits.{Limits}
-use Rattle.plain_world.specs.Worlds.{Str, ListOf, SetOf, HashOf, SortedOf}
+use Rattle.plain_world.specs.Worlds.{Str, ListOf, SetOf, HashOf, SortedOf, StreamOf}
 use Rattle.string_object.specs.declared.text.Text as string
 use Rattle.string_object.specs.declared.text.Text.TheVariants.{Number, Whole, Raw}
 use Rattle.string_object.specs.Text.{text_bytes, text_refs, is_raw}
-use Rattle.quicklist.specs.Chain.{Chain, IsQuick, IsPassed, IsOutside, elements, refs, ref_at, passed_to}
+use Rattle.quicklist.specs.Chain.{Chain, IsQuick, IsPassed, IsOutside, elements, refs, passed_to}
 use Rattle.set_object.specs.declared.members.Members.{Members}
 use Rattle.set_object.specs.Relocation as set_marks
 use Rattle.hash_object.specs.declared.fields.Fields.{Fields}
 use Rattle.hash_object.specs.Relocation as hash_marks
 use Rattle.zset_object.specs.declared.scored.Scored.{Scored}
 use Rattle.zset_object.specs.Relocation as zset_marks
+use Rattle.stream_object.specs.declared.stream.Stream.{Stream as Log}
+use Rattle.stream_object.specs.Streams as stream
+use Rattle.stream_object.specs.Relocation as stream_marks
 use Rattle.stored.specs.Passing.{Marks, IsBounded, passed_of, PassesPart}
-use Rattle.keyspace.specs.declared.value.Value.{Value}
 use Rattle.keyspace.specs.declared.value.Value.TheVariants.{Text, Set, Hash, Zset}
 use Rattle.keyspace.specs.declared.value.Value.TheVariants as kinds
 use Rattle.keyspace.specs.Values.{value_of, value_refs, value_marks, value_tables, IsSound, OfText, OfForm, encoding_of}
@@ -286,3 +287,27 @@ zset_passes m after heap later box new from room answer r p calmer = record {
   passed = p.passed;
   bounded = counted_bounded (zset_marks.marks box.value) (zset_marks.vacant_marks box.value) (zset_marks.marks new) (zset_marks.vacant_marks new) (zset_marks.marks_end box.value) from room answer p.same_marks p.same_vacant p.counted;
 }
+
+-- ---- streams: the mark of a node's block is its key as a number
+
+-- what `relocate_part` of a stream says, as a part that was passed
+pub stream_passes : (m after : Blocks) (heap later : Heap) (box : Box Log) (new : Log) (from room : ℕ) (answer : Moved) → stream_marks.IsRelocated m after box.value new → ArePassed later (is_passed from answer.next) (stream.marks m box.value) (stream.refs m box.value) (stream.refs after new) → stream_marks.IsBounded (stream.marks m box.value) from room answer → Calmer heap later
+    → PassesPart value_refs value_of IsSound value_marks value_tables encoding_of m after heap later (kinds.Stream box) (kinds.Stream (with_value box new)) from room answer
+stream_passes m after heap later box new from room answer r passed bounded calmer = record {
+  means = ap StreamOf r.value_is;
+  sound = λ limits seed was. r.is_stream;
+  same_encoding = refl;
+  same_tables = refl;
+  same_marks = ap (λ named. record { named = named; vacant = [] }) r.marks_are;
+  changes = r.changes;
+  calmer = calmer;
+  passed = subst (λ named. ArePassed later (is_passed from answer.next) named (stream.refs m box.value) (stream.refs after new)) (sym r.marks_are) passed;
+  bounded = record {
+    used = bounded.used ∙ ap (count_by (is_passed from answer.next)) (sym r.marks_are) ∙ alone (count_by (is_passed from answer.next) (stream.marks after new));
+    within = bounded.within;
+    on = bounded.on;
+  };
+}
+  where
+    alone : (n : ℕ) → n ≡ n + 0
+    alone n = omega arith

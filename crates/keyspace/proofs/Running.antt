@@ -1,14 +1,20 @@
 -- What a command promises, from what its parts do.
-use Rattle.std.proofs.Common.{◌≡◌, List, Result, Ok, Err, IfOk, refl, sym, ap, ◌∙◌}
+use Rattle.std.proofs.Common.{◌≡◌, List, Result, Ok, Err, IfOk, refl, sym, ap, subst, ◌∙◌}
 use Rattle.blocks.specs.Blocks.{Blocks, Served}
 use Rattle.plain_world.specs.Worlds.{World}
 use Rattle.plain_model.specs.Outcomes.{Outcome, IsOutcome, IsRefusal, leaves}
 use Rattle.plain_world.specs.declared.reply.Part.{Part}
+use Rattle.plain_model.specs.Steps.{may}
+use Rattle.plain_model.specs.declared.ctx.Ctx.{Ctx}
+use Rattle.plain_model.specs.declared.command.Command.{Command}
 use Rattle.keyspace.specs.Databases.{Bases, SameSettings}
 use Rattle.keyspace.specs.Sound.{Sound}
 use Rattle.keyspace.specs.Databases.{Keyspace}
-use Rattle.keyspace.specs.Scopes.{Scope}
-use Rattle.keyspace.specs.Commands.{Held, Kept}
+use Rattle.keyspace.specs.Scopes.{Scope, scope_of}
+use Rattle.keyspace.specs.Forms.{Formed, form_of}
+use Rattle.keyspace.specs.Shown.{Shows}
+use Rattle.keyspace.specs.Commands.{Ready, Held, Kept, Runs, sight}
+use Rattle.keyspace.proofs.Forming.{unformed}
 use Rattle.blocks.proofs.Serve.{Served-then}
 use Rattle.keyspace.proofs.Serving.{unmoved, further}
 
@@ -45,3 +51,23 @@ calm blocks step scope old new (Err e) f held = record { refusals = tt; held = h
 pub nothing_shown : {E : Type 0} (result : Result (List Part) E) → IfOk result (λ reply. Unit {0})
 nothing_shown (Ok reply) = tt
 nothing_shown (Err e) = tt
+
+-- ---- a command ran
+
+-- by the one answer that it has
+pub told : {E : Type 0} (outcome : Outcome) (new : World) (result : Result (List Part) E) → IfOk result (λ reply. outcome ≡ leaves reply new) → IfOk result (λ reply. IsOutcome outcome reply new)
+told outcome new (Ok reply) given = outcome_is outcome reply new given
+told outcome new (Err e) given = tt
+
+module _ {S E : Type 0} (blocks : S → Blocks) (step : S → S → Type 0) where
+  -- by what the model lets it answer, where the command is this one
+  pub ran : (old new : Keyspace S) (at : Ctx) (command same : Command) (result : Result (List Part) E) → command ≡ same → IfOk result (λ reply. may old.bases.seed (sight blocks old at) at.moment same reply (sight blocks new at))
+      → Kept blocks step (scope_of at.db same) old new result → IfOk result (λ reply. Shows blocks old new at same reply) → IfOk result (λ reply. Formed blocks (form_of at.db (sight blocks old at) same) old new) → Runs blocks step old new at command result
+  ran old new at command same result is answers kept shows forms =
+      subst (λ c. Runs blocks step old new at c result) (sym is) (record { answers = answers; kept = kept; shows = shows; forms = forms })
+
+  -- the same of a command that only looked
+  pub looked : (keyspace : Keyspace S) (at : Ctx) (command same : Command) (result : Result (List Part) E) → command ≡ same → IfOk result (λ reply. may keyspace.bases.seed (sight blocks keyspace at) at.moment same reply (sight blocks keyspace at))
+      → IfOk result (λ reply. Shows blocks keyspace keyspace at same reply) → Ready blocks keyspace at → Runs blocks step keyspace keyspace at command result
+  looked keyspace at command same result is answers shows ready =
+      ran keyspace keyspace at command same result is answers (unchanged blocks step (scope_of at.db same) keyspace result ready.sound) shows (unformed blocks (form_of at.db (sight blocks keyspace at) same) keyspace result)

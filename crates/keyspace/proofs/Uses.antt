@@ -29,6 +29,8 @@ use Rattle.score_table.specs.Ranking.{ScoreMap}
 use Rattle.zset_object.specs.Scored as zset
 use Rattle.zset_object.specs.declared.scored.Body as zset_body
 use Rattle.zset_object.specs.declared.scored.Body.TheVariants as zset_bodies
+use Rattle.stream_object.specs.declared.stream.Stream.{Stream as Log}
+use Rattle.stream_object.specs.Streams.{stream_of}
 use Rattle.keyspace.specs.declared.value.Value.TheVariants as kinds
 use Rattle.string_object.specs.declared.text.Text as texts
 use Rattle.string_object.specs.Text.{text_bytes, text_refs}
@@ -165,6 +167,9 @@ zset_known scores zset_bodies.Empty = (0, lit< tt, refl)
 zset_known scores (zset_bodies.Pack packed) = (0, lit< tt, refl)
 zset_known scores (zset_bodies.Table t) = (1, lit< tt, refl)
 
+stream_known : (m : Blocks) (log : Log) → Contains (encodings (model.StreamOf (stream_of m log))) (form_text Stream)
+stream_known m log = (0, lit< tt, refl)
+
 -- the name of a value's encoding is one of those of its type
 pub encoding_known : (limits : Limits) (seed : ℕ) (m : Blocks) (value : Value) (name : List ℕ) → IsSound limits seed m value → IsEncodedAs m value name → Contains (encodings (value_of m value)) name
 encoding_known limits seed m (Text text) name sound is = subst (Contains (encodings (model.Str (text_bytes m text)))) (sym is.2) (name_known (text_bytes m text) is.0)
@@ -172,3 +177,4 @@ encoding_known limits seed m (kinds.List b) name sound is = subst (Contains (enc
 encoding_known limits seed m (Set b) name sound is = subst (Contains (encodings (model.SetOf (set.members m b.value)))) (sym is) (set_known (set.members m b.value) b.value.body)
 encoding_known limits seed m (Hash b) name sound is = subst (Contains (encodings (model.HashOf (hash.fields m b.value)))) (sym is) (hash_known (hash.fields m b.value) b.value.body)
 encoding_known limits seed m (Zset b) name sound is = subst (Contains (encodings (model.SortedOf (zset.scores m b.value)))) (sym is) (zset_known (zset.scores m b.value) b.value.body)
+encoding_known limits seed m (kinds.Stream b) name sound is = subst (Contains (encodings (model.StreamOf (stream_of m b.value)))) (sym is) (stream_known m b.value)

@@ -20,6 +20,7 @@ limits_of (kinds.List b) = None
 limits_of (Set b) = Some b.value.limits
 limits_of (Hash b) = Some b.value.limits
 limits_of (Zset b) = Some b.value.limits
+limits_of (kinds.Stream b) = None
 
 -- what a value means, how it is encoded, and the limits that it was made with
 pub record Shape : Type 0 where

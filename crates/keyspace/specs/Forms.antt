@@ -1,9 +1,9 @@
 -- How commands leave the encodings of values (Redis command reference, "OBJECT ENCODING").
-use Rattle.std.specs.Prelude.{◌≡◌, ◌⊎◌, ℕ, List, [], ◌∷◌, length, drop, Bool, true, false, Option, None, Some, is_some, bytes_eq, ℤ, ◌+ℤ◌, if◌then◌else◌}
+use Rattle.std.specs.Prelude.{◌≡◌, ◌⊎◌, ℕ, List, [], ◌∷◌, length, Bool, true, false, Option, None, Some, is_some, bytes_eq, ℤ, ◌+ℤ◌, if◌then◌else◌}
 use Rattle.blocks.specs.Blocks.{Blocks}
 use Rattle.plain_world.specs.Worlds.{World, Entry, look}
 use Rattle.plain_model.specs.declared.command.Command.{Command}
-use Rattle.plain_model.specs.declared.command.Command.TheVariants.{Strings, Lists, Sets, Hashes, Zsets, Keys, Connection}
+use Rattle.plain_model.specs.declared.command.Command.TheVariants.{Strings, Lists, Sets, Hashes, Zsets, Streams, Keys, Connection}
 use Rattle.plain_model.specs.declared.command.StringCommand.{StringCommand}
 use Rattle.plain_model.specs.declared.command.StringCommand.TheVariants as strings
 use Rattle.plain_model.specs.declared.list_command.ListCommand.{ListCommand}
@@ -15,6 +15,8 @@ use Rattle.plain_model.specs.declared.hash_command.HashCommand.TheVariants as ha
 use Rattle.plain_model.specs.declared.zset_command.ZsetCommand.{ZsetCommand}
 use Rattle.plain_model.specs.declared.zset_command.ZsetCommand.TheVariants as zsets
 use Rattle.plain_model.specs.declared.zset_command.ScoreRules.{ScoreRules}
+use Rattle.plain_model.specs.declared.stream_command.StreamCommand.{StreamCommand}
+use Rattle.plain_model.specs.declared.stream_command.StreamCommand.TheVariants as streams
 use Rattle.plain_model.specs.declared.keys.KeyCommand.{KeyCommand}
 use Rattle.plain_model.specs.declared.keys.KeyCommand.TheVariants as keys
 use Rattle.std.specs.FinMap.{empty, get, insert}
@@ -23,15 +25,16 @@ use Rattle.hash_object.specs.Maps.{FitsFields}
 use Rattle.set_object.specs.Strings.{FitsMembers}
 use Rattle.zset_object.specs.Orders.{FitsScored}
 use Rattle.int_text.specs.Decimal.{canonical}
-use Rattle.plain_model.specs.OfType.{list_in, set_in, hash_in, zset_in}
-use Rattle.plain_model.specs.SetSteps.{Members, or_no_members, has}
+use Rattle.plain_model.specs.OfType.{list_in, set_in, hash_in, zset_in, or_no_sources}
+use Rattle.plain_model.specs.SetSteps.{Members, or_no_members, has, is_joined, sets_at}
 use Rattle.plain_model.specs.HashSteps.{Fields, or_no_fields, number_in}
-use Rattle.plain_model.specs.ZsetSteps.{Scores, Scored, or_no_scores, permits, write_score, or_zero}
+use Rattle.plain_model.specs.ZsetSteps.{Scores, Scored, or_no_scores, permits, write_score, or_zero, joined_score, weights_of, zsets_at}
 use Rattle.plain_model.specs.ListSteps.{Elements, or_none, added, from_end, place_of, replaced, inserted_beside}
 use Rattle.plain_model.specs.declared.list_command.ListEnd.{ListEnd}
 use Rattle.plain_model.specs.declared.list_command.ListEnd.TheVariants.{Head, Tail}
 use Rattle.object_codec.specs.Forms.{IsLeast, IsLeastFrom, FitsList}
 use Rattle.object_codec.specs.declared.form.Form as codec
+use Rattle.object_codec.specs.declared.form.Form.TheVariants as forms
 use Rattle.quicklist.specs.Nodes.{pack_len}
 use Rattle.held.specs.Calls.{HasValue}
 use Rattle.held.specs.Table.{Element, item}
@@ -134,9 +137,25 @@ pub record IsZsetRisen (there : Bool) (rules : ScoreRules) (scores : Scores) (pa
   pub is : encoding_of value ≡ OfForm form
   pub risen : RisesUnder rules old.limits from scores pairs form
 
+-- A set that a command made, of just these members, has the least form that fits.
+pub record IsNewSet (has : List ℕ → Bool) (old : Bases) (value : Value) : Type 0 where
+  pub members : Members
+  pub form : codec.Form
+  pub all : (member : List ℕ) → is_some (get members member) ≡ has member
+  pub is : encoding_of value ≡ OfForm form
+  pub least : IsLeast (FitsMembers old.limits members) form
+
+-- A sorted set that a command made, of just these scores, has the least form that fits.
+pub record IsNewZset (score : List ℕ → Option ℤ) (old : Bases) (value : Value) : Type 0 where
+  pub scores : Scores
+  pub form : codec.Form
+  pub all : (member : List ℕ) → get scores member ≡ score member
+  pub is : encoding_of value ≡ OfForm form
+  pub least : IsLeast (FitsScored old.limits scores) form
+
 -- how a value is encoded that a command writes: as one written whole, as one of which a part was changed, as the value
--- that stood at a key of a database, or as the list, hash, set or sorted set that stood there, or a new one, to which was written; or
--- in either of two ways; or no value is written
+-- that stood at a key of a database, or as the list, hash, set or sorted set that stood there, or a new one, to which was written; as a
+-- new set or sorted set; as any stream; or in either of two ways; or no value is written
 pub data Form : Type 0 where
   Unwritten : Form
   Whole : Form
@@ -146,6 +165,9 @@ pub data Form : Type 0 where
   HashRisen : Bool → Fields → List (List ℕ × List ℕ) → ℕ → List ℕ → Form
   SetRisen : Bool → Members → List (List ℕ) → ℕ → List ℕ → Form
   ZsetRisen : Bool → ScoreRules → Scores → List Scored → ℕ → List ℕ → Form
+  NewSet : (List ℕ → Bool) → Form
+  NewZset : (List ℕ → Option ℤ) → Form
+  Log : Form
   Either : Form → Form → Form
 
 -- a value has a form, where these databases stood before
@@ -158,6 +180,9 @@ HasForm (Risen there long db key) old m value = IsRisenAt there long db key old 
 HasForm (HashRisen there fields pairs db key) old m value = IsHashRisen there fields pairs db key old m value
 HasForm (SetRisen there members others db key) old m value = IsSetRisen there members others db key old m value
 HasForm (ZsetRisen there rules scores pairs db key) old m value = IsZsetRisen there rules scores pairs db key old m value
+HasForm (NewSet has) old m value = IsNewSet has old value
+HasForm (NewZset score) old m value = IsNewZset score old value
+HasForm Log old m value = encoding_of value ≡ OfForm forms.Stream
 HasForm (Either form other) old m value = HasForm form old m value ⊎ HasForm other old m value
 
 -- Each element stood there before, with its key and its value as they were, or its value has this form.
@@ -274,6 +299,8 @@ abbrev pub set_form : ℕ → World → SetCommand → Form
 set_form db world (sets.SAdd key others) = set_with db world key others
 set_form db world (sets.SRem key others) = AsAt db key
 set_form db world (sets.SMove from to member) = Either (AsAt db from) (set_with db world to (member ∷ []))
+set_form db world (sets.SPop key n) = AsAt db key
+set_form db world (sets.SJoinStore how to keys) = NewSet (is_joined how (or_no_sources (sets_at world keys)))
 set_form db world other = Unwritten
 
 -- the sorted set that stands at a key, without a member where none does
@@ -297,7 +324,17 @@ zset_form db world (zsets.ZRem key members) = AsAt db key
 zset_form db world (zsets.ZRemRangeByRank key a b) = AsAt db key
 zset_form db world (zsets.ZRemRangeByScore key min max) = AsAt db key
 zset_form db world (zsets.ZPop key from n) = AsAt db key
+zset_form db world (zsets.ZJoinStore join to keys how) =
+    NewZset (joined_score join how (weights_of keys) (or_no_sources (zsets_at world keys)))
 zset_form db world other = Unwritten
+
+-- what is written to a stream is encoded as any stream
+abbrev pub stream_form : StreamCommand → Form
+stream_form (streams.XLen key) = Unwritten
+stream_form (streams.XRange key from to order limit) = Unwritten
+stream_form (streams.XRead limit asked) = Unwritten
+stream_form (streams.XPending key name) = Unwritten
+stream_form other = Log
 
 -- what is copied or moved is encoded as before
 abbrev pub key_form : ℕ → KeyCommand → Form
@@ -314,5 +351,6 @@ form_of db world (Lists command) = list_form db world command
 form_of db world (Sets command) = set_form db world command
 form_of db world (Hashes command) = hash_form db world command
 form_of db world (Zsets command) = zset_form db world command
+form_of db world (Streams command) = stream_form command
 form_of db world (Keys command) = key_form db command
 form_of db world (Connection command) = Unwritten

@@ -6,6 +6,8 @@ pub mod Worlds
 pub mod Scopes
 pub mod Calls
 pub mod Forms
+pub mod Sifted
+pub mod Pages
 pub mod Shown
 pub mod Commands
 pub mod Seeking

@@ -3,7 +3,7 @@ use Rattle.std.specs.Prelude.{ℕ, List, map, Option, Some, None}
 use Rattle.blocks.specs.Blocks.{Blocks}
 use Rattle.held.specs.Scopes as held
 use Rattle.plain_model.specs.declared.command.Command.{Command}
-use Rattle.plain_model.specs.declared.command.Command.TheVariants.{Strings, Lists, Sets, Hashes, Zsets, Keys, Connection}
+use Rattle.plain_model.specs.declared.command.Command.TheVariants.{Strings, Lists, Sets, Hashes, Zsets, Streams, Keys, Connection}
 use Rattle.plain_model.specs.declared.command.StringCommand.{StringCommand}
 use Rattle.plain_model.specs.declared.command.StringCommand.TheVariants as strings
 use Rattle.plain_model.specs.declared.list_command.ListCommand.{ListCommand}
@@ -14,6 +14,9 @@ use Rattle.plain_model.specs.declared.hash_command.HashCommand.{HashCommand}
 use Rattle.plain_model.specs.declared.hash_command.HashCommand.TheVariants as hashes
 use Rattle.plain_model.specs.declared.zset_command.ZsetCommand.{ZsetCommand}
 use Rattle.plain_model.specs.declared.zset_command.ZsetCommand.TheVariants as zsets
+use Rattle.plain_model.specs.declared.stream_command.StreamCommand.{StreamCommand}
+use Rattle.plain_model.specs.declared.stream_command.StreamCommand.TheVariants as streams
+use Rattle.plain_model.specs.StreamSteps.{Asked}
 use Rattle.plain_model.specs.declared.keys.KeyCommand.{KeyCommand}
 use Rattle.plain_model.specs.declared.keys.KeyCommand.TheVariants as keys
 use Rattle.plain_model.specs.declared.connection.ConnectionCommand.{ConnectionCommand}
@@ -103,6 +106,12 @@ set_reach db (sets.SMIsMember key others) = Nothing
 set_reach db (sets.SMembers key) = Nothing
 set_reach db (sets.SCard key) = Nothing
 set_reach db (sets.SMove from to member) = TwoKeys db from db to
+set_reach db (sets.SPop key n) = OneKey db key
+set_reach db (sets.SRandMember key n) = Nothing
+set_reach db (sets.SJoin how keys) = Nothing
+set_reach db (sets.SJoinStore how to keys) = OneKey db to
+set_reach db (sets.SInterCard keys limit) = Nothing
+set_reach db (sets.SScan key cursor options) = Nothing
 
 abbrev pub set_scope : ℕ → SetCommand → Scope
 set_scope db command = scope (set_reach db command)
@@ -121,6 +130,8 @@ hash_reach db (hashes.HKeys key) = Nothing
 hash_reach db (hashes.HVals key) = Nothing
 hash_reach db (hashes.HGetAll key) = Nothing
 hash_reach db (hashes.HIncrBy key field n) = OneKey db key
+hash_reach db (hashes.HRandField key n with_values) = Nothing
+hash_reach db (hashes.HScan key cursor options) = Nothing
 
 abbrev pub hash_scope : ℕ → HashCommand → Scope
 hash_scope db command = scope (hash_reach db command)
@@ -139,9 +150,32 @@ zset_reach db (zsets.ZRangeByScore key min max from limit with_scores) = Nothing
 zset_reach db (zsets.ZRemRangeByRank key a b) = OneKey db key
 zset_reach db (zsets.ZRemRangeByScore key min max) = OneKey db key
 zset_reach db (zsets.ZPop key from n) = OneKey db key
+zset_reach db (zsets.ZRandMember key n with_scores) = Nothing
+zset_reach db (zsets.ZJoinStore join to keys how) = OneKey db to
+zset_reach db (zsets.ZScan key cursor options) = Nothing
 
 abbrev pub zset_scope : ℕ → ZsetCommand → Scope
 zset_scope db command = scope (zset_reach db command)
+
+-- the keys that are asked for
+abbrev pub asked_keys : List Asked → List (List ℕ)
+asked_keys asked = map (λ (one : Asked). one.0) asked
+
+abbrev pub stream_reach : ℕ → StreamCommand → Reach
+stream_reach db (streams.XAdd key options id pairs) = OneKey db key
+stream_reach db (streams.XLen key) = Nothing
+stream_reach db (streams.XRange key from to order limit) = Nothing
+stream_reach db (streams.XDel key ids) = OneKey db key
+stream_reach db (streams.XTrim key trim) = OneKey db key
+stream_reach db (streams.XRead limit asked) = Nothing
+stream_reach db (streams.XGroupCreate key name id make) = OneKey db key
+stream_reach db (streams.XGroupDestroy key name) = OneKey db key
+stream_reach db (streams.XReadGroup name consumer limit asked) = SomeKeys db (asked_keys asked)
+stream_reach db (streams.XAck key name ids) = OneKey db key
+stream_reach db (streams.XPending key name) = Nothing
+
+abbrev pub stream_scope : ℕ → StreamCommand → Scope
+stream_scope db command = scope (stream_reach db command)
 
 -- the database of this number, or else the selected one
 abbrev pub number_or : ℕ → Option ℕ → ℕ
@@ -198,6 +232,7 @@ reach_of db (Lists command) = list_reach db command
 reach_of db (Sets command) = set_reach db command
 reach_of db (Hashes command) = hash_reach db command
 reach_of db (Zsets command) = zset_reach db command
+reach_of db (Streams command) = stream_reach db command
 reach_of db (Keys command) = key_reach db command
 reach_of db (Connection command) = connection_reach db command
 

@@ -1,5 +1,5 @@
 -- What a reply shows of the tables and values that stand, beside what the world fixes.
-use Rattle.std.specs.Prelude.{◌≡◌, ◌<◌, ℕ, List, [], ◌∷◌, map, Bool, nat_lt, pos, None}
+use Rattle.std.specs.Prelude.{◌≡◌, ◌<◌, ℕ, List, [], ◌∷◌, map, Bool, true, false, nat_lt, pos, None}
 use Rattle.std.specs.List.{filter, range_with_len}
 use Rattle.blocks.specs.Blocks.{Blocks}
 use Rattle.blocks.specs.Slabs.{Heap, size_of, slabs_of, used_of}
@@ -13,7 +13,13 @@ use Rattle.plain_world.specs.declared.reply.Part.TheVariants.{Number, Bulk, Null
 use Rattle.plain_model.specs.ConnectionSteps.{ClassSlabs, slab_table}
 use Rattle.plain_model.specs.Scans.{Sought, Passes, keys_sought, paged}
 use Rattle.plain_model.specs.declared.command.Command.{Command}
-use Rattle.plain_model.specs.declared.command.Command.TheVariants.{Strings, Lists, Sets, Hashes, Zsets, Keys, Connection}
+use Rattle.plain_model.specs.declared.command.Command.TheVariants.{Strings, Lists, Sets, Hashes, Zsets, Streams, Keys, Connection}
+use Rattle.plain_model.specs.declared.set_command.SetCommand.{SetCommand}
+use Rattle.plain_model.specs.declared.set_command.SetCommand.TheVariants as sets
+use Rattle.plain_model.specs.declared.hash_command.HashCommand.{HashCommand}
+use Rattle.plain_model.specs.declared.hash_command.HashCommand.TheVariants as hashes
+use Rattle.plain_model.specs.declared.zset_command.ZsetCommand.{ZsetCommand}
+use Rattle.plain_model.specs.declared.zset_command.ZsetCommand.TheVariants as zsets
 use Rattle.plain_model.specs.declared.keys.KeyCommand.{KeyCommand}
 use Rattle.plain_model.specs.declared.keys.KeyCommand.TheVariants as keys
 use Rattle.plain_model.specs.declared.keys.ScanOptions.{ScanOptions}
@@ -25,6 +31,8 @@ use Rattle.held.specs.Rehash.{Rehashed}
 use Rattle.keyspace.specs.Databases.{Bases, Keyspace, means, table_at}
 use Rattle.keyspace.specs.Values.{value_of, value_refs, IsEncodedAs}
 use Rattle.keyspace.specs.declared.value.Value.{Value}
+use Rattle.keyspace.specs.Pages.{IsValuePage}
+pub use Rattle.keyspace.specs.Sifted.{Sifted, end, keeps, drops}
 
 -- ---- SCAN
 
@@ -32,14 +40,6 @@ use Rattle.keyspace.specs.declared.value.Value.{Value}
 pub record PassesAt (bases : Bases) (m : Blocks) (at : Ctx) (sought : Sought) (item : ℕ) (key : List ℕ) : Type 0 where
   pub stands : held.StandsAt bases m at.db key at.moment item
   pub passes : Passes (live (means at.db bases m) at.moment) sought key
-
--- the keys of those item numbers of which one passes, in their order
-pub data Sifted (P : ℕ → List ℕ → Type 0) : List ℕ → List (List ℕ) → Type 0 where
-  end : Sifted P [] []
-  keeps : (item : ℕ) (key : List ℕ) (items : List ℕ) (names : List (List ℕ)) → P item key → Sifted P items names
-      → Sifted P (item ∷ items) (key ∷ names)
-  drops : (item : ℕ) (items : List ℕ) (names : List (List ℕ)) → ((key : List ℕ) → P item key → ⊥) → Sifted P items names
-      → Sifted P (item ∷ items) names
 
 -- the item numbers of a move over a table, and the cursor behind it
 abbrev pub move_at : Table Value → ℕ → List ℕ
@@ -127,12 +127,25 @@ connection_shown blocks old new at connection.FlushDb reply = IsEmptied blocks o
 connection_shown blocks old new at connection.FlushAll reply = AreEmptied blocks old new at
 connection_shown blocks old new at other reply = Unit {0}
 
+abbrev pub set_shown : Bases → Blocks → Ctx → SetCommand → List Part → Type 0
+set_shown bases m at (sets.SScan key cursor options) reply = IsValuePage bases m at key cursor options false reply
+set_shown bases m at other reply = Unit {0}
+
+abbrev pub hash_shown : Bases → Blocks → Ctx → HashCommand → List Part → Type 0
+hash_shown bases m at (hashes.HScan key cursor options) reply = IsValuePage bases m at key cursor options true reply
+hash_shown bases m at other reply = Unit {0}
+
+abbrev pub zset_shown : Bases → Blocks → Ctx → ZsetCommand → List Part → Type 0
+zset_shown bases m at (zsets.ZScan key cursor options) reply = IsValuePage bases m at key cursor options true reply
+zset_shown bases m at other reply = Unit {0}
+
 -- what the reply to a command shows of tables and values as they stand, and which keys it leaves, gone or not
 abbrev pub Shows : {S : Type 0} → (S → Blocks) → Keyspace S → Keyspace S → Ctx → Command → List Part → Type 0
 Shows blocks old new at (Strings command) reply = Unit {0}
 Shows blocks old new at (Lists command) reply = Unit {0}
-Shows blocks old new at (Sets command) reply = Unit {0}
-Shows blocks old new at (Hashes command) reply = Unit {0}
-Shows blocks old new at (Zsets command) reply = Unit {0}
+Shows blocks old new at (Sets command) reply = set_shown old.bases (blocks old.store) at command reply
+Shows blocks old new at (Hashes command) reply = hash_shown old.bases (blocks old.store) at command reply
+Shows blocks old new at (Zsets command) reply = zset_shown old.bases (blocks old.store) at command reply
+Shows blocks old new at (Streams command) reply = Unit {0}
 Shows blocks old new at (Keys command) reply = key_shown old.bases (blocks old.store) at command reply
 Shows blocks old new at (Connection command) reply = connection_shown blocks old new at command reply

@@ -13,6 +13,7 @@ use object_codec::Limits;
 use quicklist::Quick;
 use set_object::Members;
 use std::alloc::Global;
+use stream_object::Stream;
 use zset_object::Scored;
 
 impl Value {
@@ -56,6 +57,11 @@ impl Value {
                 let mut room = Box::new(alloc, Scored::new(alloc, limits, 0))?;
                 *room = scored.copy(store)?;
                 Ok(Value::Zset(room))
+            }
+            Value::Stream(log) => {
+                let mut room = Box::new(alloc, Stream::new(alloc))?;
+                *room = log.copy(store)?;
+                Ok(Value::Stream(room))
             }
         }
     }

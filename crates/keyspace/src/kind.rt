@@ -45,6 +45,7 @@ impl Stored for Value {
             Value::Set(members) => Box::into_inner(members).release(store),
             Value::Hash(fields) => Box::into_inner(fields).release(store),
             Value::Zset(scored) => Box::into_inner(scored).release(store),
+            Value::Stream(log) => Box::into_inner(log).release(store),
         }
     }
 
@@ -55,6 +56,7 @@ impl Stored for Value {
             Value::Set(members) => members.relocate_part(store, from, room),
             Value::Hash(fields) => fields.relocate_part(store, from, room),
             Value::Zset(scored) => scored.relocate_part(store, from, room),
+            Value::Stream(log) => log.relocate_part(store, from, room),
         }
     }
 
@@ -65,6 +67,7 @@ impl Stored for Value {
             Value::Set(members) => members.units(),
             Value::Hash(fields) => fields.units(),
             Value::Zset(scored) => scored.units(),
+            Value::Stream(log) => log.units(),
         }
     }
 }

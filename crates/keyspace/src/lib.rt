@@ -6,6 +6,7 @@ mod deadlines;
 mod edit;
 mod kind;
 mod look;
+mod paging;
 mod telling;
 mod value;
 
@@ -13,7 +14,8 @@ pub use deadlines::{deadline_at, expire_sought, persist_sought, seek};
 pub use edit::{Edit, drop_sought, edit_new, edit_there};
 pub use held::{Sought, SoughtAt};
 pub use look::Look;
-pub use telling::{bytes_of, count_reply, length_of, reply_number};
+pub use paging::{Paged, empty_page, is_like, page_of, page_reply, push_names};
+pub use telling::{bytes_of, count_reply, length_of, number_text, reply_number};
 pub use value::Value;
 
 /// A store, and the databases over it.

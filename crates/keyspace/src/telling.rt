@@ -1,6 +1,7 @@
 //! Elements and counts as they are told in replies.
 
 ghost use Rattle.std.specs.Prelude.{◌≡◌, [], ◌∷◌, pos, length, IfOk};
+ghost use Rattle.int_text.specs.Decimal.{canonical};
 ghost use Rattle.listpack.specs.Element.{element_text};
 ghost use Rattle.plain_world.specs.declared.reply.Part.TheVariants as parts;
 
@@ -9,13 +10,20 @@ use listpack::Element;
 use plain_model::{Bytes, Memory, Reply};
 use std::alloc::{AllocError, Global};
 
+/// The decimal text of a whole number, on its own.
+pub fn number_text(alloc: Global, n: i64) -> Result<Bytes, Memory>
+    ensures { IfOk result (λ bytes. bytes ≡ canonical n) }
+{
+    Bytes::new(alloc, Buffer::new().format(n).as_bytes())
+}
+
 /// The bytes of an element, on their own.
 pub fn bytes_of(alloc: Global, element: Element<'_>) -> Result<Bytes, Memory>
     ensures { IfOk result (λ bytes. bytes ≡ element_text element.entry) }
 {
     match element {
         Element::Text(text) => Bytes::new(alloc, text),
-        Element::Number(n) => Bytes::new(alloc, Buffer::new().format(n).as_bytes()),
+        Element::Number(n) => number_text(alloc, n),
     }
 }
 

@@ -10,6 +10,7 @@ use hash_object::Fields;
 use plain_model::Line;
 use quicklist::Quick;
 use set_object::Members;
+use stream_object::Stream;
 use string_object::Text;
 use zset_object::Scored;
 
@@ -21,6 +22,7 @@ pub enum Value {
     Set(Box<Members>),
     Hash(Box<Fields>),
     Zset(Box<Scored>),
+    Stream(Box<Stream>),
 }
 
 // A million keys each carry one.
@@ -34,7 +36,8 @@ impl Value {
     {
         match self {
             Value::Text(text) => Some(text),
-            Value::List(_) | Value::Set(_) | Value::Hash(_) | Value::Zset(_) => None,
+            Value::List(_) | Value::Set(_) | Value::Hash(_) | Value::Zset(_) | Value::Stream(_) =>
+                None,
         }
     }
 
@@ -45,7 +48,8 @@ impl Value {
     {
         match self {
             Value::Text(text) => text,
-            Value::List(_) | Value::Set(_) | Value::Hash(_) | Value::Zset(_) => unreachable!(),
+            Value::List(_) | Value::Set(_) | Value::Hash(_) | Value::Zset(_) | Value::Stream(_) =>
+                unreachable!(),
         }
     }
 
@@ -59,6 +63,7 @@ impl Value {
             Value::Set(_) => Line::set(),
             Value::Hash(_) => Line::hash(),
             Value::Zset(_) => Line::zset(),
+            Value::Stream(_) => Line::stream(),
         }
     }
 
@@ -76,6 +81,7 @@ impl Value {
             Value::Set(members) => members.form().text(),
             Value::Hash(fields) => fields.form().text(),
             Value::Zset(scored) => scored.form().text(),
+            Value::Stream(log) => log.form().text(),
         }
     }
 }

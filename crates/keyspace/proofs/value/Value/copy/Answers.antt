@@ -12,3 +12,6 @@ returns-in_err-room-in-Hash-clause-served g c = no_step
 
 pub returns-in_err-room-in-Zset-clause-served : goal.returns-in_err-room-in-Zset-clause-served
 returns-in_err-room-in-Zset-clause-served g c = no_step
+
+pub returns-in_err-room-in-Stream-clause-served : goal.returns-in_err-room-in-Stream-clause-served
+returns-in_err-room-in-Stream-clause-served g c = no_step
