@@ -1,10 +1,7 @@
 -- The keys that a listing sifts out of a database's item numbers are those that it has to report.
 use Rattle.std.proofs.Common.{◌≡◌, ℕ, ◌<◌, ◌-◌, ◌^◌, true, List, Option, Some, None, IsSome, refl, sym, ap, ◌∙◌, subst, arith}
-use Rattle.std.specs.Prelude.{unwrap_or, [], ◌∷◌, ◌++◌, ◌+◌, length, map, is_some}
-use Rattle.std.specs.Fmt.{decimal}
-use Rattle.plain_world.specs.Parts.{AreReplies, IsReply}
+use Rattle.std.specs.Prelude.{unwrap_or, [], is_some}
 use Rattle.plain_world.specs.declared.reply.Part.{Part}
-use Rattle.plain_world.specs.declared.reply.Part.TheVariants.{Bulk, Array}
 use Rattle.plain_model.specs.KeySteps.{AreKeysLike}
 use Rattle.blocks.specs.Blocks.{Blocks, bytes_at}
 use Rattle.digests.specs.Siphash.{sip}
@@ -14,7 +11,7 @@ use Rattle.rehash_dict.specs.Table.{Element, Table, item}
 use Rattle.rehash_dict.specs.Keyed.{hash_of}
 use Rattle.rehash_dict.specs.ScanPlaces.{place_in}
 use Rattle.plain_world.specs.Worlds.{World, Entry, live, look_in}
-use Rattle.plain_model.specs.Scans.{Sought, IsLike, is_named, Passes, Lists, Page, IsDue, place_of, keys_sought, listed, paged}
+use Rattle.plain_model.specs.Scans.{Sought, IsLike, is_named, Passes, Lists, Page, IsDue, place_of, keys_sought, listed}
 use Rattle.plain_model.specs.declared.ctx.Ctx.{Ctx}
 use Rattle.plain_model.specs.declared.keys.ScanOptions.{ScanOptions}
 use Rattle.held.specs.Calls.{StandsAt}
@@ -29,7 +26,8 @@ use Rattle.keyspace.proofs.Uses.{sound_is_intact}
 use Rattle.keyspace.specs.Values.{value_refs, value_of, value_own}
 use Rattle.keyspace.specs.Shown.{PassesAt, Sifted}
 use Rattle.cmd_keys.specs.Sieve.{is_type, numbers}
-use Rattle.cmd_keys.proofs.Sifting.{sifted_lists, numbers_few, numbers_met}
+use Rattle.keyspace.proofs.Sifting.{sifted_lists}
+use Rattle.cmd_keys.proofs.Sifting.{numbers_few, numbers_met}
 
 hash_is : (seed : ℕ) (key : List ℕ) → hash_of seed key ≡ sip 1 2 seed (2 ^ 64 - 1 - seed) key
 unfolding hash_of
@@ -107,34 +105,8 @@ module _ (bases : Bases) (m : Blocks) (at : Ctx) (below : at.db < 16) (sound : S
         (λ key due. (let w = stands_somewhere key due.passes in let met = span.whole w.0 (place_of bases.seed key) (place_told w.0 key w.1) due.from due.below in (w.0, w.1, omega (arith, met))));
   }
 
--- ---- what is written
+-- ---- KEYS
 
-names_are_replies : (names : List (List ℕ)) → AreReplies (length names) (map Bulk names)
-names_are_replies [] = tt
-names_are_replies (name ∷ names) = (let e : length names + 0 ≡ length names = omega arith in subst (λ n. AreReplies n (map Bulk names)) (sym e) (names_are_replies names))
-
-listed_is_one : (n : ℕ) (names : List (List ℕ)) → n ≡ length names → AreReplies n (map Bulk names)
-listed_is_one n names e = subst (λ n. AreReplies n (map Bulk names)) (sym e) (names_are_replies names)
-
--- an array of names is one reply
-pub listed_reply : (names : List (List ℕ)) (first new : List Part) → first ≡ [] → new ≡ first ++ listed names → IsReply new
-listed_reply names first new none is =
-    let P : List Part → Type 0 = IsReply in
-    subst P (sym (is ∙ ap (λ l. l ++ listed names) none)) (listed_is_one (0 + length names) names (omega arith))
-
--- what a page's parts are together
-pub paged_parts : (next : ℕ) (text : List ℕ) (names : List (List ℕ)) (first second third new : List Part) → first ≡ [] → second ≡ first ++ Array 2 ∷ [] → text ≡ decimal next → third ≡ second ++ Bulk text ∷ [] → new ≡ third ++ listed names → new ≡ paged next names
-paged_parts next text names first second third new none two is three last =
-    let head : second ≡ Array 2 ∷ [] = two ∙ ap (λ l. l ++ Array 2 ∷ []) none in
-    last ∙ ap (λ l. l ++ listed names) (three ∙ ap (λ l. l ++ Bulk text ∷ []) head) ∙ ap (λ t. Array 2 ∷ Bulk t ∷ listed names) is
-
--- a page is one reply
-pub paged_reply : (next : ℕ) (names : List (List ℕ)) (new : List Part) → new ≡ paged next names → IsReply new
-paged_reply next names new is =
-    let P : List Part → Type 0 = IsReply in
-    subst P (sym is) (listed_is_one (0 + length names) names (omega arith))
-
--- KEYS
 pub keys_told : (bases : Bases) (m : Blocks) (at : Ctx) (below : at.db < 16) (sound : Sound bases m) (pattern bytes : List ℕ) → bytes ≡ pattern → (top : ℕ) → ((i : ℕ) → IsSome (item (table_at bases at.db) i) → i < top) → (names : List (List ℕ))
     → Sifted (PassesAt bases m at (keys_sought at.db (record { pattern = Some bytes; count = 1; type_name = None }))) (numbers top 0) names → (reply : List Part) → reply ≡ listed names → AreKeysLike (live (means at.db bases m) at.moment) pattern reply
 keys_told bases m at below sound pattern bytes same top above names s reply is =

@@ -1,5 +1,5 @@
 -- What a listing of keys goes through.
-use Rattle.std.specs.Prelude.{◌≡◌, ◌⊎◌, ◌++◌, ℕ, zero, suc, List, [], ◌∷◌, Option, Some, None, Bool, true, bytes_eq}
+use Rattle.std.specs.Prelude.{ℕ, zero, suc, List, [], ◌∷◌, Option, Some, None, Bool, true, bytes_eq}
 use Rattle.plain_world.specs.Words.{in_lower_case}
 use Rattle.plain_world.specs.Worlds.{Value}
 use Rattle.plain_model.specs.KeySteps.{type_name}
@@ -8,11 +8,6 @@ use Rattle.plain_model.specs.KeySteps.{type_name}
 abbrev pub is_type : Option (List ℕ) → Value → Bool
 is_type None value = true
 is_type (Some name) value = bytes_eq (type_name value) (in_lower_case name)
-
--- a key of the item number is behind the names where one passes, or they stay
-abbrev pub Adds : (ℕ → List ℕ → Type 0) → ℕ → List (List ℕ) → List (List ℕ) → Type 0
-Adds P item old new =
-    ((key : List ℕ) × P item key × (new ≡ old ++ key ∷ [])) ⊎ (((key : List ℕ) → P item key → ⊥) × (new ≡ old))
 
 -- so many numbers, from one on
 unfoldable pub numbers : ℕ → ℕ → List ℕ

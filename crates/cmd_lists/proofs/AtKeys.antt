@@ -45,6 +45,7 @@ not_list (kinds.List box) other = absurd (other box refl)
 not_list (kinds.Set box) other = refl
 not_list (kinds.Hash box) other = refl
 not_list (kinds.Zset box) other = refl
+not_list (kinds.Stream box) other = refl
 
 -- the list that was found at a key
 pub list_item : (bases : Bases) (m : Blocks) (at : Ctx) (key : List ℕ) (number : ℕ) (value : Value) (box : Box Chain) → value ≡ kinds.List box → StandsAt bases m at.db key at.moment number → Found bases m at.db key at.moment value → ListItem (seen at bases m) bases m at.db key at.moment number

@@ -44,7 +44,8 @@ impl<E: ListEdit> Edit for OnList<E> {
 
     fn edit<B: BlockStore>(&mut self, value: &mut Value, store: &mut B) -> Result<(), Memory> {
         match value {
-            Value::Text(_) | Value::Set(_) | Value::Hash(_) | Value::Zset(_) => unreachable!(),
+            Value::Text(_) | Value::Set(_) | Value::Hash(_) | Value::Zset(_) | Value::Stream(_) =>
+                unreachable!(),
             Value::List(list) => {
                 self.edit.edit_list(list, store)?;
                 self.left = list.len();

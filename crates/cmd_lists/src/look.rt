@@ -24,7 +24,8 @@ pub fn list_at<'a, B: BlockStore>(
         None => Look::Missing,
         Some(value) => match value {
             Value::List(list) => Look::There(list),
-            Value::Text(_) | Value::Set(_) | Value::Hash(_) | Value::Zset(_) => Look::Other,
+            Value::Text(_) | Value::Set(_) | Value::Hash(_) | Value::Zset(_) | Value::Stream(_) =>
+                Look::Other,
         },
     }
 }

@@ -72,6 +72,7 @@ string_kind m (values.List b) is = absurd is
 string_kind m (values.Set b) is = absurd is
 string_kind m (values.Hash b) is = absurd is
 string_kind m (values.Zset b) is = absurd is
+string_kind m (values.Stream b) is = absurd is
 
 -- the value that was lifted from a key where a string stands is one
 pub lifted_string : (old mid : Bases) (m : Blocks) (at : Ctx) (key : List ℕ) (lifted : Lifted) → Lifts old mid m at.db key at.moment lifted → ((entry : Entry) → look (seen at old m) key ≡ Some entry → IsString entry.value) → IsText lifted.value

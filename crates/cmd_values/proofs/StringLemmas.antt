@@ -103,6 +103,7 @@ other_found bases m at key value off found = record { entry = record { value = v
     none (kinds.TheVariants.Set b) off = tt
     none (kinds.TheVariants.Hash b) off = tt
     none (kinds.TheVariants.Zset b) off = tt
+    none (kinds.TheVariants.Stream b) off = tt
 
 -- the old value as a reply
 pub old_some : (world : World) (blocks : Blocks) (key : List ℕ) (text : Text) (bytes : List ℕ) (reply : List Part)

@@ -1,33 +1,19 @@
 //! Commands that list keys: all of them, or a page of a scan.
 
-ghost use Rattle.std.specs.Prelude.{◌≡◌, ◌<◌, ◌^◌, ◌++◌, List, ℕ, map, true, IfOk, OnOk, IfSome, IfNone, IsTrue, ◌↔◌};
-ghost use Rattle.std.specs.Fmt.{decimal};
-ghost use Rattle.plain_world.specs.declared.reply.Part.TheVariants.{Bulk};
-ghost use Rattle.plain_model.specs.Scans.{IsLike, listed, keys_sought};
+ghost use Rattle.std.specs.Prelude.{◌≡◌, ◌<◌, List, ℕ, IfOk, OnOk, IfSome, IfNone};
+ghost use Rattle.plain_model.specs.Scans.{keys_sought};
 ghost use Rattle.plain_model.specs.KeySteps.{AreKeysLike, IsScanned, type_name};
 ghost use Rattle.keyspace.specs.Values.{value_of};
 ghost use Rattle.keyspace.specs.Commands.{Ready, sight};
+ghost use Rattle.keyspace.specs.Sifted.{Adds};
 ghost use Rattle.keyspace.specs.Shown.{PassesAt, Sifted, IsTablePage};
-ghost use Rattle.cmd_keys.specs.Sieve.{is_type, Adds, numbers};
+ghost use Rattle.cmd_keys.specs.Sieve.{is_type, numbers};
 ghost use Rattle.blocks.specs.Blocks.{Blocks};
 
 use blocks::BlockStore;
-use glob::matches;
-use itoa::Buffer;
-use keyspace::{Keyspace, Value};
-use plain_model::{Bytes, Ctx, Memory, Part, Parts, Reply, ScanOptions, Word};
+use keyspace::{Keyspace, Value, is_like, page_reply, push_names};
+use plain_model::{Bytes, Ctx, Memory, Parts, Reply, ScanOptions, Word};
 use scan_cursor::page;
-use std::alloc::Global;
-
-// Whether MATCH lets a key pass.
-fn is_like(pattern: &Option<Word<'_>>, key: &[u8]) -> bool
-    ensures { IsTrue result ↔ IsLike pattern.now key.now }
-{
-    match pattern {
-        None => true,
-        Some(pattern) => matches(pattern.as_slice(), key),
-    }
-}
 
 // Whether TYPE lets a value pass. It ignores case.
 fn has_type(name: &Option<Word<'_>>, value: &Value) -> bool
@@ -121,17 +107,6 @@ fn passing_below<B: BlockStore>(
     Ok(names)
 }
 
-// Adds an array of these names.
-fn push_names(parts: &mut Parts, names: Vec<Bytes>) -> Result<(), Memory>
-    ensures { OnOk result (parts.new ≡ parts.old ++ listed names.items) }
-{
-    parts.push(Part::Array(names.len() as u64))?;
-    for name in names {
-        parts.push(Part::Bulk(name))?;
-    }
-    Ok(())
-}
-
 /// `KEYS pattern`: the keys that the pattern matches, each once.
 pub fn keys_like<B: BlockStore>(
     keyspace: &Keyspace<B>,
@@ -153,15 +128,6 @@ pub fn keys_like<B: BlockStore>(
     Ok(parts.into_reply())
 }
 
-// A cursor as text.
-fn cursor_text(alloc: Global, cursor: u64) -> Result<Bytes, Memory>
-    ensures text { IfOk result (λ text. text ≡ decimal cursor) }
-    ensures fits { cursor < 2 ^ 64 }
-{
-    let mut buffer = Buffer::new();
-    Bytes::new(alloc, buffer.format(cursor).as_bytes())
-}
-
 /// `SCAN cursor [MATCH pattern] [COUNT n] [TYPE name]`: the next cursor, and the keys of the moves from this one on until COUNT
 /// keys were met, the cursor is 0 or ten times as many moves were made, without those that are gone or that MATCH or TYPE drop.
 pub fn scan<B: BlockStore>(
@@ -178,9 +144,5 @@ pub fn scan<B: BlockStore>(
     let alloc = keyspace.alloc();
     let met = page(alloc, keyspace.table(at.db), cursor, options.count)?;
     let names = passing_of(keyspace, at, options, met.items.as_slice())?;
-    let mut parts = Parts::new(alloc);
-    parts.push(Part::Array(2))?;
-    parts.push(Part::Bulk(cursor_text(alloc, met.next)?))?;
-    push_names(&mut parts, names)?;
-    Ok(parts.into_reply())
+    page_reply(alloc, met.next, names)
 }

@@ -2,7 +2,8 @@ use Rattle.std.proofs.Common.{subst, sym, ap, ◌∙◌, IsSome}
 use Rattle.std.specs.Prelude.{◌++◌}
 use Rattle.rehash_dict.specs.Table.{item}
 use Rattle.plain_model.specs.Scans.{listed}
-use Rattle.cmd_keys.proofs.Paging.{listed_reply, keys_told}
+use Rattle.keyspace.proofs.PageParts.{listed_reply}
+use Rattle.cmd_keys.proofs.Paging.{keys_told}
 use Rattle.cmd_keys.proofs.keys.scanning.keys_like.Goals as goal
 
 pub into_reply-requires : goal.into_reply-requires

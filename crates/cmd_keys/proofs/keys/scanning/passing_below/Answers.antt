@@ -2,7 +2,8 @@ use Rattle.std.proofs.Common.{subst, arith, ◌+◌, ◌-◌}
 use Rattle.plain_model.specs.Scans.{keys_sought}
 use Rattle.keyspace.specs.Shown.{PassesAt}
 use Rattle.cmd_keys.specs.Sieve.{numbers}
-use Rattle.cmd_keys.proofs.Sifting.{Completes, completes_next, completes_last, numbers_next, numbers_none}
+use Rattle.keyspace.proofs.Sifting.{Completes, completes_next, completes_last}
+use Rattle.cmd_keys.proofs.Sifting.{numbers_next, numbers_none}
 use Rattle.cmd_keys.proofs.keys.scanning.passing_below.Goals as goal
 
 pub loop-item-preserved : goal.loop-item-preserved

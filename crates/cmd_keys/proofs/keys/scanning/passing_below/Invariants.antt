@@ -2,7 +2,7 @@ use Rattle.std.proofs.Common.{◌-◌}
 use Rattle.plain_model.specs.Scans.{keys_sought}
 use Rattle.keyspace.specs.Shown.{PassesAt}
 use Rattle.cmd_keys.specs.Sieve.{numbers}
-use Rattle.cmd_keys.proofs.Sifting.{Completes}
+use Rattle.keyspace.proofs.Sifting.{Completes}
 use Rattle.cmd_keys.proofs.keys.scanning.passing_below.Given as goal
 
 abbrev pub invariant-loop-item : goal.invariant-loop-item

@@ -1,7 +1,7 @@
 use Rattle.std.proofs.Common.{drop, subst, arith, ◌+◌}
 use Rattle.plain_model.specs.Scans.{keys_sought}
 use Rattle.keyspace.specs.Shown.{PassesAt}
-use Rattle.cmd_keys.proofs.Sifting.{Completes, completes_next, completes_last, drop_next, drop_none}
+use Rattle.keyspace.proofs.Sifting.{Completes, completes_next, completes_last, drop_next, drop_none}
 use Rattle.cmd_keys.proofs.keys.scanning.passing_of.Goals as goal
 
 pub loop-item-preserved : goal.loop-item-preserved

@@ -1,7 +1,7 @@
 use Rattle.std.proofs.Common.{drop}
 use Rattle.plain_model.specs.Scans.{keys_sought}
 use Rattle.keyspace.specs.Shown.{PassesAt}
-use Rattle.cmd_keys.proofs.Sifting.{Completes}
+use Rattle.keyspace.proofs.Sifting.{Completes}
 use Rattle.cmd_keys.proofs.keys.scanning.passing_of.Given as goal
 
 abbrev pub invariant-loop-item : goal.invariant-loop-item
