@@ -42,6 +42,7 @@ not_set (kinds.List box) other = refl
 not_set (kinds.Set box) other = absurd (other box refl)
 not_set (kinds.Hash box) other = refl
 not_set (kinds.Zset box) other = refl
+not_set (kinds.Stream box) other = refl
 
 -- the set that was found at a key
 pub set_item : (bases : Bases) (m : Blocks) (at : Ctx) (key : List ℕ) (number : ℕ) (value : Value) (box : Box object.Members) → value ≡ kinds.Set box → StandsAt bases m at.db key at.moment number → Found bases m at.db key at.moment value → SetItem (seen at bases m) bases m at.db key at.moment number
@@ -66,6 +67,7 @@ sound_limits limits own seed m (kinds.List b) sound is = cc
 sound_limits limits own seed m (kinds.Set b) sound is = let same = sound.1 in cc
 sound_limits limits own seed m (kinds.Hash b) sound is = let same = sound.1 in cc
 sound_limits limits own seed m (kinds.Zset b) sound is = let same = sound.1 in cc
+sound_limits limits own seed m (kinds.Stream b) sound is = cc
 
 same_limits : (a b : Limits) → Some a ≡ Some b → a ≡ b
 same_limits a b is = cc

@@ -27,7 +27,7 @@ remove_lacking m x lacks = sets_alike _ _ (λ q. has_taken m x q ∙ elim (cases
   | inr other ↦ cond-false _ _ _ other
 ])
 
-one_more : (m : Strings) (x : List ℕ) → len m ≤ len (insert m x tt)
+pub one_more : (m : Strings) (x : List ℕ) → len m ≤ len (insert m x tt)
 one_more m x = elim (cases_Bool (has m x)) [
   | inl there ↦ let same = ap len (insert_there m x there) in omega (arith, same)
   | inr lacks ↦ let more = len_put m x lacks in omega (arith, more)

@@ -4,4 +4,9 @@ pub mod AtKeys
 pub mod Growing
 pub mod Going
 pub mod Listed
-pub mod Running
+pub mod Paged
+pub mod Gathered
+pub mod Joined
+pub mod Put
+pub mod Counted
+pub mod Picking

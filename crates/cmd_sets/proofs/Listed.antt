@@ -70,7 +70,7 @@ once_counted x (y ∷ list) once = elim (cases_Bool (bytes_eq x y)) [
   | inr differ ↦ omega (arith, passed x y list differ, once_counted x list (once_parts y list once).1)
 ]
 
-lists_set : (list : List (List ℕ)) → IsOnce list → Lists (IsMember (set_of list)) (IsMember (set_of list)) list
+pub lists_set : (list : List (List ℕ)) → IsOnce list → Lists (IsMember (set_of list)) (IsMember (set_of list)) list
 lists_set list once = record {
   once = λ x. once_counted x list once;
   real = λ x c. has_among list x ∙ stands x list c;
@@ -123,21 +123,21 @@ listed_parts list count first mid new e n f h =
 -- ---- what SMEMBERS may tell of what stands at a key
 
 -- where nothing stands, an empty set is told
-pub none_listed : {E : Type 0} (old : World) (key : List ℕ) (set : Members) (result : Result (List Part) E) → look old key ≡ None → set ≡ empty → IfOk result (λ reply. AreMembers (Some set) reply)
-    → IfOk result (λ reply. may_sets old (sets.SMembers key) reply old)
-none_listed old key set (Ok reply) none is told =
+pub none_listed : {E : Type 0} (seed : ℕ) (old : World) (key : List ℕ) (set : Members) (result : Result (List Part) E) → look old key ≡ None → set ≡ empty → IfOk result (λ reply. AreMembers (Some set) reply)
+    → IfOk result (λ reply. may_sets seed old (sets.SMembers key) reply old)
+none_listed seed old key set (Ok reply) none is told =
     let all : AreMembers None reply = subst (λ (s : Members). AreMembers (Some s) reply) is told in
     subst (λ (o : Option Entry). may_tell set_in old o AreMembers reply old) (sym none) (all, refl)
-none_listed old key set (Err x) none is told = tt
+none_listed seed old key set (Err x) none is told = tt
 
-pub set_listed : {E : Type 0} (old : World) (m : Blocks) (key : List ℕ) (set : object.Members) (result : Result (List Part) E) → FoundSet old m key set → IfOk result (λ reply. AreMembers (Some (object_of.members m set)) reply)
-    → IfOk result (λ reply. may_sets old (sets.SMembers key) reply old)
-set_listed old m key set (Ok reply) found told = subst (λ (o : Option Entry). may_tell set_in old o AreMembers reply old) (sym found.stands) (told, refl)
-set_listed old m key set (Err x) found told = tt
+pub set_listed : {E : Type 0} (seed : ℕ) (old : World) (m : Blocks) (key : List ℕ) (set : object.Members) (result : Result (List Part) E) → FoundSet old m key set → IfOk result (λ reply. AreMembers (Some (object_of.members m set)) reply)
+    → IfOk result (λ reply. may_sets seed old (sets.SMembers key) reply old)
+set_listed seed old m key set (Ok reply) found told = subst (λ (o : Option Entry). may_tell set_in old o AreMembers reply old) (sym found.stands) (told, refl)
+set_listed seed old m key set (Err x) found told = tt
 
-pub other_refused : {E : Type 0} (old : World) (key : List ℕ) (result : Result (List Part) E) → FoundOther old key → IfOk result (λ reply. reply ≡ Refused WrongType ∷ [])
-    → IfOk result (λ reply. may_sets old (sets.SMembers key) reply old)
-other_refused old key (Ok reply) found is =
+pub other_refused : {E : Type 0} (seed : ℕ) (old : World) (key : List ℕ) (result : Result (List Part) E) → FoundOther old key → IfOk result (λ reply. reply ≡ Refused WrongType ∷ [])
+    → IfOk result (λ reply. may_sets seed old (sets.SMembers key) reply old)
+other_refused seed old key (Ok reply) found is =
     subst (λ (o : Option Entry). may_tell set_in old o AreMembers reply old) (sym found.stands)
     (subst (λ (o : Option Members). may_tell_of old o AreMembers reply old) (sym found.other) (is, refl))
-other_refused old key (Err x) found is = tt
+other_refused seed old key (Err x) found is = tt

@@ -19,8 +19,8 @@ use keyspace::{Keyspace, Look, count_reply, seek};
 use plain_model::{Ctx, Memory, Refusal, Reply, Word};
 use set_object::Members;
 
-// Puts a member into a set, where it isn't there.
-fn add_one<B: BlockStore>(set: &mut Members, store: &mut B, member: &[u8]) -> Result<(), Memory>
+/// Puts a member into a set, where it isn't there.
+pub fn add_one<B: BlockStore>(set: &mut Members, store: &mut B, member: &[u8]) -> Result<(), Memory>
     requires { IsMembers (B.blocks store.old) set.old }
     ensures sound { IsMembers (B.blocks store.new) set.new }
     ensures settings { KeepsSettings set.old set.new }

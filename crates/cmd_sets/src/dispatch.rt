@@ -4,16 +4,22 @@ ghost use Rattle.plain_model.specs.Meant.{IsAsked};
 ghost use Rattle.plain_model.specs.declared.command.Command.TheVariants.{Sets};
 ghost use Rattle.keyspace.specs.Commands.{Ready, Runs};
 
-use crate::{sadd, scard, sismember, smembers, smismember, smove, srem};
+use crate::paging::sscan;
+use crate::{
+    sadd, scard, sintercard, sismember, sjoin, sjoin_store, smembers, smismember, smove, spop,
+    srandmember, srem,
+};
 use blocks::BlockStore;
 use keyspace::Keyspace;
 use plain_model::{Ctx, Memory, Reply, SetCommand};
+use rand_pcg::Pcg32;
 
 /// Runs a command on sets by its own function.
 pub fn run_sets<B: BlockStore>(
     keyspace: &mut Keyspace<B>,
     at: &Ctx,
     command: &SetCommand<'_>,
+    dice: &mut Pcg32,
 ) -> Result<Reply, Memory>
     requires ready { Ready B.blocks keyspace.old at.now }
     requires asked { IsAsked (Sets command.now) }
@@ -43,5 +49,19 @@ pub fn run_sets<B: BlockStore>(
             to.as_slice(),
             member.as_slice(),
         ),
+        SetCommand::SPop(key, n) => spop(keyspace, at, key.as_slice(), *n, dice),
+        SetCommand::SRandMember(key, n) => srandmember(keyspace, at, key.as_slice(), *n, dice),
+        SetCommand::SJoin(how, keys) => sjoin(keyspace, at, *how, keys.as_slice()),
+        SetCommand::SJoinStore(how, to, keys) => sjoin_store(
+            keyspace,
+            at,
+            *how,
+            to.as_slice(),
+            keys.as_slice(),
+        ),
+        SetCommand::SInterCard(keys, limit) => sintercard(keyspace, at, keys.as_slice(), *limit),
+        SetCommand::SScan(key, cursor, options) => {
+            sscan(keyspace, at, key.as_slice(), *cursor, options)
+        }
     }
 }

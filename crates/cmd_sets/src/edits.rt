@@ -68,7 +68,8 @@ impl<E: SetEdit> Edit for OnSet<E> {
 
     fn edit<B: BlockStore>(&mut self, value: &mut Value, store: &mut B) -> Result<(), Memory> {
         match value {
-            Value::Text(_) | Value::List(_) | Value::Hash(_) | Value::Zset(_) => unreachable!(),
+            Value::Text(_) | Value::List(_) | Value::Hash(_) | Value::Zset(_) | Value::Stream(_) =>
+                unreachable!(),
             Value::Set(set) => {
                 edit_counted(self, set, store)?;
                 Ok(())

@@ -57,7 +57,7 @@ pub fn smembers<B: BlockStore>(
     key: &[u8],
 ) -> Result<Reply, Memory>
     requires ready { Ready B.blocks keyspace.now at.now }
-    ensures gives { IfOk result (λ reply. may_sets (sight B.blocks keyspace.now at.now) (sets.SMembers key.now) reply (sight B.blocks keyspace.now at.now)) }
+    ensures gives { IfOk result (λ reply. may_sets keyspace.now.bases.seed (sight B.blocks keyspace.now at.now) (sets.SMembers key.now) reply (sight B.blocks keyspace.now at.now)) }
 {
     let alloc = keyspace.alloc();
     match set_at(keyspace, at, key) {

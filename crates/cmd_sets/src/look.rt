@@ -25,7 +25,8 @@ pub fn set_at<'a, B: BlockStore>(
         None => Look::Missing,
         Some(value) => match value {
             Value::Set(set) => Look::There(set),
-            Value::Text(_) | Value::List(_) | Value::Hash(_) | Value::Zset(_) => Look::Other,
+            Value::Text(_) | Value::List(_) | Value::Hash(_) | Value::Zset(_) | Value::Stream(_) =>
+                Look::Other,
         },
     }
 }

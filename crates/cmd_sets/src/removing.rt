@@ -35,8 +35,8 @@ fn drop_one<B: BlockStore>(set: &mut Members, store: &mut B, member: &[u8]) -> R
     }
 }
 
-// Takes members out of a set, one after the other.
-fn drop_words<B: BlockStore>(
+/// Takes members out of a set, one after the other.
+pub fn drop_words<B: BlockStore>(
     set: &mut Members,
     store: &mut B,
     words: &[Word<'_>],

@@ -1,0 +1,13 @@
+use Rattle.std.proofs.Common.{sym}
+use Rattle.keyspace.specs.Commands.{sight}
+use Rattle.cmd_sets.specs.Joined.{gathered}
+use Rattle.cmd_sets.proofs.Joined.{join_told, join_refused}
+use Rattle.cmd_sets.proofs.joining.sjoin.Goals as goal
+
+pub returns-then-not-are_sets : goal.returns-then-not-are_sets
+returns-then-not-are_sets g c =
+    record { gives = join_refused c.args.keyspace.now.bases.seed (sight g.B.BlockStore.blocks c.args.keyspace.now c.args.at.now) c.args.how c.args.keys.now c.refused.result (sym c.if-not-are_sets.ensures) c.refused.ensures }
+
+pub returns : goal.returns
+returns g c =
+    record { gives = join_told c.args.keyspace.now.bases.seed (sight g.B.BlockStore.blocks c.args.keyspace.now c.args.at.now) c.args.how c.args.keys.now (gathered c.in_ok-names.names) c.names_reply.result (sym c.if-not-are_sets.ensures) c.in_ok-names.ensures c.names_reply.ensures }

@@ -1,0 +1,23 @@
+use Rattle.cmd_sets.specs.Joined.{strings}
+use Rattle.cmd_sets.proofs.Put.{put_world, put_count, put_form, held_anew}
+use Rattle.cmd_sets.proofs.storing.put_names.Goals as goal
+
+pub returns-in_err-fill-clause-held : goal.returns-in_err-fill-clause-held
+returns-in_err-fill-clause-held g c =
+    held_anew g.B.BlockStore.blocks g.B.BlockStore.step c.args.at.now.db c.args.key.now c.args.keyspace.now c.drop_sought.new.keyspace c.change_set.new.keyspace c.drop_sought.ensures.held c.change_set.ensures.held
+
+pub returns-clause-held : goal.returns-clause-held
+returns-clause-held g c =
+    held_anew g.B.BlockStore.blocks g.B.BlockStore.step c.args.at.now.db c.args.key.now c.args.keyspace.now c.drop_sought.new.keyspace c.change_set.new.keyspace c.drop_sought.ensures.held c.change_set.ensures.held
+
+pub returns-clause-world : goal.returns-clause-world
+returns-clause-world g c =
+    put_world g.B.BlockStore.blocks c.args.keyspace.now c.drop_sought.new.keyspace c.change_set.new.keyspace c.args.at.now c.args.key.now (strings c.args.names.keys) _ c.drop_sought.ensures.world c.in_ok-fill.ensures.changed
+
+pub returns-clause-counted : goal.returns-clause-counted
+returns-clause-counted g c =
+    put_count g.B.BlockStore.blocks c.args.keyspace.now c.drop_sought.new.keyspace c.change_set.new.keyspace c.args.at.now c.args.key.now (strings c.args.names.keys) _ c.drop_sought.ensures.world c.in_ok-fill.ensures.changed
+
+pub returns-clause-new : goal.returns-clause-new
+returns-clause-new g c =
+    put_form g.B.BlockStore.blocks c.args.keyspace.now c.drop_sought.new.keyspace c.change_set.new.keyspace c.args.at.now c.args.key.now (strings c.args.names.keys) _ c.drop_sought.ensures.world c.in_ok-fill.ensures.changed c.drop_sought.ensures.held.settings.limits
