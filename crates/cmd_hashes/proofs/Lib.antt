@@ -5,4 +5,5 @@ pub mod Removed
 pub mod Telling
 pub mod Counted
 pub mod Listed
-pub mod Running
+pub mod Paged
+pub mod Picking

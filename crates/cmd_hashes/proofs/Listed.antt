@@ -166,7 +166,7 @@ both fields (p ∷ rest) are =
     ∙ ap (λ o. Bulk p.0 ∷ value_or_null o ∷ flat_map (λ name. Bulk name ∷ value_or_null (get fields name) ∷ []) (names_of rest)) (sym are.0)
 
 -- the head of an array and what is told behind it
-telling_is : (told : Told) (fields : Fields) (list : Pairs) → AreValues (λ name. get fields name) list → Array (replies_of told (length list)) ∷ flat_map (told_of told) list ≡ telling told fields (names_of list)
+pub telling_is : (told : Told) (fields : Fields) (list : Pairs) → AreValues (λ name. get fields name) list → Array (replies_of told (length list)) ∷ flat_map (told_of told) list ≡ telling told fields (names_of list)
 telling_is OnlyFields fields list are =
     ap (λ l. Array (length list) ∷ l) (only_fields list) ∙ ap (λ n. Array n ∷ map Bulk (names_of list)) (sym (length-map list (λ (p : List ℕ × List ℕ). p.0)))
 telling_is OnlyValues fields list are =

@@ -65,6 +65,7 @@ no_hash m (kinds.List b) is = refl
 no_hash m (kinds.Set b) is = refl
 no_hash m (kinds.Hash b) is = cc
 no_hash m (kinds.Zset b) is = refl
+no_hash m (kinds.Stream b) is = refl
 
 pub found_other : (bases : Bases) (m : Blocks) (at : Ctx) (key : List ℕ) (value : Value) → is_hash value ≡ false → Found bases m at.db key at.moment value → FoundOther (seen at bases m) key
 found_other bases m at key value other found = record { entry = record { value = value_of m value; deadline = found.deadline }; stands = found.stands; other = no_hash m value other }

@@ -2,3 +2,4 @@ pub mod Found
 pub mod Changed
 pub mod Set
 pub mod Listed
+pub mod Picked

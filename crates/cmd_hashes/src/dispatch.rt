@@ -4,18 +4,22 @@ ghost use Rattle.plain_model.specs.Meant.{IsAsked};
 ghost use Rattle.plain_model.specs.declared.command.Command.TheVariants.{Hashes};
 ghost use Rattle.keyspace.specs.Commands.{Ready, Runs};
 
+use crate::paging::hscan;
 use crate::{
-    hdel, hexists, hget, hgetall, hincrby, hkeys, hlen, hmget, hmset, hset, hsetnx, hstrlen, hvals,
+    hdel, hexists, hget, hgetall, hincrby, hkeys, hlen, hmget, hmset, hrandfield, hset, hsetnx,
+    hstrlen, hvals,
 };
 use blocks::BlockStore;
 use keyspace::Keyspace;
 use plain_model::{Ctx, HashCommand, Memory, Reply};
+use rand_pcg::Pcg32;
 
 /// Runs a command on hashes by its own function.
 pub fn run_hashes<B: BlockStore>(
     keyspace: &mut Keyspace<B>,
     at: &Ctx,
     command: &HashCommand<'_>,
+    dice: &mut Pcg32,
 ) -> Result<Reply, Memory>
     requires ready { Ready B.blocks keyspace.old at.now }
     requires asked { IsAsked (Hashes command.now) }
@@ -47,5 +51,16 @@ pub fn run_hashes<B: BlockStore>(
             field.as_slice(),
             *n,
         ),
+        HashCommand::HRandField(key, n, with_values) => hrandfield(
+            keyspace,
+            at,
+            key.as_slice(),
+            *n,
+            *with_values,
+            dice,
+        ),
+        HashCommand::HScan(key, cursor, options) => {
+            hscan(keyspace, at, key.as_slice(), *cursor, options)
+        }
     }
 }

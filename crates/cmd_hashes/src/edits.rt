@@ -45,7 +45,8 @@ impl<E: HashEdit> Edit for OnHash<E> {
 
     fn edit<B: BlockStore>(&mut self, value: &mut Value, store: &mut B) -> Result<(), Memory> {
         match value {
-            Value::Text(_) | Value::List(_) | Value::Set(_) | Value::Zset(_) => unreachable!(),
+            Value::Text(_) | Value::List(_) | Value::Set(_) | Value::Zset(_) | Value::Stream(_) =>
+                unreachable!(),
             Value::Hash(hash) => {
                 self.edit.edit_hash(hash, store)?;
                 self.left = hash.len();

@@ -21,14 +21,14 @@ use std::alloc::{AllocError, Global};
 
 /// What is told of each field of a hash.
 #[derive(Clone, Copy)]
-enum Told {
+pub enum Told {
     OnlyFields,
     OnlyValues,
     Both,
 }
 
-// How many replies tell of so many fields. Too many are want of memory.
-fn reply_count(told: Told, len: usize) -> Result<u64, Memory>
+/// How many replies tell of so many fields. Too many are want of memory.
+pub fn reply_count(told: Told, len: usize) -> Result<u64, Memory>
     ensures { IfOk result (λ count. count ≡ replies_of told len) }
 {
     match told {
@@ -40,8 +40,8 @@ fn reply_count(told: Told, len: usize) -> Result<u64, Memory>
     }
 }
 
-// Adds what is told of a field and its value.
-fn push_told(
+/// Adds what is told of a field and its value.
+pub fn push_told(
     alloc: Global,
     told: Told,
     field: Element<'_>,
@@ -126,7 +126,7 @@ fn tell_fields<B: BlockStore>(
 /// `HKEYS key`: an array of all fields, each once, in any order. It is empty where there is no hash.
 pub fn hkeys<B: BlockStore>(keyspace: &Keyspace<B>, at: &Ctx, key: &[u8]) -> Result<Reply, Memory>
     requires ready { Ready B.blocks keyspace.now at.now }
-    ensures gives { IfOk result (λ reply. may_hashes (sight B.blocks keyspace.now at.now) (hashes.HKeys key.now) reply (sight B.blocks keyspace.now at.now)) }
+    ensures gives { IfOk result (λ reply. may_hashes keyspace.now.bases.seed (sight B.blocks keyspace.now at.now) (hashes.HKeys key.now) reply (sight B.blocks keyspace.now at.now)) }
 {
     tell_fields(keyspace, at, key, Told::OnlyFields)
 }
@@ -134,7 +134,7 @@ pub fn hkeys<B: BlockStore>(keyspace: &Keyspace<B>, at: &Ctx, key: &[u8]) -> Res
 /// `HVALS key`: an array of the values of all fields, in any order. It is empty where there is no hash.
 pub fn hvals<B: BlockStore>(keyspace: &Keyspace<B>, at: &Ctx, key: &[u8]) -> Result<Reply, Memory>
     requires ready { Ready B.blocks keyspace.now at.now }
-    ensures gives { IfOk result (λ reply. may_hashes (sight B.blocks keyspace.now at.now) (hashes.HVals key.now) reply (sight B.blocks keyspace.now at.now)) }
+    ensures gives { IfOk result (λ reply. may_hashes keyspace.now.bases.seed (sight B.blocks keyspace.now at.now) (hashes.HVals key.now) reply (sight B.blocks keyspace.now at.now)) }
 {
     tell_fields(keyspace, at, key, Told::OnlyValues)
 }
@@ -142,7 +142,7 @@ pub fn hvals<B: BlockStore>(keyspace: &Keyspace<B>, at: &Ctx, key: &[u8]) -> Res
 /// `HGETALL key`: an array of all fields, each once and followed by its value, in any order. It is empty where there is no hash.
 pub fn hgetall<B: BlockStore>(keyspace: &Keyspace<B>, at: &Ctx, key: &[u8]) -> Result<Reply, Memory>
     requires ready { Ready B.blocks keyspace.now at.now }
-    ensures gives { IfOk result (λ reply. may_hashes (sight B.blocks keyspace.now at.now) (hashes.HGetAll key.now) reply (sight B.blocks keyspace.now at.now)) }
+    ensures gives { IfOk result (λ reply. may_hashes keyspace.now.bases.seed (sight B.blocks keyspace.now at.now) (hashes.HGetAll key.now) reply (sight B.blocks keyspace.now at.now)) }
 {
     tell_fields(keyspace, at, key, Told::Both)
 }

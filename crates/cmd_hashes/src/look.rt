@@ -24,7 +24,8 @@ pub fn hash_at<'a, B: BlockStore>(
         None => Look::Missing,
         Some(value) => match value {
             Value::Hash(fields) => Look::There(fields),
-            Value::Text(_) | Value::List(_) | Value::Set(_) | Value::Zset(_) => Look::Other,
+            Value::Text(_) | Value::List(_) | Value::Set(_) | Value::Zset(_) | Value::Stream(_) =>
+                Look::Other,
         },
     }
 }

@@ -1,0 +1,40 @@
+//! The command that tells a page of a hash.
+
+ghost use Rattle.std.specs.Prelude.{◌<◌, true, IfOk};
+ghost use Rattle.plain_model.specs.HashSteps.{may_hashes};
+ghost use Rattle.plain_model.specs.declared.hash_command.HashCommand.TheVariants as hashes;
+ghost use Rattle.keyspace.specs.Commands.{Ready, sight};
+ghost use Rattle.keyspace.specs.Pages.{IsValuePage};
+
+use blocks::BlockStore;
+use hash_object::Fields;
+use keyspace::{Keyspace, Value, empty_page, page_of};
+use plain_model::{Ctx, Memory, Refusal, Reply, ScanOptions};
+
+/// `HSCAN key cursor [MATCH pattern] [COUNT n]`: the next cursor, and the fields, each followed by its value, of the moves
+/// from this one on until COUNT of them were met, the cursor is 0 or ten times as many moves were made, without those that
+/// MATCH drops. A missing key has an empty page, and the scan ends there (Redis command reference, "HSCAN").
+pub fn hscan<B: BlockStore>(
+    keyspace: &Keyspace<B>,
+    at: &Ctx,
+    key: &[u8],
+    cursor: u64,
+    options: &ScanOptions<'_>,
+) -> Result<Reply, Memory>
+    requires ready { Ready B.blocks keyspace.now at.now }
+    requires count { 0 < options.now.count }
+    ensures gives { IfOk result (λ reply. may_hashes keyspace.now.bases.seed (sight B.blocks keyspace.now at.now) (hashes.HScan key.now cursor options.now) reply (sight B.blocks keyspace.now at.now)) }
+    ensures shows { IfOk result (λ reply. IsValuePage keyspace.now.bases (B.blocks keyspace.now.store) at.now key.now cursor options.now true reply) }
+{
+    let alloc = keyspace.alloc();
+    match keyspace.look(at.db, key, at.moment) {
+        None => empty_page(alloc),
+        Some(value) => match value {
+            Value::Hash(hash) => {
+                let hash: &Fields = hash;
+                page_of(keyspace, hash, cursor, options)
+            }
+            _ => Reply::refused(alloc, Refusal::WrongType),
+        },
+    }
+}
