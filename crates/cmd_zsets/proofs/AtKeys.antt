@@ -46,6 +46,7 @@ not_zset (kinds.Zset box) other = absurd (other box refl)
 not_zset (kinds.Set box) other = refl
 not_zset (kinds.List box) other = refl
 not_zset (kinds.Hash box) other = refl
+not_zset (kinds.Stream box) other = refl
 
 -- the sorted set that was found at a key
 pub zset_item : (bases : Bases) (m : Blocks) (at : Ctx) (key : List ℕ) (number : ℕ) (value : Value) (box : Box kept.Scored) → value ≡ kinds.Zset box → StandsAt bases m at.db key at.moment number → Found bases m at.db key at.moment value → ZsetItem (seen at bases m) bases m at.db key at.moment number
@@ -67,6 +68,7 @@ limits_known limits seed m (kinds.List box) own sound is = cc
 limits_known limits seed m (kinds.Set box) own sound is = sym (ap (limits_or own) is) ∙ sound.1
 limits_known limits seed m (kinds.Hash box) own sound is = sym (ap (limits_or own) is) ∙ sound.1
 limits_known limits seed m (kinds.Zset box) own sound is = sym (ap (limits_or own) is) ∙ sound.1
+limits_known limits seed m (kinds.Stream box) own sound is = cc
 
 kept_by : (bases : Bases) (m : Blocks) (db : ℕ) (key : List ℕ) (value : Value) (own : Limits) → Sound bases m → HasValue bases m db key value → limits_of value ≡ Some own → own ≡ bases.limits
 kept_by bases m db key value own sound had is = limits_known bases.limits bases.seed m value own (subst (IsSound bases.limits bases.seed m) had.is (sound.arranged.values db had.at had.element had.found)) is

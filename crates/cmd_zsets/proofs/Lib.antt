@@ -7,7 +7,6 @@ pub mod Placed
 pub mod Bounded
 pub mod Reaches
 pub mod Nothing
-pub mod Running
 pub mod Removed
 pub mod Telling
 pub mod Counting
@@ -15,3 +14,9 @@ pub mod Raised
 pub mod Taking
 pub mod Dropping
 pub mod Popped
+pub mod Paged
+pub mod Picking
+pub mod Gathered
+pub mod Meeting
+pub mod Joins
+pub mod Put

@@ -61,6 +61,7 @@ no_zset m (kinds.List b) is = refl
 no_zset m (kinds.Set b) is = refl
 no_zset m (kinds.Hash b) is = refl
 no_zset m (kinds.Zset b) is = cc
+no_zset m (kinds.Stream b) is = refl
 
 pub found_other : (bases : Bases) (m : Blocks) (at : Ctx) (key : List ℕ) (value : Value) → is_zset value ≡ false → Found bases m at.db key at.moment value → FoundOther (seen at bases m) key
 found_other bases m at key value other found = record { entry = record { value = value_of m value; deadline = found.deadline }; stands = found.stands; other = no_zset m value other }

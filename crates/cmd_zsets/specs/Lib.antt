@@ -3,3 +3,5 @@ pub mod Spans
 pub mod Changed
 pub mod Written
 pub mod Popped
+pub mod Picked
+pub mod Joined

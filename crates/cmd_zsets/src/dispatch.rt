@@ -4,19 +4,22 @@ ghost use Rattle.plain_model.specs.Meant.{IsAsked};
 ghost use Rattle.plain_model.specs.declared.command.Command.TheVariants.{Zsets};
 ghost use Rattle.keyspace.specs.Commands.{Ready, Runs};
 
+use crate::paging::zscan;
 use crate::{
-    zadd, zcard, zcount, zincr, zmscore, zpop, zrange, zrangebyscore, zrank, zrem, zremrangebyrank,
-    zremrangebyscore, zscore,
+    zadd, zcard, zcount, zincr, zjoin_store, zmscore, zpop, zrandmember, zrange, zrangebyscore,
+    zrank, zrem, zremrangebyrank, zremrangebyscore, zscore,
 };
 use blocks::BlockStore;
 use keyspace::Keyspace;
 use plain_model::{Ctx, Memory, Reply, ZsetCommand};
+use rand_pcg::Pcg32;
 
 /// Runs a command on sorted sets by its own function.
 pub fn run_zsets<B: BlockStore>(
     keyspace: &mut Keyspace<B>,
     at: &Ctx,
     command: &ZsetCommand<'_>,
+    dice: &mut Pcg32,
 ) -> Result<Reply, Memory>
     requires ready { Ready B.blocks keyspace.old at.now }
     requires asked { IsAsked (Zsets command.now) }
@@ -80,5 +83,24 @@ pub fn run_zsets<B: BlockStore>(
             zremrangebyscore(keyspace, at, key.as_slice(), *min, *max)
         }
         ZsetCommand::ZPop(key, from, most) => zpop(keyspace, at, key.as_slice(), *from, *most),
+        ZsetCommand::ZRandMember(key, n, with_scores) => zrandmember(
+            keyspace,
+            at,
+            key.as_slice(),
+            *n,
+            *with_scores,
+            dice,
+        ),
+        ZsetCommand::ZJoinStore(join, to, keys, how) => zjoin_store(
+            keyspace,
+            at,
+            *join,
+            to.as_slice(),
+            keys.as_slice(),
+            *how,
+        ),
+        ZsetCommand::ZScan(key, cursor, options) => {
+            zscan(keyspace, at, key.as_slice(), *cursor, options)
+        }
     }
 }

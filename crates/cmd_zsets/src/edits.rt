@@ -45,7 +45,8 @@ impl<E: ZsetEdit> Edit for OnZset<E> {
 
     fn edit<B: BlockStore>(&mut self, value: &mut Value, store: &mut B) -> Result<(), Memory> {
         match value {
-            Value::Text(_) | Value::List(_) | Value::Set(_) | Value::Hash(_) => unreachable!(),
+            Value::Text(_) | Value::List(_) | Value::Set(_) | Value::Hash(_) | Value::Stream(_) =>
+                unreachable!(),
             Value::Zset(zset) => {
                 self.edit.edit_zset(zset, store)?;
                 self.left = zset.len();

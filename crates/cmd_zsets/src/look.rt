@@ -1,14 +1,16 @@
-//! The sorted set at a key.
+//! The sorted set or the set at a key.
 
 ghost use Rattle.std.specs.Prelude.{◌≡◌, None};
 ghost use Rattle.plain_world.specs.Worlds.{look};
 ghost use Rattle.keyspace.specs.Commands.{Ready, sight};
 ghost use Rattle.keyspace.specs.Looks.{IsLook};
 ghost use Rattle.cmd_zsets.specs.Found.{FoundZset, FoundOther};
+ghost use Rattle.cmd_zsets.specs.Joined.{FoundSet, FoundNoSet};
 
 use blocks::BlockStore;
 use keyspace::{Keyspace, Look, Value};
 use plain_model::Ctx;
+use set_object::Members;
 use zset_object::Scored;
 
 /// The sorted set at a key.
@@ -24,7 +26,27 @@ pub fn zset_at<'a, B: BlockStore>(
         None => Look::Missing,
         Some(value) => match value {
             Value::Zset(scores) => Look::There(scores),
-            Value::Text(_) | Value::List(_) | Value::Set(_) | Value::Hash(_) => Look::Other,
+            Value::Text(_) | Value::List(_) | Value::Set(_) | Value::Hash(_) | Value::Stream(_) =>
+                Look::Other,
+        },
+    }
+}
+
+/// The set at a key.
+pub fn set_at<'a, B: BlockStore>(
+    keyspace: &'a Keyspace<B>,
+    at: &Ctx,
+    key: &[u8],
+) -> Look<&'a Members>
+    requires ready { Ready B.blocks keyspace.now at.now }
+    ensures { IsLook (look (sight B.blocks keyspace.now at.now) key.now ≡ None) (FoundNoSet (sight B.blocks keyspace.now at.now) key.now) (λ set. FoundSet (sight B.blocks keyspace.now at.now) (B.blocks keyspace.now.store) key.now set.now) result }
+{
+    match keyspace.look(at.db, key, at.moment) {
+        None => Look::Missing,
+        Some(value) => match value {
+            Value::Set(set) => Look::There(set),
+            Value::Text(_) | Value::List(_) | Value::Hash(_) | Value::Zset(_) | Value::Stream(_) =>
+                Look::Other,
         },
     }
 }

@@ -54,8 +54,8 @@ fn member_at<'a, B: BlockStore>(
     zset.at_rank(store, rank_met(from, len, place))
 }
 
-// Adds a member, followed by its score where that is asked for.
-fn push_member(
+/// Adds a member, followed by its score where that is asked for.
+pub fn push_member(
     alloc: Global,
     member: Element<'_>,
     score: i64,
@@ -94,8 +94,8 @@ fn push_span<B: BlockStore>(
     Ok(())
 }
 
-// How many replies tell of so many members. 2^64 or more are want of memory.
-fn told_size(count: usize, with_scores: bool) -> Result<u64, Memory>
+/// How many replies tell of so many members. 2^64 or more are want of memory.
+pub fn told_size(count: usize, with_scores: bool) -> Result<u64, Memory>
     ensures { IfOk result (λ size. size ≡ sized with_scores count) }
 {
     let count = count as u64;

@@ -8,6 +8,7 @@ returns-in-Text g c =
       | inl h ↦ ap is_zset h.1
       | inr (inl h) ↦ ap is_zset h.1
       | inr (inr (inl h)) ↦ ap is_zset h.1
-      | inr (inr (inr h)) ↦ ap is_zset h.1
+      | inr (inr (inr (inl h))) ↦ ap is_zset h.1
+      | inr (inr (inr (inr h))) ↦ ap is_zset h.1
     ] in
     found_other _ _ c.args.at.now c.args.key.now c.in-Some.value.now other c.in-Some.ensures.found

@@ -1,0 +1,8 @@
+use Rattle.zset_object.specs.Items.{pair_at}
+use Rattle.cmd_zsets.specs.Joined.{gathered}
+use Rattle.cmd_zsets.proofs.Meeting.{IsSoFar}
+use Rattle.cmd_zsets.proofs.gathering.add_zset.Given as goal
+
+abbrev pub invariant-loop-item : goal.invariant-loop-item
+invariant-loop-item g l =
+    IsSoFar l.meeting.join l.meeting.how (pair_at (g.B.BlockStore.blocks l.store) l.zset) l.meeting.weight (gathered l.before) (gathered l.fn.now) (gathered l.now) l.item
