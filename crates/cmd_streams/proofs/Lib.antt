@@ -1,0 +1,14 @@
+pub mod Looking
+pub mod Replies
+pub mod Told
+pub mod AtKeys
+pub mod Gone
+pub mod Ranging
+pub mod Rests
+pub mod Appending
+pub mod Gathered
+pub mod Regrouped
+pub mod Acking
+pub mod Sharing
+pub mod Handing
+pub mod Handouts

@@ -1,0 +1,48 @@
+use Rattle.std.proofs.Common.{◌≡◌, [], ap, sym, subst, ◌∙◌, Some, None, rules}
+use Rattle.stream_object.specs.Streams.{IsStream, stream_of, refs}
+use Rattle.stream_object.specs.declared.stream.Stream.{Stream}
+use Rattle.plain_world.specs.Worlds.{StreamOf, look}
+use Rattle.keyspace.specs.declared.value.Value.TheVariants as kinds
+use Rattle.keyspace.specs.Commands.{sight}
+use Rattle.keyspace.specs.Scopes.{one_key}
+use Rattle.keyspace.proofs.Running.{same_held}
+use Rattle.cmd_streams.proofs.AtKeys.{takes_there, stream_new, stream_changed}
+use Rattle.cmd_streams.proofs.changing.edit_stream.Goals as goal
+
+pub returns-in_err-new-in-None-clause-held : goal.returns-in_err-new-in-None-clause-held
+returns-in_err-new-in-None-clause-held g c = same_held g.B.BlockStore.blocks g.B.BlockStore.step (one_key c.args.at.now.db c.args.key.now) c.args.keyspace.now c.requires.ready.sound
+
+pub edit_new-requires-clause-blank : goal.edit_new-requires-clause-blank
+edit_new-requires-clause-blank g c =
+    let m = g.B.BlockStore.blocks c.args.keyspace.now.store in
+    let same : c.in_ok-new-in-None.field-0.value ≡ c.new.result = search rules in
+    subst (λ (h : Stream). refs m h ≡ []) (sym same) (c.new.ensures.refs m)
+
+pub edit_new-requires-clause-sound : goal.edit_new-requires-clause-sound
+edit_new-requires-clause-sound g c =
+    let same : c.in_ok-new-in-None.field-0.value ≡ c.new.result = search rules in
+    let m = g.B.BlockStore.blocks c.args.keyspace.now.store in
+    subst (IsStream m) (sym same) (c.new.ensures.is_stream m)
+
+pub edit_new-requires-clause-takes : goal.edit_new-requires-clause-takes
+edit_new-requires-clause-takes g c =
+    let m = g.B.BlockStore.blocks c.args.keyspace.now.store in
+    let same : c.in_ok-new-in-None.field-0.value ≡ c.new.result = search rules in
+    subst (g.E.StreamEdit.takes c.args.on.now.edit) (sym (ap (stream_of m) same ∙ c.new.ensures.empty m)) (c.requires.takes None (rw c.in-None.is at c.requires.there))
+
+pub edit_there-requires-clause-takes : goal.edit_there-requires-clause-takes
+edit_there-requires-clause-takes g c =
+    let is = rw c.in-Some.is at c.requires.there in
+    takes_there (g.E.StreamEdit.takes c.args.on.now.edit) (sight g.B.BlockStore.blocks c.args.keyspace.now c.args.at.now) c.args.key.now is.stream is.has (c.requires.takes (Some is.stream) is.has)
+
+pub returns-in_ok-new-in-None-clause-edited : goal.returns-in_ok-new-in-None-clause-edited
+returns-in_ok-new-in-None-clause-edited g c =
+    let m = g.B.BlockStore.blocks c.args.keyspace.now.store in
+    let same : c.in_ok-new-in-None.field-0.value ≡ c.new.result = search rules in
+    let none : look (sight g.B.BlockStore.blocks c.args.keyspace.now c.args.at.now) c.args.key.now ≡ None = rw c.in-None.is at c.requires.there in
+    stream_new _ (g.E.StreamEdit.makes c.args.on.now.edit c.edit_new.new.edit.edit) c.args.on.now c.edit_new.new.edit g.B.BlockStore.blocks c.args.keyspace.now c.edit_new.new.keyspace c.args.at.now c.args.key.now (λ o n made. made)
+    (kinds.Stream c.in_ok-new-in-None.field-0) (ap StreamOf (ap (stream_of m) same ∙ c.new.ensures.empty m)) none c.edit_new.result c.edit_new.ensures.made
+
+pub returns-in-Some-clause-edited : goal.returns-in-Some-clause-edited
+returns-in-Some-clause-edited g c =
+    stream_changed _ (g.E.StreamEdit.makes c.args.on.now.edit c.edit_there.new.edit.edit) c.args.on.now c.edit_there.new.edit g.B.BlockStore.blocks c.args.keyspace.now c.edit_there.new.keyspace c.args.at.now c.args.key.now (λ o n made. made) c.edit_there.result c.edit_there.ensures.edits

@@ -1,0 +1,9 @@
+pub mod Found
+pub mod Telling
+pub mod Changed
+pub mod Added
+pub mod Removed
+pub mod Several
+pub mod Acknowledged
+pub mod Pending
+pub mod Handed
