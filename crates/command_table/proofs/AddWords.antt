@@ -1,13 +1,13 @@
 -- The words of ZADD: options in front, then scores with their members.
-use Rattle.std.proofs.Common.{◌≡◌, ◌≢◌, ◌⊎◌, ℕ, zero, suc, ◌+◌, ◌-◌, ◌*◌, ◌<◌, ◌≤◌, List, [], ◌∷◌, ◌++◌, length, take, drop, Bool, true, false, Result, Ok, Err, Option, Some, None, refl, sym, ap, subst, ◌∙◌, inl, inr, arith, add-one, length-drop}
-use Rattle.std.specs.Prelude.{ℤ, nat_le, nat_lt, is_some, bytes_eq, ◌||◌, ◌&&◌, if◌then◌else◌}
+use Rattle.std.proofs.Common.{◌≡◌, ◌≢◌, ◌⊎◌, ℕ, suc, ◌+◌, ◌-◌, ◌*◌, ◌<◌, ◌≤◌, List, [], ◌∷◌, ◌++◌, length, take, drop, Bool, true, false, Result, Ok, Err, Option, Some, None, refl, sym, ap, subst, ◌∙◌, inl, inr, arith, length-drop}
+use Rattle.std.specs.Prelude.{ℤ, nat_le, is_some, bytes_eq, ◌||◌, if◌then◌else◌}
 use Rattle.std.specs.List.{AllByRecursion}
 use Rattle.std.specs.Result.{IsOkAnd}
-use Rattle.std.proofs.lemmas.Bool.{leb-true, le-leb, lt-ltb}
+use Rattle.std.proofs.lemmas.Bool.{le-leb, lt-ltb}
 use Rattle.std.proofs.lemmas.List.{append_assoc, drop-drop, drop_all}
 use Rattle.plain_world.specs.Words.{Words, in_lower_case}
-use Rattle.plain_model.specs.Shapes.{Kind, Score, told, AllTold, all_told, and_then, NamedOption, option_of, read_option, options_read}
-use Rattle.plain_model.specs.ZsetWords.{add_options, no_add_options, options_in_front, scores_read, clash, add_breaks, add_of, add_words}
+use Rattle.plain_model.specs.Shapes.{Kind, Score, told, AllTold, and_then, NamedOption, option_of, read_option, options_read}
+use Rattle.plain_model.specs.ZsetWords.{add_options, options_in_front, scores_read, clash, add_of, add_words}
 use Rattle.plain_model.specs.declared.command.Command.{Command}
 use Rattle.plain_model.specs.declared.command.Command.TheVariants.{Zsets}
 use Rattle.plain_model.specs.declared.zset_command.AddOptions.{AddOptions}

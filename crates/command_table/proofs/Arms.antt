@@ -1,5 +1,5 @@
 -- What reading answers, from what the words of a shape tell. One lemma for each shape, whatever is made of the words.
-use Rattle.std.proofs.Common.{◌≡◌, ℕ, List, [], ◌∷◌, length, drop, Bool, true, false, Option, Some, None, Result, Ok, Err, refl, sym, ap, subst, ◌∙◌}
+use Rattle.std.proofs.Common.{◌≡◌, ℕ, List, [], ◌∷◌, length, drop, Bool, true, false, Option, Some, Result, Ok, Err, refl, sym, ap, subst, ◌∙◌}
 use Rattle.std.specs.Prelude.{ℤ, ◌==◌, ◌&&◌, ◌-◌, ◌%◌, nat_le, nat_lt, if◌then◌else◌}
 use Rattle.std.specs.Result.{MatchResult, IsOkAnd}
 use Rattle.plain_world.specs.Words.{Words}

@@ -7,3 +7,11 @@ pub mod OptionWords
 pub mod ScoreTexts
 pub mod AddWords
 pub mod RangeWords
+pub mod PickWords
+pub mod JoinWords
+pub mod Weights
+pub mod AppendWords
+pub mod Gathering
+pub mod DashTexts
+pub mod StreamPlaces
+pub mod SecondWords

@@ -1,6 +1,6 @@
 -- What the words of a request mean, by the row of its name.
-use Rattle.std.proofs.Common.{◌≡◌, length-drop, ℕ, ◌<◌, List, [], ◌∷◌, length, drop, Bool, false, Result, Ok, Err, refl, sym, ap, subst, ◌∙◌}
-use Rattle.std.specs.Prelude.{◌&&◌, ◌%◌, ◌-◌, ◌==◌, IfOk, if◌then◌else◌}
+use Rattle.std.proofs.Common.{◌≡◌, ℕ, ◌<◌, List, [], ◌∷◌, length, drop, Result, Ok, Err, refl, sym, ap, subst, ◌∙◌}
+use Rattle.std.specs.Prelude.{IfOk}
 use Rattle.std.specs.Char.{to_ascii_lowercase}
 use Rattle.std.proofs.lemmas.Str.Ascii.{lowercase-lowercase}
 use Rattle.plain_world.specs.Words.{Words, IsRequest, in_lower_case}

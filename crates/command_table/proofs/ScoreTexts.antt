@@ -1,5 +1,5 @@
 -- The score that the definition reads off a text is the score of the text.
-use Rattle.std.proofs.Common.{◌≡◌, ◌≢◌, ◌⊎◌, ℕ, ◌+◌, ◌*◌, ◌<◌, ◌≤◌, ◌^◌, Bool, true, false, List, [], ◌∷◌, ◌++◌, length, drop, get_or, refl, sym, ap, subst, ◌∙◌, inl, inr, arith, lit<}
+use Rattle.std.proofs.Common.{◌≡◌, ◌≢◌, ◌⊎◌, ℕ, ◌+◌, ◌*◌, ◌<◌, ◌≤◌, ◌^◌, Bool, true, false, List, [], ◌∷◌, ◌++◌, length, drop, get_or, refl, sym, ap, subst, ◌∙◌, inl, inr, arith}
 use Rattle.std.specs.Prelude.{◌%◌, ◌/◌, ◌==◌, ◌&&◌, ◌||◌, ℤ, Option, Some, None, Result, Ok, Err, nat_lt, nat_le, bytes_eq, codes, if◌then◌else◌}
 use Rattle.std.specs.Char.{digit_value, is_ascii_digit}
 use Rattle.std.specs.Str.{all_ascii_digits}
@@ -16,7 +16,6 @@ use Rattle.int_text.specs.Score.{IsSign, no_sign, plus, minus, Number, IsExponen
 use Rattle.int_text.proofs.Numbers.{from_point, from_plain}
 use Rattle.int_text.proofs.Ones.{score_one}
 use Rattle.int_text.proofs.Scores.{IsUnsigned, IsOnlyBody, behind_minus, behind_plus, behind_none, from_signed}
-use Rattle.int_text.proofs.Wholes.{ten_pos}
 use Rattle.plain_world.specs.Words.{in_lower_case}
 use Rattle.plain_model.specs.ScoreTexts.{digits_in_front, behind_digits, is_negative, unsigned, fraction_of, behind_fraction, power_of, exponent_of, with_exponent, number_in, value_of, is_infinity_word, with_sign, score_in, score_of}
 use Rattle.plain_model.specs.Shapes.{and_then, score, score_bound}

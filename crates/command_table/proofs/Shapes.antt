@@ -1,7 +1,7 @@
 -- What the words of a shape tell, by their places. One lemma for each shape, whatever is made of the words.
 use Rattle.std.proofs.Math.Nat.{mod-one}
-use Rattle.std.proofs.Common.{◌≡◌, ◌≢◌, ℕ, ◌+◌, ◌<◌, ◌≤◌, List, [], ◌∷◌, length, drop, Bool, true, false, Result, Ok, Err, refl, sym, ap, subst, ◌∙◌, arith, add-one, length-drop}
-use Rattle.std.specs.Prelude.{◌%◌, ◌-◌, ◌==◌, ◌&&◌, nat_le, nat_lt, if◌then◌else◌}
+use Rattle.std.proofs.Common.{◌≡◌, ◌≢◌, ℕ, ◌+◌, ◌<◌, ◌≤◌, List, [], ◌∷◌, length, drop, Bool, true, false, Result, Ok, Err, refl, ap, ◌∙◌, arith, add-one, length-drop}
+use Rattle.std.specs.Prelude.{◌%◌, ◌-◌, ◌==◌, ◌&&◌, nat_le, if◌then◌else◌}
 use Rattle.std.proofs.Math.Seq.{drop-cons}
 use Rattle.std.proofs.lemmas.Bool.{eqb-true, leb-true, lt-ltb, eq-eqb}
 use Rattle.plain_world.specs.Words.{Words}

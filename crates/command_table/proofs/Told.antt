@@ -1,6 +1,6 @@
 -- What words tell, from what reading them answers.
-use Rattle.std.proofs.Common.{◌≡◌, ℕ, ◌<◌, List, [], ◌∷◌, length, Bool, true, false, Some, Ok, Err, ap, sym, ◌∙◌, w64, refl, arith}
-use Rattle.std.specs.Prelude.{ℤ, FitsSigned, ◌&&◌, ◌^◌, nat_lt, if◌then◌else◌}
+use Rattle.std.proofs.Common.{◌≡◌, ℕ, ◌<◌, List, [], ◌∷◌, length, Bool, true, false, Option, Some, None, Ok, Err, ap, sym, ◌∙◌, w64, refl, arith}
+use Rattle.std.specs.Prelude.{ℤ, FitsSigned, SomeIff, ◌&&◌, ◌^◌, nat_lt, if◌then◌else◌}
 use Rattle.std.specs.Str.{all_ascii_digits}
 use Rattle.std.specs.Str.Parse.{digits_value}
 use Rattle.std.proofs.lemmas.Bool.{lt-ltb, ltb-true}
@@ -8,6 +8,7 @@ use Rattle.std.proofs.lemmas.Str.Parse.{IsNumeralModel, numerals_by_value, tells
 use Rattle.int_text.specs.Decimal.{canonical, IsU64Text}
 use Rattle.plain_world.specs.Words.{Words}
 use Rattle.plain_model.specs.StringWords.{pairs_of}
+use Rattle.plain_model.specs.IdTexts.{id_part}
 use Rattle.plain_model.specs.Shapes.{Whole, Cursor, told, whole, are_digits}
 use Rattle.plain_world.specs.declared.refusal.Refusal.TheVariants.{InvalidCursor}
 use Rattle.int_text.proofs.NumberOf.{reads_number_of}
@@ -40,6 +41,22 @@ no_cursor_told word none =
       | true ↦ λ e. absurd (none (passing word e))
       | false ↦ λ e. refl
     ] refl
+
+-- one of the two numbers of an id
+part_told : (text : List ℕ) (n : ℕ) → IsU64Text text → n ≡ digits_value 10 text → id_part text ≡ Some n
+part_told text n is value = ap (λ b. if b then Some (digits_value 10 text) else None) (passes text is) ∙ ap Some (sym value)
+
+no_part_told : (text : List ℕ) → ¬ (IsU64Text text) → id_part text ≡ None
+no_part_told text none =
+    let test : Bool = are_digits text && nat_lt (digits_value 10 text) (2 ^ 64) in
+    elim test as (λ b. test ≡ b → (if b then Some (digits_value 10 text) else None) ≡ None) [
+      | true ↦ λ e. absurd (none (passing text e))
+      | false ↦ λ e. refl
+    ] refl
+
+pub part_is : (text : List ℕ) (answer : Option ℕ) → SomeIff answer (IsU64Text text) (digits_value 10 text) → answer ≡ id_part text
+part_is text (Some n) h = sym (part_told text n h.0 h.1)
+part_is text None h = sym (no_part_told text h)
 
 -- fewer than two words make no pair
 pub no_pairs : (words : Words) → length words < 2 → pairs_of words ≡ []

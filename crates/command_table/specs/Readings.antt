@@ -1,16 +1,19 @@
 -- What is read of words.
-use Rattle.std.specs.Prelude.{◌≡◌, ℕ, List, [], ◌∷◌, length, take, drop, ℤ, slice_index_or, codes, nat_le, Option, Bool, true, false}
+use Rattle.std.specs.Prelude.{◌≡◌, ℕ, List, [], ◌∷◌, ◌++◌, length, take, drop, ℤ, slice_index_or, codes, nat_le, Option, Bool, true, false}
 use Rattle.std.specs.Prelude.{Some, None, Result, Ok, Err, if◌then◌else◌}
 use Rattle.std.specs.Result.{IsOkAnd}
 use Rattle.plain_world.specs.Words.{Words, in_lower_case}
-use Rattle.plain_model.specs.Shapes.{Kind, Plain, Whole, Span, Amount, Told, told, score, AllTold, all_told, and_then, fixed, repeated, with_options, NamedOption, option_of, options_read}
+use Rattle.plain_model.specs.Shapes.{Kind, Plain, Whole, Span, Amount, Picks, Told, told, score, AllTold, all_told, and_then, fixed, repeated, with_options, with_picks, NamedOption, option_of, options_read}
 use Rattle.plain_model.specs.Meant.{meant}
 use Rattle.plain_model.specs.StringWords.{pairs_of, time_options, set_options, getex_options}
 use Rattle.plain_model.specs.declared.command.Command.{Command}
-use Rattle.plain_model.specs.declared.command.Command.TheVariants.{Strings, Lists, Sets, Hashes, Zsets, Keys}
+use Rattle.plain_model.specs.declared.command.Command.TheVariants.{Strings, Lists, Sets, Hashes, Zsets, Streams, Keys}
+use Rattle.plain_model.specs.declared.set_command.SetCommand.{SetCommand}
 use Rattle.plain_model.specs.declared.set_command.SetCommand.TheVariants as sets
 use Rattle.plain_model.specs.declared.hash_command.HashCommand.TheVariants as hashes
 use Rattle.plain_model.specs.declared.zset_command.ZsetCommand.TheVariants as zsets
+use Rattle.plain_model.specs.declared.stream_command.StreamCommand.{StreamCommand}
+use Rattle.plain_model.specs.declared.stream_command.StreamCommand.TheVariants as streams
 use Rattle.plain_model.specs.declared.list_command.ListCommand.TheVariants as lists
 use Rattle.plain_model.specs.declared.command.StringCommand.TheVariants as strings
 use Rattle.plain_model.specs.declared.keys.KeyCommand.TheVariants as keys
@@ -22,7 +25,7 @@ use Rattle.plain_model.specs.declared.zset_command.ScoreBound.TheVariants.{Inclu
 use Rattle.plain_model.specs.declared.zset_command.Limit.{Limit}
 use Rattle.plain_model.specs.declared.zset_command.ZsetCommand.{ZsetCommand}
 use Rattle.plain_model.specs.declared.zset_command.AddOptions.{AddOptions}
-use Rattle.plain_model.specs.ZsetWords.{add_options, no_add_options, options_in_front, scores_read, add_of, add_words}
+use Rattle.plain_model.specs.ZsetWords.{add_options, no_add_options, options_in_front, scores_read, add_of}
 use Rattle.plain_model.specs.declared.times.Time.{Time}
 use Rattle.plain_model.specs.declared.times.TimeUnit.{TimeUnit}
 use Rattle.plain_model.specs.declared.times.TimeUnit.TheVariants.{Seconds, Milliseconds}
@@ -79,6 +82,17 @@ one_and_amount [] = Err WrongNumberOfArguments
 one_and_amount (word ∷ []) = Ok (word, None)
 one_and_amount (word ∷ n ∷ []) = and_then (told Amount n) (λ a. Ok (word, Some a))
 one_and_amount (word ∷ n ∷ more ∷ words) = Err WrongNumberOfArguments
+
+-- a word, and a number of picks or none
+abbrev pub one_and_picks : Words → Result (List ℕ × Option ℤ) Refusal
+one_and_picks = with_picks (λ word n. (word, n))
+
+-- a word, and a number of picks with options behind it, or none
+abbrev pub one_and_picked : {C : Type 0} → List (NamedOption C) → C → Words → Result (List ℕ × Option ℤ × C) Refusal
+one_and_picked named none [] = Err WrongNumberOfArguments
+one_and_picked named none (word ∷ []) = Ok (word, None, none)
+one_and_picked named none (word ∷ n ∷ words) =
+    with_options (Plain ∷ Picks ∷ []) named none (λ a c. Ok (a.0, Some a.1.0, c)) (word ∷ n ∷ words)
 
 -- one or more words behind the name, and one or more pairs
 abbrev pub some_words : Words → Result Words Refusal
@@ -140,7 +154,7 @@ expire_parts words =
     with_options (Plain ∷ Whole ∷ []) expire_options no_expire_options
     (λ a options. if clash options then Err Syntax else Ok (a, options)) (drop 1 words)
 
--- the command keeps a list of words
+-- the command keeps a list
 abbrev pub keeps_list : Command → Bool
 keeps_list (Strings (strings.MGet words)) = true
 keeps_list (Strings (strings.MSet pairs)) = true
@@ -152,6 +166,9 @@ keeps_list (Lists (lists.RPushX key elements)) = true
 keeps_list (Sets (sets.SAdd key own)) = true
 keeps_list (Sets (sets.SRem key own)) = true
 keeps_list (Sets (sets.SMIsMember key own)) = true
+keeps_list (Sets (sets.SJoin how keys)) = true
+keeps_list (Sets (sets.SJoinStore how to keys)) = true
+keeps_list (Sets (sets.SInterCard keys limit)) = true
 keeps_list (Hashes (hashes.HSet key own)) = true
 keeps_list (Hashes (hashes.HMSet key own)) = true
 keeps_list (Hashes (hashes.HMGet key own)) = true
@@ -159,6 +176,12 @@ keeps_list (Hashes (hashes.HDel key own)) = true
 keeps_list (Zsets (zsets.ZAdd key rules ch own)) = true
 keeps_list (Zsets (zsets.ZRem key own)) = true
 keeps_list (Zsets (zsets.ZMScore key own)) = true
+keeps_list (Zsets (zsets.ZJoinStore join to keys aggregate)) = true
+keeps_list (Streams (streams.XAdd key options id own)) = true
+keeps_list (Streams (streams.XDel key own)) = true
+keeps_list (Streams (streams.XRead limit own)) = true
+keeps_list (Streams (streams.XReadGroup name consumer limit own)) = true
+keeps_list (Streams (streams.XAck key name own)) = true
 keeps_list (Keys (keys.Del words)) = true
 keeps_list (Keys (keys.Unlink words)) = true
 keeps_list (Keys (keys.Exists words)) = true
@@ -176,9 +199,21 @@ ReadsAs family means (Err Memory) = IsOkAnd means (λ command. keeps_list comman
 abbrev pub ReadsCommand : Words → Result Command ReadingFault → Type 0
 ReadsCommand words answer = ReadsAs (λ command. command) (meant words) answer
 
--- what is read of a command on sorted sets, among all commands
+-- what is read of a command on sets, and of one on sorted sets, among all commands
+abbrev pub ReadsSet : Result SetCommand Refusal → Result SetCommand ReadingFault → Type 0
+ReadsSet means answer = ReadsAs Sets (and_then means (λ command. Ok (Sets command))) answer
+
 abbrev pub ReadsZset : Result ZsetCommand Refusal → Result ZsetCommand ReadingFault → Type 0
 ReadsZset means answer = ReadsAs Zsets (and_then means (λ command. Ok (Zsets command))) answer
+
+-- the same of a command on streams
+abbrev pub ReadsStream : Result StreamCommand Refusal → Result StreamCommand ReadingFault → Type 0
+ReadsStream means answer = ReadsAs Streams (and_then means (λ command. Ok (Streams command))) answer
+
+-- a list that is kept has one more behind the others
+abbrev pub HasMore : {A E : Type 0} → Result (List A) E → A → Result (List A) E → Type 0
+HasMore list a (Ok more) = IsOkAnd list (λ before. more ≡ before ++ a ∷ [])
+HasMore list a (Err fault) = Unit {0}
 
 -- Words mean a list, which isn't kept; or they are refused.
 abbrev pub Passes : {A : Type 0} → Result A Refusal → Result Unit ReadingFault → Type 0
@@ -194,12 +229,16 @@ front_options words = options_read add_options no_add_options 0 (take (options_i
 abbrev pub scored : List ℕ → AddOptions → Words → Result ZsetCommand Refusal
 scored key options words = and_then (scores_read words) (add_of key options)
 
--- the options of ZRANK: WITHSCORE
-abbrev pub rank_options : List (NamedOption Bool)
-rank_options =
+-- one option without words of its own
+abbrev pub flag : List ℕ → List (NamedOption Bool)
+flag name =
     record {
-      name = codes "withscore";
+      name = name;
       kinds = [];
       sets = λ own o. true;
     }
     ∷ []
+
+-- the options of ZRANK: WITHSCORE
+abbrev pub rank_options : List (NamedOption Bool)
+rank_options = flag (codes "withscore")

@@ -1,6 +1,6 @@
 -- The names of commands, and the code's table of them.
-use Rattle.std.specs.Prelude.{◌≡◌, ℕ, ◌-◌, ◌%◌, ◌==◌, List, [], ◌∷◌, length, map, Bool, true, false, ◌||◌, ◌&&◌}
-use Rattle.std.specs.Prelude.{if◌then◌else◌, bytes_eq, nat_lt, nat_le, Option, Some, None, codes, Err}
+use Rattle.std.specs.Prelude.{◌≡◌, ℕ, ◌==◌, List, [], ◌∷◌, length, map, Bool, true, false, ◌||◌, ◌&&◌}
+use Rattle.std.specs.Prelude.{if◌then◌else◌, bytes_eq, Option, Some, None, codes, Err}
 use Rattle.plain_world.specs.Words.{Words, in_lower_case}
 use Rattle.plain_model.specs.Meant.{rows, meant}
 use Rattle.plain_world.specs.declared.refusal.Refusal.TheVariants.{UnknownCommand}
@@ -14,13 +14,15 @@ use Rattle.command_table.specs.declared.table.HashName.{HashName}
 use Rattle.command_table.specs.declared.table.HashName.TheVariants as hash
 use Rattle.command_table.specs.declared.table.ZsetName.{ZsetName}
 use Rattle.command_table.specs.declared.table.ZsetName.TheVariants as zset
+use Rattle.command_table.specs.declared.table.StreamName.{StreamName}
+use Rattle.command_table.specs.declared.table.StreamName.TheVariants as stream
 use Rattle.command_table.specs.declared.table.KeyName.{KeyName}
 use Rattle.command_table.specs.declared.table.KeyName.TheVariants as key
 use Rattle.command_table.specs.declared.table.ConnectionName.{ConnectionName}
 use Rattle.command_table.specs.declared.table.ConnectionName.TheVariants as connection
 use Rattle.command_table.specs.declared.table.Row.{Row}
 use Rattle.command_table.specs.declared.table.Name.{Name}
-use Rattle.command_table.specs.declared.table.Name.TheVariants.{Strings, Lists, Sets, Hashes, Zsets, Keys, Connection}
+use Rattle.command_table.specs.declared.table.Name.TheVariants.{Strings, Lists, Sets, Hashes, Zsets, Streams, Keys, Connection}
 
 -- the name in lower case
 abbrev pub string_name : StringName → List ℕ
@@ -70,6 +72,16 @@ set_name set.SMIsMember = codes "smismember"
 set_name set.SMembers = codes "smembers"
 set_name set.SCard = codes "scard"
 set_name set.SMove = codes "smove"
+set_name set.SPop = codes "spop"
+set_name set.SRandMember = codes "srandmember"
+set_name set.SInter = codes "sinter"
+set_name set.SUnion = codes "sunion"
+set_name set.SDiff = codes "sdiff"
+set_name set.SInterStore = codes "sinterstore"
+set_name set.SUnionStore = codes "sunionstore"
+set_name set.SDiffStore = codes "sdiffstore"
+set_name set.SInterCard = codes "sintercard"
+set_name set.SScan = codes "sscan"
 
 abbrev pub hash_name : HashName → List ℕ
 hash_name hash.HSet = codes "hset"
@@ -85,6 +97,8 @@ hash_name hash.HKeys = codes "hkeys"
 hash_name hash.HVals = codes "hvals"
 hash_name hash.HGetAll = codes "hgetall"
 hash_name hash.HIncrBy = codes "hincrby"
+hash_name hash.HRandField = codes "hrandfield"
+hash_name hash.HScan = codes "hscan"
 
 abbrev pub zset_name : ZsetName → List ℕ
 zset_name zset.ZAdd = codes "zadd"
@@ -104,6 +118,23 @@ zset_name zset.ZRemRangeByRank = codes "zremrangebyrank"
 zset_name zset.ZRemRangeByScore = codes "zremrangebyscore"
 zset_name zset.ZPopMin = codes "zpopmin"
 zset_name zset.ZPopMax = codes "zpopmax"
+zset_name zset.ZRandMember = codes "zrandmember"
+zset_name zset.ZUnionStore = codes "zunionstore"
+zset_name zset.ZInterStore = codes "zinterstore"
+zset_name zset.ZScan = codes "zscan"
+
+abbrev pub stream_name : StreamName → List ℕ
+stream_name stream.XAdd = codes "xadd"
+stream_name stream.XLen = codes "xlen"
+stream_name stream.XRange = codes "xrange"
+stream_name stream.XRevRange = codes "xrevrange"
+stream_name stream.XDel = codes "xdel"
+stream_name stream.XTrim = codes "xtrim"
+stream_name stream.XRead = codes "xread"
+stream_name stream.XGroup = codes "xgroup"
+stream_name stream.XReadGroup = codes "xreadgroup"
+stream_name stream.XAck = codes "xack"
+stream_name stream.XPending = codes "xpending"
 
 abbrev pub key_name : KeyName → List ℕ
 key_name key.Del = codes "del"
@@ -146,6 +177,7 @@ name_of (Lists name) = list_name name
 name_of (Sets name) = set_name name
 name_of (Hashes name) = hash_name name
 name_of (Zsets name) = zset_name name
+name_of (Streams name) = stream_name name
 name_of (Keys name) = key_name name
 name_of (Connection name) = connection_name name
 

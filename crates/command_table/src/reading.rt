@@ -11,6 +11,7 @@ use crate::hashes::read_hash;
 use crate::keys::read_key;
 use crate::lists::read_list;
 use crate::sets::read_set;
+use crate::streams::read_stream;
 use crate::strings::read_string;
 use crate::table::{Name, find};
 use crate::zsets::read_zset;
@@ -34,6 +35,7 @@ fn read_named<'r>(
         Name::Sets(name) => read_set(alloc, name, request).map(Command::Sets),
         Name::Hashes(name) => read_hash(alloc, name, request).map(Command::Hashes),
         Name::Zsets(name) => read_zset(alloc, name, request).map(Command::Zsets),
+        Name::Streams(name) => read_stream(alloc, name, request).map(Command::Streams),
         Name::Keys(name) => read_key(alloc, name, request).map(Command::Keys),
         Name::Connection(name) => read_connection(name, request).map(Command::Connection),
     }

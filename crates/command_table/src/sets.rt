@@ -2,16 +2,30 @@
 
 ghost use Rattle.std.specs.Prelude.{◌<◌, ◌∷◌, length, drop};
 ghost use Rattle.plain_model.specs.Meant.{meant};
+ghost use Rattle.plain_model.specs.KeyWords.{page_words};
 ghost use Rattle.plain_model.specs.declared.command.Command.TheVariants as commands;
-ghost use Rattle.command_table.specs.Readings.{ReadsAs};
+ghost use Rattle.plain_model.specs.declared.set_command.SetCommand.TheVariants as set_commands;
+ghost use Rattle.command_table.specs.Readings.{ReadsAs, Tells};
 ghost use Rattle.command_table.specs.Rows.{set_name};
 
 use crate::ReadingFault;
-use crate::kinds::{one, one_and_words, three, two};
+use crate::joins::inter_card;
+use crate::kinds::{one, one_and_perhaps, one_and_words, three, two, words};
+use crate::pages::page;
+use crate::picks::one_and_picks;
 use crate::table::SetName;
-use plain_model::SetCommand;
+use plain_model::{SetCommand, SetJoin};
 use resp_frames::Request;
 use std::alloc::Global;
+
+// SSCAN: a key, a cursor and options.
+fn scan<'r>(request: &'r Request<'_>) -> Result<SetCommand<'r>, ReadingFault>
+    requires { 0 < length request.now }
+    ensures { Tells (page_words set_commands.SScan (drop 1 request.now)) result }
+{
+    let (key, from, options) = page(request)?;
+    Ok(SetCommand::SScan(key, from, options))
+}
 
 /// Turns the words behind the name of a command on sets into it.
 #[tactic(auto, using(crate::proofs::Arms::fixed_made, crate::proofs::Arms::keyed_made))]
@@ -36,5 +50,32 @@ pub fn read_set<'r>(
         SetName::SMove => three(request).map(|(from, to, member)| SetCommand::SMove(
             from, to, member,
         )),
+        SetName::SPop => one_and_perhaps(request).map(|(key, n)| SetCommand::SPop(key, n)),
+        SetName::SRandMember => one_and_picks(request).map(|(key, n)| SetCommand::SRandMember(
+            key, n,
+        )),
+        SetName::SInter => words(alloc, request).map(|keys| SetCommand::SJoin(
+            SetJoin::Inter,
+            keys,
+        )),
+        SetName::SUnion => words(alloc, request).map(|keys| SetCommand::SJoin(
+            SetJoin::Union,
+            keys,
+        )),
+        SetName::SDiff => words(alloc, request).map(|keys| SetCommand::SJoin(SetJoin::Diff, keys)),
+        SetName::SInterStore => one_and_words(alloc, request).map(|(
+            to,
+            keys,
+        )| SetCommand::SJoinStore(SetJoin::Inter, to, keys)),
+        SetName::SUnionStore => one_and_words(alloc, request).map(|(
+            to,
+            keys,
+        )| SetCommand::SJoinStore(SetJoin::Union, to, keys)),
+        SetName::SDiffStore => one_and_words(alloc, request).map(|(
+            to,
+            keys,
+        )| SetCommand::SJoinStore(SetJoin::Diff, to, keys)),
+        SetName::SInterCard => inter_card(alloc, request),
+        SetName::SScan => scan(request),
     }
 }

@@ -4,7 +4,7 @@ ghost use Rattle.std.specs.Prelude.{◌≡◌, bytes_eq, length};
 ghost use Rattle.plain_world.specs.Words.{in_lower_case};
 ghost use Rattle.command_table.specs.Rows.{found_in, Finds, IsTable};
 
-use self::Name::{Connection, Hashes, Keys, Lists, Sets, Strings, Zsets};
+use self::Name::{Connection, Hashes, Keys, Lists, Sets, Streams, Strings, Zsets};
 use self::StringName::{
     Append, Decr, DecrBy, Get, GetDel, GetEx, GetRange, GetSet, Incr, IncrBy, MGet, MSet, MSetNx,
     PSetEx, Set, SetEx, SetNx, SetRange, StrLen,
@@ -66,6 +66,16 @@ pub enum SetName {
     SMembers,
     SCard,
     SMove,
+    SPop,
+    SRandMember,
+    SInter,
+    SUnion,
+    SDiff,
+    SInterStore,
+    SUnionStore,
+    SDiffStore,
+    SInterCard,
+    SScan,
 }
 
 /// Which command on hashes.
@@ -84,6 +94,8 @@ pub enum HashName {
     HVals,
     HGetAll,
     HIncrBy,
+    HRandField,
+    HScan,
 }
 
 /// Which command on sorted sets.
@@ -106,6 +118,26 @@ pub enum ZsetName {
     ZRemRangeByScore,
     ZPopMin,
     ZPopMax,
+    ZRandMember,
+    ZUnionStore,
+    ZInterStore,
+    ZScan,
+}
+
+/// Which command on streams.
+#[derive(Clone, Copy)]
+pub enum StreamName {
+    XAdd,
+    XLen,
+    XRange,
+    XRevRange,
+    XDel,
+    XTrim,
+    XRead,
+    XGroup,
+    XReadGroup,
+    XAck,
+    XPending,
 }
 
 /// Which command on keys.
@@ -157,6 +189,7 @@ pub enum Name {
     Sets(SetName),
     Hashes(HashName),
     Zsets(ZsetName),
+    Streams(StreamName),
     Keys(KeyName),
     Connection(ConnectionName),
 }
@@ -171,7 +204,7 @@ const OF_3: [Row; 4] = [
     Row(b"ttl", Keys(KeyName::Ttl)),
 ];
 
-const OF_4: [Row; 27] = [
+const OF_4: [Row; 32] = [
     Row(b"mget", Strings(MGet)),
     Row(b"mset", Strings(MSet)),
     Row(b"incr", Strings(Incr)),
@@ -199,9 +232,14 @@ const OF_4: [Row; 27] = [
     Row(b"hlen", Hashes(HashName::HLen)),
     Row(b"zadd", Zsets(ZsetName::ZAdd)),
     Row(b"zrem", Zsets(ZsetName::ZRem)),
+    Row(b"spop", Sets(SetName::SPop)),
+    Row(b"xadd", Streams(StreamName::XAdd)),
+    Row(b"xlen", Streams(StreamName::XLen)),
+    Row(b"xdel", Streams(StreamName::XDel)),
+    Row(b"xack", Streams(StreamName::XAck)),
 ];
 
-const OF_5: [Row; 17] = [
+const OF_5: [Row; 23] = [
     Row(b"setnx", Strings(SetNx)),
     Row(b"setex", Strings(SetEx)),
     Row(b"getex", Strings(GetEx)),
@@ -219,9 +257,15 @@ const OF_5: [Row; 17] = [
     Row(b"hvals", Hashes(HashName::HVals)),
     Row(b"zcard", Zsets(ZsetName::ZCard)),
     Row(b"zrank", Zsets(ZsetName::ZRank)),
+    Row(b"sdiff", Sets(SetName::SDiff)),
+    Row(b"sscan", Sets(SetName::SScan)),
+    Row(b"hscan", Hashes(HashName::HScan)),
+    Row(b"zscan", Zsets(ZsetName::ZScan)),
+    Row(b"xtrim", Streams(StreamName::XTrim)),
+    Row(b"xread", Streams(StreamName::XRead)),
 ];
 
-const OF_6: [Row; 24] = [
+const OF_6: [Row; 28] = [
     Row(b"getset", Strings(GetSet)),
     Row(b"getdel", Strings(GetDel)),
     Row(b"psetex", Strings(PSetEx)),
@@ -246,6 +290,10 @@ const OF_6: [Row; 24] = [
     Row(b"zscore", Zsets(ZsetName::ZScore)),
     Row(b"zcount", Zsets(ZsetName::ZCount)),
     Row(b"zrange", Zsets(ZsetName::ZRange)),
+    Row(b"sinter", Sets(SetName::SInter)),
+    Row(b"sunion", Sets(SetName::SUnion)),
+    Row(b"xrange", Streams(StreamName::XRange)),
+    Row(b"xgroup", Streams(StreamName::XGroup)),
 ];
 
 const OF_7: [Row; 12] = [
@@ -263,7 +311,7 @@ const OF_7: [Row; 12] = [
     Row(b"zpopmax", Zsets(ZsetName::ZPopMax)),
 ];
 
-const OF_8: [Row; 7] = [
+const OF_8: [Row; 8] = [
     Row(b"getrange", Strings(GetRange)),
     Row(b"setrange", Strings(SetRange)),
     Row(b"expireat", Keys(KeyName::ExpireAt)),
@@ -271,22 +319,36 @@ const OF_8: [Row; 7] = [
     Row(b"flushall", Connection(ConnectionName::FlushAll)),
     Row(b"smembers", Sets(SetName::SMembers)),
     Row(b"zrevrank", Zsets(ZsetName::ZRevRank)),
+    Row(b"xpending", Streams(StreamName::XPending)),
 ];
 
-const OF_9: [Row; 5] = [
+const OF_9: [Row; 6] = [
     Row(b"pexpireat", Keys(KeyName::PExpireAt)),
     Row(b"randomkey", Keys(KeyName::RandomKey)),
     Row(b"rpoplpush", Lists(ListName::RPopLPush)),
     Row(b"sismember", Sets(SetName::SIsMember)),
     Row(b"zrevrange", Zsets(ZsetName::ZRevRange)),
+    Row(b"xrevrange", Streams(StreamName::XRevRange)),
 ];
 
-const OF_10: [Row; 2] = [
+const OF_10: [Row; 6] = [
     Row(b"expiretime", Keys(KeyName::ExpireTime)),
     Row(b"smismember", Sets(SetName::SMIsMember)),
+    Row(b"sdiffstore", Sets(SetName::SDiffStore)),
+    Row(b"sintercard", Sets(SetName::SInterCard)),
+    Row(b"hrandfield", Hashes(HashName::HRandField)),
+    Row(b"xreadgroup", Streams(StreamName::XReadGroup)),
 ];
 
-const OF_11: [Row; 1] = [Row(b"pexpiretime", Keys(KeyName::PExpireTime))];
+const OF_11: [Row; 7] = [
+    Row(b"pexpiretime", Keys(KeyName::PExpireTime)),
+    Row(b"srandmember", Sets(SetName::SRandMember)),
+    Row(b"sinterstore", Sets(SetName::SInterStore)),
+    Row(b"sunionstore", Sets(SetName::SUnionStore)),
+    Row(b"zrandmember", Zsets(ZsetName::ZRandMember)),
+    Row(b"zunionstore", Zsets(ZsetName::ZUnionStore)),
+    Row(b"zinterstore", Zsets(ZsetName::ZInterStore)),
+];
 
 const OF_13: [Row; 1] = [Row(b"zrangebyscore", Zsets(ZsetName::ZRangeByScore))];
 

@@ -2,13 +2,13 @@
 
 ghost use Rattle.std.specs.Prelude.{◌≡◌, ◌<◌, length, bytes_eq, Err};
 ghost use Rattle.plain_world.specs.Words.{in_lower_case};
-ghost use Rattle.plain_model.specs.Shapes.{Whole, Offset, Span, Database, Count, Steps, Cursor, Amount, Rank, OnSide, AtEnd, Score, Bound, score, score_bound, told};
+ghost use Rattle.plain_model.specs.Shapes.{Whole, Offset, Span, Database, Count, Steps, Cursor, Amount, Rank, OnSide, AtEnd, Score, Bound, Picks, Keys, Aggregated, score, score_bound, told};
 ghost use Rattle.plain_model.specs.ScoreTexts.{score_of};
 ghost use Rattle.command_table.specs.Readings.{Tells, at, included};
 
 use crate::ReadingFault;
 use int_text::{ScoreFault, read_i64, read_score, read_u64};
-use plain_model::{ListEnd, Refusal, ScoreBound, Side, Word};
+use plain_model::{Aggregate, ListEnd, Refusal, ScoreBound, Side, Word};
 use resp_frames::Request;
 
 /// Whether a word is this name, whatever the case of either.
@@ -225,4 +225,46 @@ pub fn bound(request: &Request<'_>, index: usize) -> Result<ScoreBound, ReadingF
         return Ok(ScoreBound::Highest);
     }
     score_bound(word)
+}
+
+/// A word as a whole number from -1,048,576 on, which is how many are picked; below 0 with repeats.
+pub fn picks(request: &Request<'_>, index: usize) -> Result<i64, ReadingFault>
+    requires { index < length request.now }
+    ensures { Tells (told Picks (at request.now index)) result }
+{
+    let n = number(request, index)?;
+    if n >= -1_048_576 {
+        return Ok(n);
+    }
+    Err(ReadingFault::Refused(Refusal::ValueOutOfRange))
+}
+
+/// A word as a whole number above 0, which is how many keys stand behind it.
+pub fn keys(request: &Request<'_>, index: usize) -> Result<usize, ReadingFault>
+    requires { index < length request.now }
+    ensures { Tells (told Keys (at request.now index)) result }
+{
+    let n = number(request, index)?;
+    match usize::try_from(n) {
+        Ok(keys) if keys > 0 => Ok(keys),
+        _ => Err(ReadingFault::Refused(Refusal::ValueOutOfRange)),
+    }
+}
+
+/// A word as what is made of scores, SUM, MIN or MAX.
+pub fn aggregate(request: &Request<'_>, index: usize) -> Result<Aggregate, ReadingFault>
+    requires { index < length request.now }
+    ensures { Tells (told Aggregated (at request.now index)) result }
+{
+    let word = request.word(index);
+    if is_word(word, b"sum") {
+        return Ok(Aggregate::Sum);
+    }
+    if is_word(word, b"min") {
+        return Ok(Aggregate::Min);
+    }
+    if is_word(word, b"max") {
+        return Ok(Aggregate::Max);
+    }
+    Err(ReadingFault::Refused(Refusal::Syntax))
 }

@@ -3,20 +3,27 @@
 ghost use Rattle.std.specs.Prelude.{◌≡◌, ◌<◌, ◌∷◌, length, drop};
 ghost use Rattle.plain_model.specs.Meant.{meant};
 ghost use Rattle.plain_model.specs.ZsetWords.{asks_scores, no_rules, range_words, score_range_of};
+ghost use Rattle.plain_model.specs.KeyWords.{page_words};
 ghost use Rattle.plain_model.specs.declared.command.Command.TheVariants as commands;
+ghost use Rattle.plain_model.specs.declared.zset_command.ZsetCommand.TheVariants as zset_commands;
 ghost use Rattle.command_table.specs.Readings.{ReadsAs, Tells};
 ghost use Rattle.command_table.specs.Rows.{zset_name};
 
 use crate::ReadingFault;
+use crate::joins::join_store;
 use crate::kinds::{
     bounds_and_options, numbers_and_options, one, one_and_bounds, one_and_numbers, one_and_perhaps,
     one_and_words, one_score_one, two, two_and_options,
 };
+use crate::pages::page;
+use crate::picks::{WithScores, one_and_picked};
 use crate::table::ZsetName;
 use crate::words::is_word;
 use crate::zset_options::{OfRanks, OfScores, no_range_options};
 use crate::zset_scores::add;
-use plain_model::{Direction, RangeOptions, Refusal, ScoreBound, ScoreRules, Word, ZsetCommand};
+use plain_model::{
+    Direction, RangeOptions, Refusal, ScoreBound, ScoreJoin, ScoreRules, Word, ZsetCommand,
+};
 use resp_frames::Request;
 use std::alloc::Global;
 
@@ -95,6 +102,15 @@ fn range<'r>(request: &'r Request<'_>) -> Result<ZsetCommand<'r>, ReadingFault>
     Ok(ZsetCommand::ZRange(key, a, b, from, options.with_scores))
 }
 
+// ZSCAN: a key, a cursor and options.
+fn scan<'r>(request: &'r Request<'_>) -> Result<ZsetCommand<'r>, ReadingFault>
+    requires { 0 < length request.now }
+    ensures { Tells (page_words zset_commands.ZScan (drop 1 request.now)) result }
+{
+    let (key, from, options) = page(request)?;
+    Ok(ZsetCommand::ZScan(key, from, options))
+}
+
 /// Turns the words behind the name of a command on sorted sets into it.
 #[tactic(auto, using(crate::proofs::Arms::fixed_made, crate::proofs::Arms::keyed_made, crate::proofs::Arms::popped_made, crate::proofs::Arms::lifted))]
 pub fn read_zset<'r>(
@@ -170,5 +186,13 @@ pub fn read_zset<'r>(
             Direction::Falling,
             n,
         )),
+        ZsetName::ZRandMember => one_and_picked(request, WithScores(false)).map(|(
+            key,
+            n,
+            with_scores,
+        )| ZsetCommand::ZRandMember(key, n, with_scores.0)),
+        ZsetName::ZUnionStore => join_store(alloc, ScoreJoin::Union, request),
+        ZsetName::ZInterStore => join_store(alloc, ScoreJoin::Inter, request),
+        ZsetName::ZScan => scan(request),
     }
 }

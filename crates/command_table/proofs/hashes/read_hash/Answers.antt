@@ -1,9 +1,12 @@
-use Rattle.std.proofs.Common.{[], ◌∷◌, Ok, refl, rules}
+use Rattle.std.proofs.Common.{[], ◌∷◌, drop, Ok, refl, rules}
+use Rattle.std.specs.Prelude.{codes}
 use Rattle.plain_model.specs.Shapes.{Plain, Whole}
+use Rattle.plain_model.specs.KeyWords.{page_words}
 use Rattle.plain_model.specs.StringWords.{pairs_of}
 use Rattle.plain_model.specs.declared.command.Command.TheVariants.{Hashes}
 use Rattle.plain_model.specs.declared.hash_command.HashCommand.TheVariants as hashes
-use Rattle.command_table.proofs.Arms.{fixed_made, keyed_made}
+use Rattle.command_table.proofs.Arms.{fixed_made, keyed_made, lifted}
+use Rattle.command_table.proofs.PickWords.{picked_made}
 use Rattle.command_table.proofs.hashes.read_hash.Goals as goal
 
 pub returns-in-HSet : goal.returns-in-HSet
@@ -44,3 +47,9 @@ returns-in-HGetAll c = rw c.in-HGetAll.is (fixed_made Hashes (Plain ∷ []) (λ 
 
 pub returns-in-HIncrBy : goal.returns-in-HIncrBy
 returns-in-HIncrBy c = rw c.in-HIncrBy.is (fixed_made Hashes (Plain ∷ Plain ∷ Whole ∷ []) (λ a. (a.0, (a.1, (a.2, tt)))) (λ a. Ok (hashes.HIncrBy a.0 a.1.0 a.1.1.0)) (λ a. hashes.HIncrBy a.0 a.1 a.2) (λ a. refl) c.args.request.now c.two_and_number.result _ c.two_and_number.ensures (search rules))
+
+pub returns-in-HRandField : goal.returns-in-HRandField
+returns-in-HRandField c = rw c.in-HRandField.is (picked_made Hashes (codes "withvalues") hashes.HRandField c.args.request.now c.one_and_picked.result _ c.one_and_picked.ensures (search rules))
+
+pub returns-in-HScan : goal.returns-in-HScan
+returns-in-HScan c = rw c.in-HScan.is (lifted Hashes (page_words hashes.HScan (drop 1 c.args.request.now)) c.scan.result c.scan.ensures)

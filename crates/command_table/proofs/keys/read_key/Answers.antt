@@ -1,6 +1,5 @@
-use Rattle.std.proofs.Common.{[], ◌∷◌, Ok, Err, refl, rules}
-use Rattle.std.specs.Prelude.{if◌then◌else◌}
-use Rattle.plain_model.specs.Shapes.{Plain, Whole, Database}
+use Rattle.std.proofs.Common.{[], ◌∷◌, Ok, refl, rules}
+use Rattle.plain_model.specs.Shapes.{Plain, Database}
 use Rattle.plain_model.specs.KeyWords.{copy_options, no_copy_options}
 use Rattle.plain_model.specs.declared.command.Command.TheVariants.{Keys}
 use Rattle.plain_model.specs.declared.keys.KeyCommand.TheVariants as keys

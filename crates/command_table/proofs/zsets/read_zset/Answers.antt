@@ -1,11 +1,14 @@
 use Rattle.std.proofs.Common.{[], ◌∷◌, drop, Ok, true, false, refl, rules}
+use Rattle.std.specs.Prelude.{codes}
 use Rattle.plain_model.specs.Shapes.{Plain, Whole, Score, Bound}
+use Rattle.plain_model.specs.KeyWords.{page_words}
 use Rattle.plain_model.specs.ZsetWords.{no_rules, no_range_options, with_scores_option, limit_option, range_words, score_range_of}
 use Rattle.plain_model.specs.declared.command.Command.TheVariants.{Zsets}
 use Rattle.plain_model.specs.declared.zset_command.Direction.TheVariants.{Rising, Falling}
 use Rattle.plain_model.specs.declared.zset_command.ZsetCommand.TheVariants as zsets
 use Rattle.command_table.specs.Readings.{rank_options}
 use Rattle.command_table.proofs.Arms.{fixed_made, keyed_made, lifted, options_made, popped_made}
+use Rattle.command_table.proofs.PickWords.{picked_made}
 use Rattle.command_table.proofs.zsets.read_zset.Goals as goal
 
 pub returns-in-ZAdd : goal.returns-in-ZAdd
@@ -58,3 +61,15 @@ returns-in-ZPopMin c = rw c.in-ZPopMin.is (popped_made Zsets (λ key n. zsets.ZP
 
 pub returns-in-ZPopMax : goal.returns-in-ZPopMax
 returns-in-ZPopMax c = rw c.in-ZPopMax.is (popped_made Zsets (λ key n. zsets.ZPop key Falling n) c.args.request.now c.one_and_perhaps-in-ZPopMax.result _ c.one_and_perhaps-in-ZPopMax.ensures (search rules))
+
+pub returns-in-ZRandMember : goal.returns-in-ZRandMember
+returns-in-ZRandMember c = rw c.in-ZRandMember.is (picked_made Zsets (codes "withscores") zsets.ZRandMember c.args.request.now c.one_and_picked.result _ c.one_and_picked.ensures (search rules))
+
+pub returns-in-ZUnionStore : goal.returns-in-ZUnionStore
+returns-in-ZUnionStore c = rw c.in-ZUnionStore.is c.join_store.ensures
+
+pub returns-in-ZInterStore : goal.returns-in-ZInterStore
+returns-in-ZInterStore c = rw c.in-ZInterStore.is c.join_store-in-ZInterStore.ensures
+
+pub returns-in-ZScan : goal.returns-in-ZScan
+returns-in-ZScan c = rw c.in-ZScan.is (lifted Zsets (page_words zsets.ZScan (drop 1 c.args.request.now)) c.scan.result c.scan.ensures)

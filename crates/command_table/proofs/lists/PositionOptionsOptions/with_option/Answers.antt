@@ -1,4 +1,4 @@
-use Rattle.std.proofs.Common.{◌≡◌, ◌+◌, ℕ, List, Err, drop, ap, rules}
+use Rattle.std.proofs.Common.{◌≡◌, ◌+◌, Err, drop, ap, rules}
 use Rattle.std.specs.Prelude.{codes}
 use Rattle.plain_world.specs.Words.{in_lower_case}
 use Rattle.plain_model.specs.Shapes.{Amount, option_of, read_option}
