@@ -4,11 +4,13 @@ use Rattle.std.specs.Int.{Width, w32, w64, byte_len}
 use Rattle.std.proofs.lemmas.Bool.{ltb-true}
 use Rattle.plain_world.specs.Worlds.{Value}
 use Rattle.rdb_grammar.specs.Codes as code
-use Rattle.rdb_grammar.specs.Format.{Format, give, some_bytes, followed, Branch, Goes, Refuses, BranchSpells, pick}
+use Rattle.rdb_grammar.specs.Format.{Format, give, some_bytes, followed, Branch, Goes, Refuses, BranchSpells, pick, turned}
 use Rattle.rdb_grammar.specs.Lengths.{a_length}
 use Rattle.rdb_grammar.specs.Strings.{string}
 use Rattle.rdb_grammar.specs.Values.{value_behind}
-use Rattle.rdb_grammar.specs.Items.{Item, Passed, Deadline, Database, End, Key, keyed, passed, two, deadline_in, database, item_behind, item}
+use Rattle.rdb_grammar.specs.Items.{Item, Passed, Deadline, Database, End, Key, Part, Whole, Opens, keyed, passed, two, deadline_in, database, whole_behind, opens, part_behind, left_of, item}
+use Rattle.rdb_grammar.specs.declared.values.Collection.{Collection}
+use Rattle.rdb_grammar.specs.declared.values.Collection.TheVariants as of
 use Rattle.rdb_grammar.specs.Places.{Stands}
 
 -- a deadline of 63 bits, and a database of 16
@@ -46,7 +48,7 @@ keyed_fits : (branch : Branch Value) → AllFit (keyed branch)
 keyed_fits (Goes value) x word s = fit_as x (Key s.0 s.5.0) s.5.5.0 tt
 keyed_fits (Refuses is) x word s = absurd s
 
-behind_fits : (b : ℕ) → AllFit (item_behind b)
+behind_fits : (b : ℕ) → AllFit (whole_behind b)
 behind_fits b =
     pick_fits (b == code.function || b == code.old_function) _ _ (λ x word s. absurd s)
     (pick_fits (b == code.module_data) _ _ (λ x word s. absurd s)
@@ -59,8 +61,40 @@ behind_fits b =
     (pick_fits (b == code.select_db) _ _ database_all
     (pick_fits (b == code.eof) _ _ end_fits (keyed_fits (value_behind b)))))))))))
 
+-- an item that is read whole fits
+abbrev PartFits : Part → Type 0
+PartFits (Whole x) = Fits x
+PartFits (Opens name type n) = Unit {0}
+
+abbrev PartsFit : Branch Part → Type 0
+PartsFit branch = (p : Part) (word : List ℕ) → BranchSpells branch p word → PartFits p
+
+pick_parts : (test : Bool) (one other : Branch Part) → PartsFit one → PartsFit other → PartsFit (pick test one other)
+pick_parts true one other f g = f
+pick_parts false one other f g = g
+
+opens_fits : (type : Collection) → PartsFit (opens type)
+opens_fits type p word s = subst PartFits (sym s.5.5.0) tt
+
+turned_fits : (branch : Branch Item) → AllFit branch → PartsFit (turned Whole branch)
+turned_fits (Goes one) f p word s = subst PartFits (sym s.5.0) (f s.0 s.1 s.4)
+turned_fits (Refuses is) f p word s = absurd s
+
+part_fits : (b : ℕ) → PartsFit (part_behind b)
+part_fits b =
+    pick_parts (b == code.list) _ _ (opens_fits of.List)
+    (pick_parts (b == code.set) _ _ (opens_fits of.Set)
+    (pick_parts (b == code.hash) _ _ (opens_fits of.Hash)
+    (pick_parts (b == code.sorted_set) _ _ (opens_fits of.SortedSet) (turned_fits (whole_behind b) (behind_fits b)))))
+
+-- what is left of an item that fits is an item that fits
+left_fits : (p : Part) (x : Item) (word : List ℕ) → PartFits p → (left_of p).Spells x word → Fits x
+left_fits (Whole y) x word f s = fit_as x y s.0 f
+left_fits (Opens name type n) x word f s = fit_as x (Key name s.0) s.5.0 tt
+
 item_fits : (x : Item) (bytes : List ℕ) (at next : ℕ) → Stands item x bytes at next → Fits x
-item_fits x bytes at next s = behind_fits s.spelled.0 x s.spelled.1 s.spelled.3
+item_fits x bytes at next s =
+    left_fits s.spelled.0 x s.spelled.2 (part_fits s.spelled.4.0 s.spelled.0 s.spelled.4.1 s.spelled.4.3) s.spelled.5
 
 pub deadline_fits : (n : ℕ) (bytes : List ℕ) (at next : ℕ) → Stands item (Deadline n) bytes at next → n < 2 ^ 63
 deadline_fits n = item_fits (Deadline n)

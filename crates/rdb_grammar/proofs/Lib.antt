@@ -1,6 +1,9 @@
 pub mod Exactly
 pub mod PartsExact
 pub mod Standing
+pub mod Partly
+pub mod Magnitudes
+pub mod Turns
 pub mod HeaderExact
 pub mod Loading
 pub mod OneWorld

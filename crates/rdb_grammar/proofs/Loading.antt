@@ -1,6 +1,6 @@
 -- One turn of a loop over the items of a file, for any item.
-use Rattle.std.proofs.Common.{◌≡◌, inl, inr, ℕ, suc, ◌+◌, ◌-◌, ◌<◌, ◌≤◌, true, false, List, [], ◌∷◌, ◌++◌, length, take, drop, refl, sym, ap, subst, arith}
-use Rattle.std.proofs.lemmas.List.{take-append-drop, length-take, length-drop}
+use Rattle.std.proofs.Common.{◌≡◌, inl, inr, ℕ, suc, ◌+◌, ◌-◌, ◌<◌, ◌≤◌, true, false, List, [], ◌∷◌, ◌++◌, length, take, drop, refl, sym, ap, ◌∙◌, subst, arith}
+use Rattle.std.proofs.lemmas.List.{take-append-drop, length-append, length-take, length-drop}
 use Rattle.rdb_grammar.specs.declared.fault.LoadKind.{LoadKind}
 use Rattle.rdb_grammar.specs.declared.fault.LoadKind.TheVariants as kinds
 use Rattle.rdb_grammar.specs.Items.{Item, End, item}
@@ -10,8 +10,9 @@ use Rattle.rdb_grammar.specs.Files.{header, State, new_state, is_fresh, is_end, 
 -- an item has a byte at least
 pub longer : (x : Item) (bytes : List ℕ) (at next : ℕ) → Stands item x bytes at next → at < next
 longer x bytes at next s =
-    let word : length (take (next - at) (drop at bytes)) ≡ suc (length (s.spelled.1)) = ap length s.spelled.2 in
-    omega (arith, word, length-take (next - at) (drop at bytes))
+    let word : length (take (next - at) (drop at bytes)) ≡ length s.spelled.1 + length s.spelled.2 = ap length s.spelled.3 ∙ length-append s.spelled.1 s.spelled.2 in
+    let front : length s.spelled.1 ≡ suc (length s.spelled.4.1) = ap length s.spelled.4.2 in
+    omega (arith, word, front, length-take (next - at) (drop at bytes))
 
 -- a fresh item may stand behind those before it
 pub taken : (state : State) (x : Item) (bytes : List ℕ) (at next : ℕ) → Stands item x bytes at next → is_fresh state x ≡ true → Stands (next_in state) x bytes at next

@@ -1,15 +1,19 @@
 -- Each part is exact, by its build.
-use Rattle.std.proofs.Common.{ℕ, ◌==◌, ◌||◌}
+use Rattle.std.proofs.Common.{ℕ, zero, suc, ◌==◌, ◌||◌}
 use Rattle.std.specs.Int.{Width, w8, w32, w64, byte_len}
-use Rattle.plain_world.specs.Worlds.{Value}
+use Rattle.plain_world.specs.Worlds.{Value, Str, ListOf, SetOf, HashOf, SortedOf, StreamOf}
 use Rattle.rdb_grammar.specs.declared.fault.LoadKind.{LoadKind}
 use Rattle.rdb_grammar.specs.declared.fault.LoadKind.TheVariants as kinds
 use Rattle.rdb_grammar.specs.Codes as code
-use Rattle.rdb_grammar.specs.Format.{Format, Branch, Goes, Refuses}
+use Rattle.rdb_grammar.specs.Format.{Format, Branch, Goes, Refuses, in_turn}
 use Rattle.rdb_grammar.specs.Lengths.{number, number_le, length_behind, a_length}
 use Rattle.rdb_grammar.specs.Strings.{Head, Len, Num, head_behind, head, is_short, body, string}
 use Rattle.rdb_grammar.specs.Values.{string_value, is_old, value_behind}
-use Rattle.rdb_grammar.specs.Items.{keyed, passed, two, deadline_in, database, item_behind, item}
+use Rattle.rdb_grammar.specs.Scores.{is_score, score}
+use Rattle.rdb_grammar.specs.Elements.{Map, fresh, with_one, without_any, filled}
+use Rattle.rdb_grammar.specs.declared.values.Collection.{Collection}
+use Rattle.rdb_grammar.specs.declared.values.Collection.TheVariants as of
+use Rattle.rdb_grammar.specs.Items.{Part, Whole, Opens, keyed, passed, two, deadline_in, database, whole_behind, opens, part_behind, part, left_of, item}
 use Rattle.rdb_grammar.proofs.Exactly.{Exact, BranchExact, goes-exact, refuses-exact, give-exact, some_bytes-exact, followed-exact, checked-exact, pick-exact, turned-exact, by_first-exact}
 
 pub number-exact : (w : Width) → Exact (number w)
@@ -65,8 +69,8 @@ deadline_in-exact w unit = followed-exact _ _ (checked-exact _ _ _ _ (number_le-
 database-exact : Exact database
 database-exact = checked-exact _ _ _ _ a_length-exact
 
-item_behind-exact : (b : ℕ) → BranchExact (item_behind b)
-item_behind-exact b =
+whole_behind-exact : (b : ℕ) → BranchExact (whole_behind b)
+whole_behind-exact b =
     pick-exact (b == code.function || b == code.old_function) _ _ (refuses-exact kinds.Functions)
     (pick-exact (b == code.module_data) _ _ (refuses-exact kinds.Module)
     (pick-exact (b == code.idle) _ _ (passed-exact _ a_length-exact)
@@ -78,5 +82,45 @@ item_behind-exact b =
     (pick-exact _ _ _ (goes-exact _ (followed-exact _ _ database-exact λ n. give-exact _))
     (pick-exact _ _ _ (goes-exact _ (give-exact _)) (keyed-exact _ (value_behind-exact b)))))))))))
 
+pub score-exact : Exact score
+score-exact = followed-exact _ _ (checked-exact kinds.ScoreRange 0 is_score _ (number_le-exact w64)) λ word. give-exact _
+
+-- parts in turn are exact, if each is
+pub in_turn-exact : {S : Type 0} (one : S → Format S) → ((made : S) → Exact (one made)) → (n : ℕ) (made : S) → Exact (in_turn one n made)
+unfolding in_turn
+in_turn-exact one e zero made = give-exact made
+in_turn-exact one e (suc n) made = followed-exact (one made) (λ more. in_turn one n more) (e made) λ more. in_turn-exact one e n more
+
+fresh-exact : {A : Type 0} (before : Map A) → Exact (fresh before)
+fresh-exact before = checked-exact kinds.DuplicateElement 0 _ string string-exact
+
+pub with_one-exact : (made : Value) → Exact (with_one made)
+with_one-exact (Str text) = give-exact _
+with_one-exact (ListOf elements) = followed-exact _ _ string-exact λ text. give-exact _
+with_one-exact (SetOf members) = followed-exact _ _ (fresh-exact members) λ text. give-exact _
+with_one-exact (HashOf fields) = followed-exact _ _ (fresh-exact fields) λ text. followed-exact _ _ string-exact λ value. give-exact _
+with_one-exact (SortedOf scores) = followed-exact _ _ (fresh-exact scores) λ text. followed-exact _ _ score-exact λ n. give-exact _
+with_one-exact (StreamOf stream) = give-exact _
+
+pub filled-exact : (type : Collection) (n : ℕ) → Exact (filled type n)
+filled-exact type n = in_turn-exact with_one with_one-exact n (without_any type)
+
+opens-exact : (type : Collection) → BranchExact (opens type)
+opens-exact type = goes-exact _ (followed-exact _ _ string-exact λ name. followed-exact _ _ a_length-exact λ n. give-exact _)
+
+part_behind-exact : (b : ℕ) → BranchExact (part_behind b)
+part_behind-exact b =
+    pick-exact (b == code.list) _ _ (opens-exact of.List)
+    (pick-exact (b == code.set) _ _ (opens-exact of.Set)
+    (pick-exact (b == code.hash) _ _ (opens-exact of.Hash)
+    (pick-exact (b == code.sorted_set) _ _ (opens-exact of.SortedSet) (turned-exact Whole _ (whole_behind-exact b)))))
+
+pub part-exact : Exact part
+part-exact = by_first-exact part_behind part_behind-exact
+
+left_of-exact : (p : Part) → Exact (left_of p)
+left_of-exact (Whole x) = give-exact x
+left_of-exact (Opens name type n) = followed-exact _ _ (filled-exact type n) λ value. give-exact _
+
 pub item-exact : Exact item
-item-exact = by_first-exact item_behind item_behind-exact
+item-exact = followed-exact part left_of part-exact left_of-exact

@@ -48,6 +48,19 @@ eof = 255
 abbrev pub string : ℕ
 string = 0
 
+-- a list, a set, a hash, a sorted set: their elements one behind the other
+abbrev pub list : ℕ
+list = 1
+
+abbrev pub set : ℕ
+set = 2
+
+abbrev pub hash : ℕ
+hash = 4
+
+abbrev pub sorted_set : ℕ
+sorted_set = 5
+
 -- a sorted set with scores as texts
 abbrev pub old_sorted_set : ℕ
 old_sorted_set = 3

@@ -1,9 +1,10 @@
 -- A whole file, and what it means (RDB file format, "High level algorithm to parse RDB").
 use Rattle.std.specs.Prelude.{◌≡◌, ◌⊎◌, ℕ, Bool, true, false, Option, Some, None, is_none, List, [], ◌∷◌, length, take, Err, nat_eq, bytes_eq, codes, ◌||◌, ◌==◌, if◌then◌else◌}
 use Rattle.std.specs.Cmp.Lexicographic.{pointwise}
+use Rattle.std.specs.FinMap.{len}
 use Rattle.std.specs.Int.{w64}
 use Rattle.digests.specs.Crc.{crc_of}
-use Rattle.plain_world.specs.Worlds.{World, Value, new_world, in_time, look, put}
+use Rattle.plain_world.specs.Worlds.{World, Value, Str, ListOf, SetOf, HashOf, SortedOf, StreamOf, new_world, in_time, look, put}
 use Rattle.rdb_grammar.specs.declared.fault.LoadKind.{LoadKind}
 use Rattle.rdb_grammar.specs.declared.fault.LoadKind.TheVariants as kinds
 use Rattle.rdb_grammar.specs.Format.{Format, some_bytes, followed, checked}
@@ -66,10 +67,23 @@ is_end (Database n) = false
 is_end End = true
 is_end (Key name value) = false
 
--- a key whose deadline the moment is past is passed over
+-- a collection without an element; a stream is kept without one
+abbrev pub is_void : Value → Bool
+is_void (Str text) = false
+is_void (ListOf elements) = length elements == 0
+is_void (SetOf members) = len members == 0
+is_void (HashOf fields) = len fields == 0
+is_void (SortedOf scores) = len scores == 0
+is_void (StreamOf stream) = false
+
+-- a key is kept unless its value is such a collection, or the moment is past its deadline
+abbrev pub is_kept : ℕ → Option ℕ → Value → Bool
+is_kept moment deadline value = if is_void value then false else in_time moment deadline
+
+-- a key that isn't kept is passed over
 abbrev pub with_key : ℕ → State → List ℕ → Value → World
 with_key moment state name value =
-    if in_time moment state.deadline then put state.world name (record { value = value; deadline = state.deadline })
+    if is_kept moment state.deadline value then put state.world name (record { value = value; deadline = state.deadline })
     else state.world
 
 -- what an item makes of the state

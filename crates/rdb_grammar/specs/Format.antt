@@ -1,6 +1,6 @@
 -- A format says which bytes spell a value, which bytes have which first fault, and how both are found from left to
 -- right.
-use Rattle.std.specs.Prelude.{◌≡◌, ◌⊎◌, ℕ, suc, ◌-◌, ◌<◌, Bool, true, false, List, [], ◌∷◌, ◌++◌, length, take, drop, Result, Ok, Err, nat_lt, if◌then◌else◌}
+use Rattle.std.specs.Prelude.{◌≡◌, ◌⊎◌, ℕ, zero, suc, ◌-◌, ◌<◌, Bool, true, false, List, [], ◌∷◌, ◌++◌, length, take, drop, Result, Ok, Err, nat_lt, if◌then◌else◌}
 use Rattle.rdb_grammar.specs.declared.fault.LoadKind.{LoadKind}
 use Rattle.rdb_grammar.specs.declared.fault.LoadKind.TheVariants.{Ended}
 
@@ -60,6 +60,11 @@ checked {A = A} kind skip test one = record {
       ⊎ ((x : A) × (front : List ℕ) × (back : List ℕ) × (bytes ≡ front ++ back) × one.Spells x front
       × (test x ≡ false) × (other ≡ kind) × (left ≡ length bytes - skip));
 }
+
+-- so many parts one behind the other, each by what those before it made
+unfoldable pub in_turn : {S : Type 0} → (S → Format S) → ℕ → S → Format S
+in_turn one zero made = give made
+in_turn one (suc n) made = followed (one made) λ more. in_turn one n more
 
 -- how it goes on behind a first byte, or that this byte is refused
 pub data Branch (A : Type 0) : Type 1 where

@@ -4,10 +4,13 @@ use Rattle.std.specs.Prelude.{ℕ, ◌-◌, ◌*◌, ◌^◌, Bool, List, nat_lt
 use Rattle.std.specs.Int.{Width, w32, w64, byte_len}
 use Rattle.plain_world.specs.Worlds.{Value}
 use Rattle.rdb_grammar.specs.declared.fault.LoadKind.TheVariants as kinds
+use Rattle.rdb_grammar.specs.declared.values.Collection.{Collection}
+use Rattle.rdb_grammar.specs.declared.values.Collection.TheVariants as of
 use Rattle.rdb_grammar.specs.Codes as code
-use Rattle.rdb_grammar.specs.Format.{Format, give, some_bytes, followed, checked, Branch, Goes, Refuses, pick, by_first}
+use Rattle.rdb_grammar.specs.Format.{Format, give, some_bytes, followed, checked, Branch, Goes, Refuses, pick, turned, by_first}
 use Rattle.rdb_grammar.specs.Lengths.{number_le, a_length}
 use Rattle.rdb_grammar.specs.Strings.{string}
+use Rattle.rdb_grammar.specs.Elements.{filled}
 use Rattle.rdb_grammar.specs.Values.{value_behind}
 
 -- what an item says: nothing that is kept, a deadline in milliseconds for the next key, the database of the keys that
@@ -48,8 +51,8 @@ abbrev pub database : Format ℕ
 database = checked kinds.Database 0 (λ n. nat_lt n 16) a_length
 
 -- what stands behind an opcode; any other byte is a value's type
-abbrev pub item_behind : ℕ → Branch Item
-item_behind b =
+abbrev pub whole_behind : ℕ → Branch Item
+whole_behind b =
     pick (b == code.function || b == code.old_function) (Refuses kinds.Functions)
     (pick (b == code.module_data) (Refuses kinds.Module)
     (pick (b == code.idle) (passed a_length)
@@ -61,5 +64,30 @@ item_behind b =
     (pick (b == code.select_db) (Goes (followed database λ n. give (Database n)))
     (pick (b == code.eof) (Goes (give End)) (keyed (value_behind b)))))))))))
 
+-- The first part of an item: all of it, or of a key with a collection what stands before the elements, of which so many
+-- follow.
+pub data Part : Type 0 where
+  Whole : Item → Part
+  Opens : List ℕ → Collection → ℕ → Part
+
+-- a key's string, and then the number of its collection's elements
+abbrev pub opens : Collection → Branch Part
+opens type = Goes (followed string λ name. followed a_length λ n. give (Opens name type n))
+
+abbrev pub part_behind : ℕ → Branch Part
+part_behind b =
+    pick (b == code.list) (opens of.List)
+    (pick (b == code.set) (opens of.Set)
+    (pick (b == code.hash) (opens of.Hash)
+    (pick (b == code.sorted_set) (opens of.SortedSet) (turned Whole (whole_behind b)))))
+
+abbrev pub part : Format Part
+part = by_first part_behind
+
+-- what is left of an item behind its first part: nothing, or the elements
+abbrev pub left_of : Part → Format Item
+left_of (Whole x) = give x
+left_of (Opens name type n) = followed (filled type n) λ value. give (Key name value)
+
 abbrev pub item : Format Item
-item = by_first item_behind
+item = followed part left_of

@@ -2,6 +2,8 @@ pub mod Codes
 pub mod Format
 pub mod Lengths
 pub mod Strings
+pub mod Scores
+pub mod Elements
 pub mod Values
 pub mod Items
 pub mod Places

@@ -5,7 +5,7 @@ use Rattle.rdb_grammar.specs.declared.fault.ItemFault.{ItemFault}
 use Rattle.rdb_grammar.specs.declared.fault.ItemFault.TheVariants as faults
 use Rattle.rdb_grammar.specs.Format.{Fault}
 use Rattle.rdb_grammar.specs.declared.fault.LoadKind.{LoadKind}
-use Rattle.rdb_grammar.specs.Items.{Item, End, item}
+use Rattle.rdb_grammar.specs.Items.{End, Part, Whole, Opens, part, item}
 use Rattle.rdb_grammar.specs.Places.{Stands, Fails}
 use Rattle.rdb_grammar.specs.Files.{sum_field}
 
@@ -14,11 +14,16 @@ abbrev pub Returns : {X Y : Type 0} → (X → Y) → Result X Refused → Resul
 Returns view (Ok x) read = read ≡ Ok (view x)
 Returns view (Err e) read = read ≡ Err (e.kind, e.left)
 
--- the item stands at a place, up to the next one; the end stands there with its checksum field
-abbrev pub IsItemAt : List ℕ → ℕ → ℕ → Item → Type 0
-IsItemAt bytes at next End =
+-- an item stands at a place, up to the next one; of a key with a collection what stands before the elements does
+abbrev pub IsPartAt : List ℕ → ℕ → ℕ → Part → Type 0
+IsPartAt bytes at next (Whole x) = Stands item x bytes at next
+IsPartAt bytes at next (Opens name type n) = Stands part (Opens name type n) bytes at next
+
+-- the same, but the end stands there with its checksum field
+abbrev pub IsItemAt : List ℕ → ℕ → ℕ → Part → Type 0
+IsItemAt bytes at next (Whole End) =
     (ended sum : ℕ) × Stands item End bytes at ended × Stands (sum_field (take ended bytes)) sum bytes ended next
-IsItemAt bytes at next x = Stands item x bytes at next
+IsItemAt bytes at next other = IsPartAt bytes at next other
 
 -- an item is due at a place and has this first fault, or its checksum field has it
 pub data IsItemFault (bytes : List ℕ) (at : ℕ) (kind : LoadKind) (place : ℕ) : Type 0 where

@@ -2,7 +2,7 @@
 use Rattle.std.specs.Prelude.{ℕ, List}
 use Rattle.std.specs.Int.{w8, w16, w32}
 use Rattle.std.specs.Fmt.{signed_decimal}
-use Rattle.plain_world.specs.Worlds.{Value, Str}
+use Rattle.plain_world.specs.Worlds.{Str}
 use Rattle.rdb_grammar.specs.declared.strings.Chunk.{Chunk}
 use Rattle.rdb_grammar.specs.declared.strings.Chunk.TheVariants as chunks
 use Rattle.rdb_grammar.specs.declared.strings.Head.{Head as CodeHead}
@@ -12,7 +12,7 @@ use Rattle.rdb_grammar.specs.declared.values.FileValue.TheVariants as values
 use Rattle.rdb_grammar.specs.declared.items.Meaning.{Meaning}
 use Rattle.rdb_grammar.specs.declared.items.Meaning.TheVariants as meanings
 use Rattle.rdb_grammar.specs.Strings.{Head, Len, Num}
-use Rattle.rdb_grammar.specs.Items.{Item, Passed, Deadline, Database, End, Key}
+use Rattle.rdb_grammar.specs.Items.{Passed, Deadline, Database, End, Key, Part, Whole, Opens}
 
 -- what a string says
 abbrev pub text_of : Chunk → List ℕ
@@ -25,12 +25,14 @@ head_of heads.Int8 = Num w8
 head_of heads.Int16 = Num w16
 head_of heads.Int32 = Num w32
 
-abbrev pub value_of : FileValue → Value
-value_of (values.Text chunk) = Str (text_of chunk)
+-- a key with its value, or with the number of elements that follow
+abbrev pub key_of : List ℕ → FileValue → Part
+key_of name (values.Text chunk) = Whole (Key name (Str (text_of chunk)))
+key_of name (values.Elements type n) = Opens name type n
 
-abbrev pub item_of : Meaning → Item
-item_of meanings.Passed = Passed
-item_of (meanings.Deadline n) = Deadline n
-item_of (meanings.Database n) = Database n
-item_of meanings.End = End
-item_of (meanings.Key name value) = Key (text_of name) (value_of value)
+abbrev pub part_said : Meaning → Part
+part_said meanings.Passed = Whole Passed
+part_said (meanings.Deadline n) = Whole (Deadline n)
+part_said (meanings.Database n) = Whole (Database n)
+part_said meanings.End = Whole End
+part_said (meanings.Key name value) = key_of (text_of name) value

@@ -25,6 +25,14 @@ pub(crate) const EOF: u8 = 255;
 
 /// A string.
 pub(crate) const STRING: u8 = 0;
+/// A list, a set, a hash, a sorted set: their elements one behind the other.
+pub(crate) const LIST: u8 = 1;
+
+pub(crate) const SET: u8 = 2;
+
+pub(crate) const HASH: u8 = 4;
+
+pub(crate) const SORTED_SET: u8 = 5;
 /// A sorted set with scores as texts.
 pub(crate) const OLD_SORTED_SET: u8 = 3;
 /// A module's value, of either version.

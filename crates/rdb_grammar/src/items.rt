@@ -1,19 +1,20 @@
 //! Items: what stands behind an opcode or the type of a value.
 
 ghost use Rattle.std.specs.Prelude.{◌≡◌, ℕ, List};
-ghost use Rattle.rdb_grammar.specs.Format.{Refuses, branch_read};
-ghost use Rattle.rdb_grammar.specs.Items.{key_with, item_behind as item_behind_of, item};
+ghost use Rattle.rdb_grammar.specs.Format.{Goes, Refuses, turned, branch_read};
+ghost use Rattle.rdb_grammar.specs.Items.{Whole, key_with, opens, whole_behind as whole_behind_of, part_behind as part_behind_of, part};
 ghost use Rattle.rdb_grammar.specs.Values.{string_value};
-ghost use Rattle.rdb_grammar.specs.Views.{item_of as item_seen};
+ghost use Rattle.rdb_grammar.specs.Views.{part_said};
 ghost use Rattle.rdb_grammar.specs.Returns.{Returns};
 
 use crate::codes;
 use crate::fault::{LoadKind, Refused};
+use crate::lengths::length_of;
 use crate::opcodes::{
     database, deadline_in_ms, deadline_in_seconds, frequency, idle_time, name_and_text, sizes,
 };
 use crate::strings::{Chunk, string_of};
-use crate::values::{FileValue, text_value};
+use crate::values::{Collection, FileValue};
 
 /// What an item says.
 #[derive(Clone, Copy, Debug)]
@@ -35,16 +36,27 @@ pub enum Meaning<'a> {
 
 /// A key, and a value of type 0.
 fn text_item_of(bytes: &[u8]) -> Result<(Meaning<'_>, &[u8]), Refused>
-    ensures { Returns (λ x. (item_seen x.0, x.1.now)) result ((key_with string_value).read bytes.now) }
+    ensures { Returns (λ x. (part_said x.0, x.1.now)) result (branch_read (turned Whole (Goes (key_with string_value))) bytes.now) }
 {
     let (name, rest) = string_of(bytes)?;
-    let (value, rest) = text_value(rest)?;
+    let (text, rest) = string_of(rest)?;
+    let value = FileValue::Text(text);
+    Ok((Meaning::Key { name, value }, rest))
+}
+
+/// A key, and how many elements its collection has.
+fn collection_of(collection: Collection, bytes: &[u8]) -> Result<(Meaning<'_>, &[u8]), Refused>
+    ensures { Returns (λ x. (part_said x.0, x.1.now)) result (branch_read (opens collection) bytes.now) }
+{
+    let (name, rest) = string_of(bytes)?;
+    let (count, rest) = length_of(rest)?;
+    let value = FileValue::Elements(collection, count);
     Ok((Meaning::Key { name, value }, rest))
 }
 
 // The byte before these is refused.
 fn refused(kind: LoadKind, rest: &[u8]) -> Result<(Meaning<'_>, &[u8]), Refused>
-    ensures { Returns (λ x. (item_seen x.0, x.1.now)) result (branch_read (Refuses kind) rest.now) }
+    ensures { Returns (λ x. (part_said x.0, x.1.now)) result (branch_read (turned Whole (Refuses kind)) rest.now) }
 {
     Err(Refused {
         kind,
@@ -52,8 +64,8 @@ fn refused(kind: LoadKind, rest: &[u8]) -> Result<(Meaning<'_>, &[u8]), Refused>
     })
 }
 
-fn item_behind(first: u8, rest: &[u8]) -> Result<(Meaning<'_>, &[u8]), Refused>
-    ensures { Returns (λ x. (item_seen x.0, x.1.now)) result (branch_read (item_behind_of first) rest.now) }
+fn whole_behind(first: u8, rest: &[u8]) -> Result<(Meaning<'_>, &[u8]), Refused>
+    ensures { Returns (λ x. (part_said x.0, x.1.now)) result (branch_read (turned Whole (whole_behind_of first)) rest.now) }
 {
     match first {
         codes::STRING => text_item_of(rest),
@@ -77,15 +89,27 @@ fn item_behind(first: u8, rest: &[u8]) -> Result<(Meaning<'_>, &[u8]), Refused>
     }
 }
 
-/// The item that the bytes begin with.
-pub(crate) fn item_of(bytes: &[u8]) -> Result<(Meaning<'_>, &[u8]), Refused>
-    ensures { Returns (λ x. (item_seen x.0, x.1.now)) result (item.read bytes.now) }
+fn part_behind(first: u8, rest: &[u8]) -> Result<(Meaning<'_>, &[u8]), Refused>
+    ensures { Returns (λ x. (part_said x.0, x.1.now)) result (branch_read (part_behind_of first) rest.now) }
+{
+    match first {
+        codes::LIST => collection_of(Collection::List, rest),
+        codes::SET => collection_of(Collection::Set, rest),
+        codes::HASH => collection_of(Collection::Hash, rest),
+        codes::SORTED_SET => collection_of(Collection::SortedSet, rest),
+        _ => whole_behind(first, rest),
+    }
+}
+
+/// The item that the bytes begin with; of a key with a collection what stands before the elements.
+pub(crate) fn first_part(bytes: &[u8]) -> Result<(Meaning<'_>, &[u8]), Refused>
+    ensures { Returns (λ x. (part_said x.0, x.1.now)) result (part.read bytes.now) }
 {
     match bytes {
         [] => Err(Refused {
             kind: LoadKind::Ended,
             left: 0,
         }),
-        [first, rest @ ..] => item_behind(*first, rest),
+        [first, rest @ ..] => part_behind(*first, rest),
     }
 }

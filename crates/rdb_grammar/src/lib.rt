@@ -2,21 +2,24 @@
 #![tactic(auto)]
 
 mod codes;
+mod elements;
 mod fault;
 mod file;
 mod items;
 mod lengths;
 mod next;
 mod opcodes;
+mod scores;
 mod strings;
 mod values;
 
+pub use elements::{next_score, next_string};
 pub use fault::{FileFault, ItemFault, LoadKind};
 pub use file::{check_header, each_file_has_one_world_or_one_fault};
 pub use items::Meaning;
 pub use next::{Item, next_item};
 pub use strings::Chunk;
-pub use values::FileValue;
+pub use values::{Collection, FileValue};
 
 /// Memory was refused.
 pub type Memory = std::alloc::AllocError;

@@ -2,11 +2,11 @@
 
 ghost use Rattle.std.specs.Prelude.{◌≡◌, ℕ, List};
 ghost use Rattle.std.specs.Int.{w32, w64};
-ghost use Rattle.rdb_grammar.specs.Format.{give, some_bytes, followed, branch_read};
+ghost use Rattle.rdb_grammar.specs.Format.{give, some_bytes, followed, turned, Goes, branch_read};
 ghost use Rattle.rdb_grammar.specs.Lengths.{a_length};
 ghost use Rattle.rdb_grammar.specs.Strings.{string};
-ghost use Rattle.rdb_grammar.specs.Items.{passed, two, deadline_in, database as database_of, Database};
-ghost use Rattle.rdb_grammar.specs.Views.{item_of};
+ghost use Rattle.rdb_grammar.specs.Items.{passed, two, deadline_in, database as database_of, Database, Whole};
+ghost use Rattle.rdb_grammar.specs.Views.{part_said};
 ghost use Rattle.rdb_grammar.specs.Returns.{Returns};
 
 use crate::fault::{LoadKind, Refused};
@@ -22,7 +22,7 @@ const DATABASES: u64 = 16;
 
 /// How long the next key was idle: a length.
 pub(crate) fn idle_time(bytes: &[u8]) -> Result<(Meaning<'_>, &[u8]), Refused>
-    ensures { Returns (λ x. (item_of x.0, x.1.now)) result (branch_read (passed a_length) bytes.now) }
+    ensures { Returns (λ x. (part_said x.0, x.1.now)) result (branch_read (turned Whole (passed a_length)) bytes.now) }
 {
     let (_, rest) = length_of(bytes)?;
     Ok((Meaning::Passed, rest))
@@ -30,7 +30,7 @@ pub(crate) fn idle_time(bytes: &[u8]) -> Result<(Meaning<'_>, &[u8]), Refused>
 
 /// How often the next key is used: a byte.
 pub(crate) fn frequency(bytes: &[u8]) -> Result<(Meaning<'_>, &[u8]), Refused>
-    ensures { Returns (λ x. (item_of x.0, x.1.now)) result (branch_read (passed (some_bytes 1)) bytes.now) }
+    ensures { Returns (λ x. (part_said x.0, x.1.now)) result (branch_read (turned Whole (passed (some_bytes 1))) bytes.now) }
 {
     let (_, rest) = part_of(bytes, 1)?;
     Ok((Meaning::Passed, rest))
@@ -38,7 +38,7 @@ pub(crate) fn frequency(bytes: &[u8]) -> Result<(Meaning<'_>, &[u8]), Refused>
 
 /// A name and what it says of the file: two strings.
 pub(crate) fn name_and_text(bytes: &[u8]) -> Result<(Meaning<'_>, &[u8]), Refused>
-    ensures { Returns (λ x. (item_of x.0, x.1.now)) result (branch_read (passed (two string)) bytes.now) }
+    ensures { Returns (λ x. (part_said x.0, x.1.now)) result (branch_read (turned Whole (passed (two string))) bytes.now) }
 {
     let (_, rest) = string_of(bytes)?;
     let (_, rest) = string_of(rest)?;
@@ -47,7 +47,7 @@ pub(crate) fn name_and_text(bytes: &[u8]) -> Result<(Meaning<'_>, &[u8]), Refuse
 
 /// How many keys and how many deadlines follow in a database: two lengths.
 pub(crate) fn sizes(bytes: &[u8]) -> Result<(Meaning<'_>, &[u8]), Refused>
-    ensures { Returns (λ x. (item_of x.0, x.1.now)) result (branch_read (passed (two a_length)) bytes.now) }
+    ensures { Returns (λ x. (part_said x.0, x.1.now)) result (branch_read (turned Whole (passed (two a_length))) bytes.now) }
 {
     let (_, rest) = length_of(bytes)?;
     let (_, rest) = length_of(rest)?;
@@ -56,7 +56,7 @@ pub(crate) fn sizes(bytes: &[u8]) -> Result<(Meaning<'_>, &[u8]), Refused>
 
 /// A deadline in milliseconds: 8 bytes, of a signed number.
 pub(crate) fn deadline_in_ms(bytes: &[u8]) -> Result<(Meaning<'_>, &[u8]), Refused>
-    ensures { Returns (λ x. (item_of x.0, x.1.now)) result ((deadline_in w64 1).read bytes.now) }
+    ensures { Returns (λ x. (part_said x.0, x.1.now)) result (branch_read (turned Whole (Goes (deadline_in w64 1))) bytes.now) }
 {
     let (deadline, rest) = u64_le_at(bytes)?;
     if deadline >= BELOW_ZERO {
@@ -70,7 +70,7 @@ pub(crate) fn deadline_in_ms(bytes: &[u8]) -> Result<(Meaning<'_>, &[u8]), Refus
 
 /// A deadline in seconds: 4 bytes, of a signed number.
 pub(crate) fn deadline_in_seconds(bytes: &[u8]) -> Result<(Meaning<'_>, &[u8]), Refused>
-    ensures { Returns (λ x. (item_of x.0, x.1.now)) result ((deadline_in w32 1000).read bytes.now) }
+    ensures { Returns (λ x. (part_said x.0, x.1.now)) result (branch_read (turned Whole (Goes (deadline_in w32 1000))) bytes.now) }
 {
     let (deadline, rest) = u32_le_at(bytes)?;
     if deadline >= 1 << 31 {
@@ -84,7 +84,7 @@ pub(crate) fn deadline_in_seconds(bytes: &[u8]) -> Result<(Meaning<'_>, &[u8]), 
 
 /// The number of a database.
 pub(crate) fn database(bytes: &[u8]) -> Result<(Meaning<'_>, &[u8]), Refused>
-    ensures { Returns (λ x. (item_of x.0, x.1.now)) result ((followed database_of λ n. give (Database n)).read bytes.now) }
+    ensures { Returns (λ x. (part_said x.0, x.1.now)) result (branch_read (turned Whole (Goes (followed database_of λ n. give (Database n)))) bytes.now) }
 {
     let (number, rest) = length_of(bytes)?;
     if number >= DATABASES {

@@ -15,6 +15,7 @@ use Rattle.keyspace.specs.Scopes.{one_key, Within}
 use Rattle.keyspace.specs.Calls.{Found}
 use Rattle.plain_world.proofs.Lives.{shown, look_live}
 use Rattle.keyspace.proofs.Uses.{Made-means}
+use Rattle.rdb_grammar.specs.Files.{is_kept}
 use Rattle.rdb_reader.specs.declared.keys.Put.TheVariants as puts
 use Rattle.rdb_reader.specs.Loads.{Puts, any_key}
 
@@ -54,10 +55,13 @@ module _ (moment : ℕ) (old : World) (key : List ℕ) (entry : Entry) (there : 
   nothing None h = refl
   nothing (Some x) h = cc
 
+  pub lacks : there ≡ false → look old key ≡ None
+  lacks lacked = nothing (look old key) (sym is ∙ lacked)
+
   pub stood : there ≡ true → Puts moment old old key entry puts.Twice
   stood found none = let e : true ≡ false = sym found ∙ is ∙ ap is_some none in cc
 
-  pub passed_over : there ≡ false → in_time moment entry.deadline ≡ false → Puts moment old old key entry puts.Passed
+  pub passed_over : there ≡ false → is_kept moment entry.deadline entry.value ≡ false → Puts moment old old key entry puts.Passed
   passed_over lacked late = (nothing (look old key) (sym is ∙ lacked), late, refl)
 
 -- what the count of keys says of a key that was put
@@ -76,8 +80,8 @@ module _ (moment : ℕ) (old new : World) (key : List ℕ) (entry : Entry) (e : 
     pub put_twice : after ≡ before → Puts moment old new key entry puts.Twice
     put_twice same none = omega (arith, first, last, same, counted None none)
 
-    pub put_once : (after ≡ before → ⊥) → in_time moment entry.deadline ≡ true → Puts moment old new key entry puts.Kept
-    put_once other in_time = (lacked (look old key) refl, in_time, e)
+    pub put_once : (after ≡ before → ⊥) → is_kept moment entry.deadline entry.value ≡ true → Puts moment old new key entry puts.Kept
+    put_once other kept = (lacked (look old key) refl, kept, e)
       where
         lacked : (o : Option Entry) → look old key ≡ o → o ≡ None
         lacked None is = refl

@@ -4,7 +4,7 @@ use Rattle.std.specs.Prelude.{OnErr}
 use Rattle.plain_world.specs.Worlds.{World, Entry, new_world, in_time, live, put}
 use Rattle.plain_world.proofs.Lives.{live_none, live_put_in_time}
 use Rattle.rdb_grammar.specs.Items.{Item, Passed, Deadline, Database, End, Key}
-use Rattle.rdb_grammar.specs.Files.{State, new_state, after, Items, IsFile}
+use Rattle.rdb_grammar.specs.Files.{State, new_state, after, is_void, is_kept, Items, IsFile}
 use Rattle.rdb_reader.specs.declared.fault.LoadFault.{LoadFault}
 use Rattle.rdb_reader.specs.declared.fault.LoadFault.TheVariants as faults
 use Rattle.rdb_reader.specs.declared.loading.Loaded.{Loaded}
@@ -23,17 +23,22 @@ pub new_live : (moment : ℕ) → live new_world moment ≡ new_world
 new_live moment = λ i. record { bases = λ number. live_none moment i; selected = 0 }
 
 module _ (moment : ℕ) where
-  key_live : (state : State) (entry : Entry) (name : List ℕ) (late : Bool) → in_time moment entry.deadline ≡ late → live state.world moment ≡ state.world
-      → live (cond late (put state.world name entry) state.world) moment ≡ cond late (put state.world name entry) state.world
-  key_live state entry name true late is = live_put_in_time state.world moment name entry late ∙ ap (λ w. put w name entry) is
-  key_live state entry name false late is = is
+  -- what is kept is in time
+  timely : (void late : Bool) → cond void false late ≡ true → late ≡ true
+  timely true late e = absurd cc
+  timely false late e = e
+
+  key_live : (state : State) (entry : Entry) (name : List ℕ) (kept : Bool) → is_kept moment entry.deadline entry.value ≡ kept → live state.world moment ≡ state.world
+      → live (cond kept (put state.world name entry) state.world) moment ≡ cond kept (put state.world name entry) state.world
+  key_live state entry name true kept is = live_put_in_time state.world moment name entry (timely (is_void entry.value) (in_time moment entry.deadline) kept) ∙ ap (λ w. put w name entry) is
+  key_live state entry name false kept is = is
 
   after_live : (state : State) (x : Item) → live state.world moment ≡ state.world → live (after moment state x).world moment ≡ (after moment state x).world
   after_live state Passed is = is
   after_live state (Deadline n) is = is
   after_live state (Database n) is = λ i. record { bases = (is i).bases; selected = n }
   after_live state End is = is
-  after_live state (Key name value) is = key_live state (record { value = value; deadline = state.deadline }) name (in_time moment state.deadline) refl is
+  after_live state (Key name value) is = key_live state (record { value = value; deadline = state.deadline }) name (is_kept moment state.deadline value) refl is
 
   items_live : (bytes : List ℕ) (items : List Item) (at : ℕ) (old : State) (to : ℕ) (new : State) → Items bytes moment items at old to new → live old.world moment ≡ old.world → live new.world moment ≡ new.world
   unfolding Items

@@ -1,12 +1,12 @@
 -- One turn of the loader.
-use Rattle.std.proofs.Common.{◌≡◌, ℕ, zero, suc, ◌+◌, ◌<◌, ◌≤◌, List, [], ◌∷◌, ◌++◌, Option, Some, None, Err, true, false, cond, inl, inr, take, refl, sym, ap, subst, ◌∙◌, arith, lit<}
+use Rattle.std.proofs.Common.{◌≡◌, ℕ, zero, suc, ◌+◌, ◌<◌, ◌≤◌, List, [], ◌∷◌, ◌++◌, Option, Some, None, Result, Ok, Err, true, false, cond, inl, inr, take, refl, sym, ap, subst, ◌∙◌, arith, lit<}
 use Rattle.std.specs.Prelude.{is_none, is_some}
 use Rattle.std.specs.FinMap.{len, len-insert, len-empty}
 use Rattle.std.specs.Cmp.Lexicographic.{slice_cmp, nat_list_cmp_total}
 use Rattle.std.specs.Ordering.{nat_cmp}
 use Rattle.std.proofs.lemmas.Bool.{cases_lt, eq-eqb, ne_eqb, cond-true, cond-false}
-use Rattle.plain_world.specs.Worlds.{World, Database as Keys, Entry, Value, new_world, look, put, selecting, in_time}
-use Rattle.rdb_grammar.specs.Items.{Item, Passed, Deadline, Database, End, Key, item}
+use Rattle.plain_world.specs.Worlds.{World, Database as Keys, Entry, Value, new_world, look, put, selecting}
+use Rattle.rdb_grammar.specs.Items.{Item, Passed, Deadline, Database, End, Key, Opens, part, item}
 use Rattle.rdb_grammar.specs.declared.fault.LoadKind.TheVariants as kinds
 use Rattle.rdb_grammar.specs.Places.{Stands}
 use Rattle.rdb_grammar.specs.Files.{State, Reached, header, after, is_fresh, is_end, sum_field, IsFault}
@@ -14,11 +14,20 @@ use Rattle.rdb_grammar.proofs.Loading.{begins, begins_items, goes_on, goes_on_it
 use Rattle.rdb_grammar.proofs.Fitting.{deadline_fits, database_fits}
 use Rattle.rdb_grammar.specs.declared.fault.ItemFault.{ItemFault}
 use Rattle.rdb_grammar.specs.declared.fault.ItemFault.TheVariants as faults
-use Rattle.rdb_grammar.specs.Returns.{SaysFault}
+use Rattle.rdb_grammar.specs.Returns.{IsPartAt, IsItemAt, SaysFault}
+use Rattle.rdb_grammar.specs.Views.{key_of}
+use Rattle.rdb_grammar.specs.declared.values.Collection.{Collection}
+use Rattle.rdb_grammar.specs.declared.values.FileValue.{FileValue}
+use Rattle.rdb_grammar.specs.declared.values.FileValue.TheVariants as values
+use Rattle.rdb_grammar.proofs.Turns.{opened_stands, opened_fails}
+use Rattle.rdb_reader.specs.declared.keys.Put.{Put}
+use Rattle.rdb_reader.specs.declared.fault.LoadFault.{LoadFault}
+use Rattle.rdb_reader.specs.declared.fault.LoadFault.TheVariants as loads
+use Rattle.rdb_reader.specs.Building.{ReadsCollection}
 use Rattle.rdb_grammar.specs.Returns.IsItemFault.{OfItem, OfSum}
 use Rattle.rdb_reader.specs.declared.items.Progress.{Progress}
 use Rattle.rdb_reader.specs.declared.keys.Put.TheVariants as puts
-use Rattle.rdb_reader.specs.Loads.{keys_below, keys_of, keys_among, Puts, state_at, Holds, IsKept, IsRead, ReadsItem, load_fault}
+use Rattle.rdb_reader.specs.Loads.{keys_below, keys_of, keys_among, Puts, state_at, Holds, IsRead, ReadsKey, ReadsItem, load_fault}
 
 -- ---- the counts
 
@@ -110,10 +119,6 @@ module _ (bytes : List ℕ) (moment : ℕ) (world : World) (p : Progress) (h : H
           let same : keys_below 16 new.bases ≡ keys_below 16 world.bases = ap (λ (w : World). keys_below 16 w.bases) k.2 in
           (record { reached = f.0; items = omega (arith, f.1); keys = h.keys ∙ sym same; few = omega (arith, h.few, lt); within = s.inside; selected = h.selected; latest = tt }, lt)
 
-      -- memory is wanted for a key that is in time
-      pub key_wanted : in_time moment p.deadline ≡ true → IsKept bytes moment p
-      key_wanted in_time = record { name = name; value = value; next = next; stands = s; in_time = in_time }
-
       pub key_again : ((look (selecting world p.db) name ≡ None) → ⊥) → IsFault bytes moment kinds.DuplicateKey (p.at + 1)
       key_again some = twice bytes moment p.at state (Key name value) next h.reached s (there (look (selecting world p.db) name) some)
         where
@@ -129,11 +134,32 @@ module _ (bytes : List ℕ) (moment : ℕ) (world : World) (p : Progress) (h : H
       passed = h.items ∙ sym (ap keys_among (is_file_items bytes moment p.at state next sum last h.reached s k));
     }
 
+  -- what a fault of a key makes of loading
+  pub key_fault : (old new later : World) (name : List ℕ) (fault : LoadFault) → ReadsKey bytes moment p old new name (Err fault) → ReadsItem bytes moment p world later (Err fault)
+  key_fault old new later name (loads.Refused what place) f = item_fault bytes moment p.at state what place h.reached f
+  key_fault old new later name loads.Host f = f
+  key_fault old new later name loads.Limit f = f
+  key_fault old new later name loads.Memory f = f
+
   -- what a fault of an item makes of loading
   pub fault_read : (later : World) (f : ItemFault) → SaysFault bytes p.at f → ReadsItem bytes moment p world later (Err (load_fault f))
   fault_read later faults.Memory i = absurd i
   fault_read later (faults.Refused what place) (OfItem f) = item_fault bytes moment p.at state what place h.reached f
   fault_read later (faults.Refused what place) (OfSum ended s f) = sum_fault bytes moment p.at state ended what place h.reached s f
+
+-- a key is no end
+pub key_part : (bytes : List ℕ) (at next : ℕ) (name : List ℕ) (value : FileValue) → IsItemAt bytes at next (key_of name value) → IsPartAt bytes at next (key_of name value)
+key_part bytes at next name (values.Text chunk) h = h
+key_part bytes at next name (values.Elements type n) h = h
+
+-- a collection that was read makes the key read
+pub collection_key : (bytes : List ℕ) (moment : ℕ) (so_far : Progress) (old new : World) (name : List ℕ) (type : Collection) (n next : ℕ) → Stands part (Opens name type n) bytes so_far.at next
+    → (result : Result (Put × ℕ) LoadFault) → ReadsCollection bytes moment old new name type n next so_far.deadline result → ReadsKey bytes moment so_far old new name result
+collection_key bytes moment so_far old new name type n next s (Ok x) r = record { value = r.value; stands = opened_stands bytes so_far.at next x.1 name type n r.value s r.stands; puts = r.puts }
+collection_key bytes moment so_far old new name type n next s (Err (loads.Refused what place)) r = opened_fails bytes so_far.at next name type n what place s r
+collection_key bytes moment so_far old new name type n next s (Err loads.Host) r = r
+collection_key bytes moment so_far old new name type n next s (Err loads.Limit) r = r
+collection_key bytes moment so_far old new name type n next s (Err loads.Memory) r = inr (record { name = name; type = type; elements = n; next = next; stands = s })
 
 -- nothing is read yet
 pub holds_nothing : (bytes text : List ℕ) (moment next : ℕ) (world : World) → world ≡ new_world → Stands header text bytes 0 next → Holds bytes moment world (record { at = next; db = 0; deadline = None; keys = 0; passed = 0 })

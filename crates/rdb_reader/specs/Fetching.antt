@@ -4,7 +4,7 @@ use Rattle.std.specs.Io.KnownBytes.{IsAtEnd}
 use Rattle.std.specs.Global.{Vec}
 use Rattle.outside.specs.Counts.{Rose}
 use Rattle.outside.specs.Streams.{SourceSeen, TakesAll, TakesNone}
-use Rattle.outside.specs.Files.{Files, HostSeen, HasLeft}
+use Rattle.outside.specs.Files.{Files}
 use Rattle.rdb_reader.specs.Named.{IsFileOf, IsLongFile}
 use Rattle.rdb_reader.specs.declared.fault.LoadFault.{LoadFault}
 use Rattle.rdb_reader.specs.declared.fault.LoadFault.TheVariants as faults

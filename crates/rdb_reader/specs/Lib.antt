@@ -2,3 +2,5 @@ pub mod Named
 pub mod Taken
 pub mod Fetching
 pub mod Loads
+pub mod Building
+pub mod Forms

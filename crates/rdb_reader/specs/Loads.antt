@@ -1,12 +1,13 @@
 -- What loading does: the file's world or its first fault.
-use Rattle.std.specs.Prelude.{◌≡◌, ℕ, zero, suc, ◌+◌, ◌<◌, ◌≤◌, List, [], ◌∷◌, length, None, Result, Ok, Err, true, false}
+use Rattle.std.specs.Prelude.{◌≡◌, ◌⊎◌, ℕ, zero, suc, ◌+◌, ◌<◌, ◌≤◌, List, [], ◌∷◌, length, None, Result, Ok, Err, true, false}
 use Rattle.std.specs.FinMap.{len}
 use Rattle.plain_world.specs.Worlds.{World, Database as Keys, Entry, Value, new_world, in_time, look, put, selecting}
 use Rattle.rdb_grammar.specs.declared.fault.ItemFault.{ItemFault}
 use Rattle.rdb_grammar.specs.declared.fault.ItemFault.TheVariants as items
-use Rattle.rdb_grammar.specs.Items.{Item, Passed, Deadline, Database, End, Key, item}
-use Rattle.rdb_grammar.specs.Places.{Stands}
-use Rattle.rdb_grammar.specs.Files.{State, Reached, IsFile, IsFault}
+use Rattle.rdb_grammar.specs.Items.{Item, Passed, Deadline, Database, End, Key, Opens, part, item}
+use Rattle.rdb_grammar.specs.Places.{Stands, Fails}
+use Rattle.rdb_grammar.specs.Files.{State, Reached, is_kept, IsFile, IsFault}
+use Rattle.rdb_grammar.specs.declared.values.Collection.{Collection}
 use Rattle.held.specs.Calls.{IsDeadline}
 use Rattle.keyspace.specs.Scopes.{Scope, anything}
 use Rattle.outside.specs.Files.{Files}
@@ -37,12 +38,18 @@ abbrev pub keys_among : List Item → ℕ
 keys_among [] = 0
 keys_among (x ∷ xs) = keys_of x + keys_among xs
 
+-- what is to become of a key: it is put, or passed over; or it was there before
+abbrev pub IsFate : ℕ → World → List ℕ → Entry → Put → Type 0
+IsFate moment old key entry puts.Kept = (look old key ≡ None) × (is_kept moment entry.deadline entry.value ≡ true)
+IsFate moment old key entry puts.Passed = (look old key ≡ None) × (is_kept moment entry.deadline entry.value ≡ false)
+IsFate moment old key entry puts.Twice = (look old key ≡ None) → ⊥
+
 -- A key that wasn't there was put, or was passed over; or it was there.
 abbrev pub Puts : ℕ → World → World → List ℕ → Entry → Put → Type 0
 Puts moment old new key entry puts.Kept =
-    (look old key ≡ None) × (in_time moment entry.deadline ≡ true) × (new ≡ put old key entry)
+    (look old key ≡ None) × (is_kept moment entry.deadline entry.value ≡ true) × (new ≡ put old key entry)
 Puts moment old new key entry puts.Passed =
-    (look old key ≡ None) × (in_time moment entry.deadline ≡ false) × (new ≡ old)
+    (look old key ≡ None) × (is_kept moment entry.deadline entry.value ≡ false) × (new ≡ old)
 Puts moment old new key entry puts.Twice = (look old key ≡ None) → ⊥
 
 -- what the items so far have made
@@ -79,7 +86,30 @@ pub record IsKept (bytes : List ℕ) (moment : ℕ) (so_far : Progress) : Type 0
   pub stands : Stands item (Key name value) bytes so_far.at next
   pub in_time : in_time moment so_far.deadline ≡ true
 
--- the next item is read: memory is wanted for a key that is kept alone
+-- the next item is a key with a collection, which is built before it is known whether the key is kept
+pub record IsOpened (bytes : List ℕ) (so_far : Progress) : Type 0 where
+  pub name : List ℕ
+  pub type : Collection
+  pub elements : ℕ
+  pub next : ℕ
+  pub stands : Stands part (Opens name type elements) bytes so_far.at next
+
+-- what is read of a key, up to a place: its value, and what became of it
+pub record KeyRead (bytes : List ℕ) (moment : ℕ) (so_far : Progress) (old new : World) (name : List ℕ) (put : Put)
+    (last : ℕ) : Type 0 where
+  pub value : Value
+  pub stands : Stands item (Key name value) bytes so_far.at last
+  pub puts : Puts moment old new name (record { value = value; deadline = so_far.deadline }) put
+
+-- A key is read. Memory is wanted for a string that is kept alone, and for a collection.
+abbrev pub ReadsKey : List ℕ → ℕ → Progress → World → World → List ℕ → Result (Put × ℕ) LoadFault → Type 0
+ReadsKey bytes moment so_far old new name (Ok x) = KeyRead bytes moment so_far old new name x.0 x.1
+ReadsKey bytes moment so_far old new name (Err (faults.Refused what place)) = Fails item bytes so_far.at what place
+ReadsKey bytes moment so_far old new name (Err faults.Host) = ⊥
+ReadsKey bytes moment so_far old new name (Err faults.Limit) = ⊥
+ReadsKey bytes moment so_far old new name (Err faults.Memory) = IsKept bytes moment so_far ⊎ IsOpened bytes so_far
+
+-- the next item is read: memory is wanted for a string that is kept alone, and for a collection
 abbrev pub ReadsItem : List ℕ → ℕ → Progress → World → World → Result Read LoadFault → Type 0
 ReadsItem bytes moment old before after (Ok (read.More new)) = Holds bytes moment after new × (old.at < new.at)
 ReadsItem bytes moment old before after (Ok read.End) =
@@ -87,7 +117,7 @@ ReadsItem bytes moment old before after (Ok read.End) =
 ReadsItem bytes moment old before after (Err (faults.Refused what place)) = IsFault bytes moment what place
 ReadsItem bytes moment old before after (Err faults.Host) = ⊥
 ReadsItem bytes moment old before after (Err faults.Limit) = ⊥
-ReadsItem bytes moment old before after (Err faults.Memory) = IsKept bytes moment old
+ReadsItem bytes moment old before after (Err faults.Memory) = IsKept bytes moment old ⊎ IsOpened bytes old
 
 -- all items are read
 abbrev pub ReadsAll : List ℕ → ℕ → World → Result Loaded LoadFault → Type 0

@@ -1,20 +1,25 @@
 //! The items of a file, one by one.
 
-ghost use Rattle.std.specs.Prelude.{◌≡◌, IfOk};
+ghost use Rattle.std.specs.Prelude.{◌≡◌, ◌<◌, IfOk};
+ghost use Rattle.held.specs.Calls.{IsDeadline};
 ghost use Rattle.blocks.specs.Blocks.{Served};
 ghost use Rattle.plain_world.specs.Worlds.{new_world};
 ghost use Rattle.keyspace.specs.Databases.{means, SameSettings};
 ghost use Rattle.keyspace.specs.Sound.{Sound};
 ghost use Rattle.keyspace.specs.Scopes.{Within};
-ghost use Rattle.keyspace.specs.Forms.{AreWhole};
-ghost use Rattle.rdb_reader.specs.Loads.{Holds, ReadsItem, ReadsAll, any_key, load_fault};
+ghost use Rattle.rdb_grammar.specs.Returns.{IsPartAt};
+ghost use Rattle.rdb_grammar.specs.Views.{text_of, key_of};
+ghost use Rattle.rdb_reader.specs.Forms.{AreNew};
+ghost use Rattle.rdb_reader.specs.Loads.{Holds, ReadsKey, ReadsItem, ReadsAll, any_key, load_fault};
 
+use crate::building::refused;
+use crate::collections::put_collection;
 use crate::fault::LoadFault;
 use crate::keys::{Put, put_key};
 use crate::loading::Loaded;
 use blocks::BlockStore;
 use keyspace::Keyspace;
-use rdb_grammar::{FileFault, ItemFault, LoadKind, Meaning, check_header, next_item};
+use rdb_grammar::{Chunk, FileValue, ItemFault, LoadKind, Meaning, check_header, next_item};
 use std::alloc::Global;
 
 /// How far a file is read.
@@ -41,16 +46,6 @@ pub enum Read {
     End,
 }
 
-// The fault of a part.
-fn refused(fault: FileFault) -> LoadFault
-    ensures { result ≡ LoadFault.Refused fault.kind fault.at }
-{
-    LoadFault::Refused {
-        kind: fault.kind,
-        at: fault.at,
-    }
-}
-
 // The fault of an item.
 fn not_read(fault: ItemFault) -> LoadFault
     ensures { result ≡ load_fault fault }
@@ -58,6 +53,48 @@ fn not_read(fault: ItemFault) -> LoadFault
     match fault {
         ItemFault::Memory => LoadFault::Memory,
         ItemFault::Refused { kind, at } => LoadFault::Refused { kind, at },
+    }
+}
+
+// Reads what is left of a key from an offset on, and puts the key.
+#[tactic(none)]
+fn read_key<B: BlockStore>(
+    bytes: &[u8],
+    keyspace: &mut Keyspace<B>,
+    so_far: Progress,
+    next: usize,
+    name: &Chunk<'_>,
+    value: &FileValue<'_>,
+    moment: u64,
+) -> Result<(Put, usize), LoadFault>
+    requires db { so_far.db < 16 }
+    requires latest { IsDeadline so_far.deadline }
+    requires stands { IsPartAt bytes.now so_far.at next (key_of (text_of name.now) value.now) }
+    requires sound { Sound keyspace.old.bases (B.blocks keyspace.old.store) }
+    ensures reads { ReadsKey bytes.now moment so_far (means so_far.db keyspace.old.bases (B.blocks keyspace.old.store)) (means so_far.db keyspace.new.bases (B.blocks keyspace.new.store)) (text_of name.now) result }
+    ensures sound { Sound keyspace.new.bases (B.blocks keyspace.new.store) }
+    ensures served { Served B.step keyspace.old.store keyspace.new.store }
+    ensures settings { SameSettings keyspace.old.bases keyspace.new.bases }
+    ensures within { Within any_key keyspace.old.bases keyspace.new.bases (B.blocks keyspace.old.store) (B.blocks keyspace.new.store) }
+    ensures form { IfOk result (λ read. AreNew keyspace.old.bases (B.blocks keyspace.old.store) → AreNew keyspace.new.bases (B.blocks keyspace.new.store)) }
+{
+    let Progress { db, deadline, .. } = so_far;
+    match value {
+        FileValue::Text(text) => match put_key(keyspace, db, name, text, deadline, moment) {
+            Ok(put) => Ok((put, next)),
+            Err(_) => Err(LoadFault::Memory),
+        },
+        FileValue::Elements(collection, count) => put_collection(
+            keyspace,
+            db,
+            name,
+            *collection,
+            *count,
+            bytes,
+            next,
+            deadline,
+            moment,
+        ),
     }
 }
 
@@ -77,7 +114,7 @@ fn read_item<B: BlockStore>(
     ensures served { Served B.step keyspace.old.store keyspace.new.store }
     ensures settings { SameSettings keyspace.old.bases keyspace.new.bases }
     ensures within { Within any_key keyspace.old.bases keyspace.new.bases (B.blocks keyspace.old.store) (B.blocks keyspace.new.store) }
-    ensures whole { IfOk result (λ read. AreWhole keyspace.old.bases → AreWhole keyspace.new.bases) }
+    ensures form { IfOk result (λ read. AreNew keyspace.old.bases (B.blocks keyspace.old.store) → AreNew keyspace.new.bases (B.blocks keyspace.new.store)) }
 {
     let item = match next_item(alloc, bytes, so_far.at) {
         Ok(item) => item,
@@ -96,24 +133,24 @@ fn read_item<B: BlockStore>(
         })),
         Meaning::Database(db) => Ok(Read::More(Progress { db, ..behind })),
         Meaning::Key { name, value } => {
-            let used_up = Progress {
-                deadline: None,
-                ..behind
-            };
-            match put_key(keyspace, so_far.db, &name, &value, so_far.deadline, moment) {
-                Ok(Put::Kept) => Ok(Read::More(Progress {
-                    keys: used_up.keys + 1,
-                    ..used_up
+            match read_key(bytes, keyspace, so_far, item.next, &name, &value, moment) {
+                Ok((Put::Kept, next)) => Ok(Read::More(Progress {
+                    at: next,
+                    deadline: None,
+                    keys: so_far.keys + 1,
+                    ..so_far
                 })),
-                Ok(Put::Passed) => Ok(Read::More(Progress {
-                    passed: used_up.passed + 1,
-                    ..used_up
+                Ok((Put::Passed, next)) => Ok(Read::More(Progress {
+                    at: next,
+                    deadline: None,
+                    passed: so_far.passed + 1,
+                    ..so_far
                 })),
-                Ok(Put::Twice) => Err(LoadFault::Refused {
+                Ok((Put::Twice, _)) => Err(LoadFault::Refused {
                     kind: LoadKind::DuplicateKey,
                     at: so_far.at as u64 + 1,
                 }),
-                Err(_) => Err(LoadFault::Memory),
+                Err(fault) => Err(fault),
             }
         }
     }
@@ -137,7 +174,7 @@ pub fn read_items<B: BlockStore>(
     ensures served { Served B.step keyspace.old.store keyspace.new.store }
     ensures settings { SameSettings keyspace.old.bases keyspace.new.bases }
     ensures within { Within any_key keyspace.old.bases keyspace.new.bases (B.blocks keyspace.old.store) (B.blocks keyspace.new.store) }
-    ensures whole { IfOk result (λ loaded. AreWhole keyspace.new.bases) }
+    ensures form { IfOk result (λ loaded. AreNew keyspace.new.bases (B.blocks keyspace.new.store)) }
 {
     let at = match check_header(bytes) {
         Ok(at) => at,

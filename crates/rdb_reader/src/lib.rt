@@ -1,11 +1,14 @@
 //! Loading a file: its bytes out of a host, and its keys into a keyspace.
 #![tactic(auto)]
 
+mod building;
+mod collections;
 mod fault;
 mod fetch;
 mod items;
 mod keys;
 mod loading;
+mod texts;
 
 pub use fault::LoadFault;
 pub use loading::{Loaded, load};

@@ -7,7 +7,7 @@ ghost use Rattle.plain_world.specs.Worlds.{new_world};
 ghost use Rattle.keyspace.specs.Databases.{means, SameSettings};
 ghost use Rattle.keyspace.specs.Sound.{Sound};
 ghost use Rattle.keyspace.specs.Scopes.{anything, Within};
-ghost use Rattle.keyspace.specs.Forms.{AreWhole};
+ghost use Rattle.rdb_reader.specs.Forms.{AreNew};
 ghost use Rattle.rdb_reader.specs.Fetching.{Counts, has_failed};
 ghost use Rattle.rdb_reader.specs.Taken.{TakesFile};
 ghost use Rattle.rdb_reader.specs.Loads.{Loads, load_scope};
@@ -51,7 +51,7 @@ fn clear_all<B: BlockStore>(keyspace: &mut Keyspace<B>)
 /// limit. After each fault the keyspace has no key.
 ///
 /// The tables come from those before, after a fault also from none, by inserts and removals, and each value is encoded as one that is written
-/// whole (Redis command reference, "OBJECT ENCODING").
+/// anew: a string as one written whole, a collection in the least form that fits (Redis command reference, "OBJECT ENCODING").
 #[tactic(auto, using(keyspace::proofs::Serving::nothing, keyspace::proofs::Serving::both, keyspace::proofs::Serving::unmoved, keyspace::proofs::Serving::further))]
 pub fn load<H: Host, B: BlockStore>(
     alloc: Global,
@@ -70,7 +70,7 @@ pub fn load<H: Host, B: BlockStore>(
     ensures served { Served B.step keyspace.old.store keyspace.new.store }
     ensures settings { SameSettings keyspace.old.bases keyspace.new.bases }
     ensures within { Within (load_scope result) keyspace.old.bases keyspace.new.bases (B.blocks keyspace.old.store) (B.blocks keyspace.new.store) }
-    ensures whole { AreWhole keyspace.new.bases }
+    ensures form { AreNew keyspace.new.bases (B.blocks keyspace.new.store) }
 {
     let bytes = match fetch(alloc, host, name, limit) {
         Ok(bytes) => bytes,

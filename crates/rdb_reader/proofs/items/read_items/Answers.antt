@@ -2,7 +2,7 @@ use Rattle.std.proofs.Common.{refl}
 use Rattle.blocks.specs.Blocks.{no_step}
 use Rattle.keyspace.specs.Databases.{means}
 use Rattle.keyspace.proofs.Serving.{unmoved}
-use Rattle.keyspace.proofs.Forming.{none_whole}
+use Rattle.rdb_reader.proofs.Anew.{none_new}
 use Rattle.rdb_reader.specs.Loads.{any_key}
 use Rattle.rdb_reader.proofs.Read.{holds_nothing}
 use Rattle.rdb_reader.proofs.items.read_items.Goals as goal
@@ -17,8 +17,8 @@ items-init g c =
       served = no_step;
       settings = record { limits = refl; seed = refl; turn = refl };
       within = unmoved any_key c.args.keyspace.now.bases (g.B.BlockStore.blocks c.args.keyspace.now.store);
-      whole = none_whole c.args.keyspace.now.bases (g.B.BlockStore.blocks c.args.keyspace.now.store) c.requires.sound.arranged c.requires.empty;
+      form = none_new c.args.keyspace.now.bases (g.B.BlockStore.blocks c.args.keyspace.now.store) c.requires.sound.arranged c.requires.empty;
     }
 
-pub returns-in-Ok-End-clause-whole : goal.returns-in-Ok-End-clause-whole
-returns-in-Ok-End-clause-whole g c = c.in-Ok-End.ensures.whole c.items.invariant.whole
+pub returns-in-Ok-End-clause-form : goal.returns-in-Ok-End-clause-form
+returns-in-Ok-End-clause-form g c = c.in-Ok-End.ensures.form c.items.invariant.form

@@ -3,7 +3,7 @@ use Rattle.blocks.specs.Blocks.{Served}
 use Rattle.keyspace.specs.Databases.{means, SameSettings}
 use Rattle.keyspace.specs.Sound.{Sound}
 use Rattle.keyspace.specs.Scopes.{Within}
-use Rattle.keyspace.specs.Forms.{AreWhole}
+use Rattle.rdb_reader.specs.Forms.{AreNew}
 use Rattle.rdb_reader.specs.Loads.{Holds, any_key}
 use Rattle.rdb_reader.proofs.items.read_items.Given as goal
 
@@ -16,7 +16,7 @@ invariant-items g l =
       served : Served g.B.BlockStore.step l.fn.keyspace.store l.keyspace.store;
       settings : SameSettings l.fn.keyspace.bases l.keyspace.bases;
       within : Within any_key l.fn.keyspace.bases l.keyspace.bases (blocks l.fn.keyspace.store) (blocks l.keyspace.store);
-      whole : AreWhole l.keyspace.bases;
+      form : AreNew l.keyspace.bases (blocks l.keyspace.store);
     }
 
 abbrev pub decreases-items : goal.decreases-items

@@ -1,4 +1,4 @@
-use Rattle.keyspace.proofs.Forming.{none_whole}
+use Rattle.rdb_reader.proofs.Anew.{none_new}
 use Rattle.std.proofs.Common.{sym, subst}
 use Rattle.keyspace.specs.Databases.{means}
 use Rattle.keyspace.specs.Scopes.{anything}
@@ -8,11 +8,11 @@ use Rattle.rdb_reader.specs.Loads.{any_key}
 use Rattle.rdb_reader.proofs.Living.{read_failed}
 use Rattle.rdb_reader.proofs.loading.load.Goals as goal
 
-pub returns-in-Err-clause-whole : goal.returns-in-Err-clause-whole
-returns-in-Err-clause-whole g c = none_whole c.args.keyspace.now.bases (g.B.BlockStore.blocks c.args.keyspace.now.store) c.requires.sound.arranged c.requires.empty
+pub returns-in-Err-clause-form : goal.returns-in-Err-clause-form
+returns-in-Err-clause-form g c = none_new c.args.keyspace.now.bases (g.B.BlockStore.blocks c.args.keyspace.now.store) c.requires.sound.arranged c.requires.empty
 
-pub returns-clause-whole : goal.returns-clause-whole
-returns-clause-whole g c = none_whole c.clear_all.new.keyspace.bases (g.B.BlockStore.blocks c.clear_all.new.keyspace.store) c.clear_all.ensures.sound.arranged c.clear_all.ensures.empty
+pub returns-clause-form : goal.returns-clause-form
+returns-clause-form g c = none_new c.clear_all.new.keyspace.bases (g.B.BlockStore.blocks c.clear_all.new.keyspace.store) c.clear_all.ensures.sound.arranged c.clear_all.ensures.empty
 
 pub returns-in-Err-clause-few : goal.returns-in-Err-clause-few
 returns-in-Err-clause-few g c = c.in-Err.ensures.few

@@ -1,11 +1,13 @@
 use Rattle.std.proofs.Common.{sym, subst}
 use Rattle.keyspace.specs.Scopes.{one_key, Within}
 use Rattle.keyspace.proofs.Serving.{unmoved}
-use Rattle.keyspace.proofs.Forming.{put_whole}
+use Rattle.plain_world.specs.Worlds.{Str}
+use Rattle.rdb_grammar.specs.Views.{text_of}
+use Rattle.rdb_reader.proofs.Anew.{put_new}
 use Rattle.keyspace.proofs.Uses.{Made-intact, Put-sound, Put-within}
 use Rattle.rdb_reader.specs.Loads.{any_key}
 use Rattle.rdb_reader.proofs.Entries.{value_put, one_of_any}
-use Rattle.rdb_reader.proofs.keys.put_value.Goals as goal
+use Rattle.rdb_reader.proofs.keys.put_text.Goals as goal
 
 pub put-requires-clause-intact : goal.put-requires-clause-intact
 put-requires-clause-intact g c = Made-intact _ _ _ c.in_ok-made.made c.requires.sound c.in_ok-made.ensures.changes (c.in_ok-made.ensures.sound c.args.keyspace.now.bases.limits c.args.keyspace.now.bases.seed)
@@ -22,10 +24,13 @@ returns-clause-within g c =
     one_of_any c.args.db c.args.name.now c.args.keyspace.now.bases c.put.new.self.bases _ _
     (Put-within _ _ _ c.in_ok-made.made c.requires.sound c.in_ok-made.ensures.changes c.put.new.self.bases _ (one_key c.args.db c.args.name.now) c.put.ensures.within)
 
-pub returns-clause-whole : goal.returns-clause-whole
-returns-clause-whole g c =
+pub returns-clause-form : goal.returns-clause-form
+returns-clause-form g c =
+    let m = g.B.BlockStore.blocks c.args.keyspace.now.store in
     let sound = Put-sound _ _ _ c.in_ok-made.made c.requires.sound c.in_ok-made.ensures.changes _ _ c.put.ensures.sound in
-    put_whole c.args.db c.args.name.now c.in_ok-made.made c.in_ok-made.ensures.whole c.args.keyspace.now.bases c.put.new.self.bases _ _ c.put.ensures.within sound.arranged c.put.result c.put.ensures.has
+    let within = Put-within _ _ _ c.in_ok-made.made c.requires.sound c.in_ok-made.ensures.changes c.put.new.self.bases _ (one_key c.args.db c.args.name.now) c.put.ensures.within in
+    let world = value_put c.args.db c.args.keyspace.now.bases _ _ c.in_ok-made.made c.requires.sound c.in_ok-made.ensures.changes c.put.new.self.bases _ c.args.name.now _ c.args.deadline c.in_ok-made.ensures.means c.put.result c.put.ensures.means in
+    put_new c.args.db c.args.name.now c.in_ok-made.made (Str (text_of c.args.value.now)) c.args.deadline c.args.keyspace.now.bases c.put.new.self.bases m _ c.in_ok-made.ensures.whole c.put.ensures.settings.limits within sound.arranged c.put.result world c.put.ensures.has
 
 pub returns-in_err-made-clause-within : goal.returns-in_err-made-clause-within
 returns-in_err-made-clause-within g c =

@@ -1,0 +1,45 @@
+//! The elements of collections, one by one.
+
+ghost use Rattle.std.specs.Prelude.{◌≡◌, ◌≤◌, ℕ, List, length, FitsSigned, IfOk, IfErr};
+ghost use Rattle.std.specs.Int.{w64};
+ghost use Rattle.rdb_grammar.specs.Places.{Stands, Fails};
+ghost use Rattle.rdb_grammar.specs.Scores.{score};
+ghost use Rattle.rdb_grammar.specs.Strings.{string};
+ghost use Rattle.rdb_grammar.specs.Views.{text_of};
+
+use crate::fault::FileFault;
+use crate::scores::score_of;
+use crate::strings::{Chunk, string_of};
+
+/// The string that begins at the offset `at` of a file's bytes, and the offset behind it: an element of a list or set, the field
+/// or value of a hash, a member of a sorted set. Refused exactly by the string's first fault.
+pub fn next_string(bytes: &[u8], at: usize) -> Result<(Chunk<'_>, usize), FileFault>
+    requires { at ≤ length bytes.now }
+    ensures string { IfOk result (λ x. Stands string (text_of x.0) bytes.now at x.1) }
+    ensures fault { IfErr result (λ e. Fails string bytes.now at e.kind e.at) }
+{
+    match string_of(&bytes[at..]) {
+        Ok((text, rest)) => Ok((text, bytes.len() - rest.len())),
+        Err(e) => Err(FileFault {
+            kind: e.kind,
+            at: (bytes.len() - e.left) as u64,
+        }),
+    }
+}
+
+/// The score of a sorted set's member that begins at the offset `at` of a file's bytes, and the offset behind it: a binary
+/// number of 64 bits that is whole and of a magnitude of 2^53 at most. Refused exactly by the score's first fault.
+pub fn next_score(bytes: &[u8], at: usize) -> Result<(i64, usize), FileFault>
+    requires { at ≤ length bytes.now }
+    ensures score { IfOk result (λ x. Stands score x.0 bytes.now at x.1) }
+    ensures fits { IfOk result (λ x. FitsSigned w64 x.0) }
+    ensures fault { IfErr result (λ e. Fails score bytes.now at e.kind e.at) }
+{
+    match score_of(&bytes[at..]) {
+        Ok((score, rest)) => Ok((score, bytes.len() - rest.len())),
+        Err(e) => Err(FileFault {
+            kind: e.kind,
+            at: (bytes.len() - e.left) as u64,
+        }),
+    }
+}
