@@ -11,8 +11,8 @@ use Rattle.keyspace.specs.Sound.{Sound}
 use Rattle.keyspace.proofs.Serving.{both}
 use Rattle.keyspace.specs.Databases.{Bases, means}
 use Rattle.keyspace.specs.Scopes.{Scope, AreGrown, Within}
-use Rattle.keyspace.specs.Forms.{AreWhole}
-use Rattle.keyspace.proofs.Forming.{none_whole}
+use Rattle.rdb_reader.specs.Forms.{AreNew}
+use Rattle.rdb_reader.proofs.Anew.{none_new}
 use Rattle.rdb_reader.proofs.Living.{new_live}
 use Rattle.outside.specs.Files.{Files, HostSeen, IsListed}
 use Rattle.rdb_reader.specs.Fetching.{Counts, has_failed}
@@ -45,16 +45,16 @@ begun_world moment plan old new done seed limits b r =
 
 -- a new engine is a first one, and one that was served more stays it
 pub first_new : (engine : Engine) (store : ClassHeap) (seed : ℕ) (limits : Limits) → heap_blocks store ≡ no_blocks → heap_slabs store ≡ no_slabs → engine.store ≡ store → engine.bases.seed ≡ seed → engine.bases.limits ≡ limits → engine.bases.turn ≡ 0 → engine.walk ≡ None → AreGrown engine.bases (heap_blocks engine.store) → HasNoKey heap_blocks engine → Sound engine.bases (heap_blocks engine.store) → IsFirst seed limits engine
-first_new engine store seed limits empty bare same is are turn walk grown none sound = record { seed_is = is; limits_are = are; turn_is = turn; walk_is = walk; grown = grown; whole = none_whole engine.bases (heap_blocks engine.store) sound.arranged none; sound = sound; store = store; empty = empty; bare = bare; served = subst (Served IsClassHeapStep store) (sym same) no_step }
+first_new engine store seed limits empty bare same is are turn walk grown none sound = record { seed_is = is; limits_are = are; turn_is = turn; walk_is = walk; grown = grown; form = none_new engine.bases (heap_blocks engine.store) sound.arranged none; sound = sound; store = store; empty = empty; bare = bare; served = subst (Served IsClassHeapStep store) (sym same) no_step }
 
-pub first_then : (old new : Engine) (seed : ℕ) (limits : Limits) → IsFirst seed limits old → Keeps heap_blocks old new → Served IsClassHeapStep old.store new.store → new.walk ≡ old.walk → (scope : Scope) → Within scope old.bases new.bases (heap_blocks old.store) (heap_blocks new.store) → AreWhole new.bases → IsFirst seed limits new
-first_then old new seed limits f keeps served walk scope within whole = record {
+pub first_then : (old new : Engine) (seed : ℕ) (limits : Limits) → IsFirst seed limits old → Keeps heap_blocks old new → Served IsClassHeapStep old.store new.store → new.walk ≡ old.walk → (scope : Scope) → Within scope old.bases new.bases (heap_blocks old.store) (heap_blocks new.store) → AreNew new.bases (heap_blocks new.store) → IsFirst seed limits new
+first_then old new seed limits f keeps served walk scope within form = record {
   seed_is = keeps.settings.seed ∙ f.seed_is;
   limits_are = keeps.settings.limits ∙ f.limits_are;
   turn_is = keeps.settings.turn ∙ f.turn_is;
   walk_is = walk ∙ f.walk_is;
   grown = still_grown scope old.bases new.bases (heap_blocks old.store) (heap_blocks new.store) within f.grown;
-  whole = whole;
+  form = form;
   sound = keeps.sound;
   store = f.store;
   empty = f.empty;
@@ -73,7 +73,7 @@ first_rests moment plan old new done seed limits none unhashed still f r =
       turn_is = s.turn ∙ f.turn_is;
       walk_is = s.walk ∙ f.walk_is;
       grown = subst (AreGrown new.bases) (sym (ap heap_blocks same.1)) (subst (λ (b : Bases). AreGrown b (heap_blocks old.store)) (sym same.0) f.grown);
-      whole = subst AreWhole (sym same.0) f.whole;
+      form = subst (AreNew new.bases) (sym (ap heap_blocks same.1)) (subst (λ (b : Bases). AreNew b (heap_blocks old.store)) (sym same.0) f.form);
       sound = r.works.sound;
       store = f.store;
       empty = f.empty;

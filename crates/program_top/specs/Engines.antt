@@ -8,7 +8,7 @@ use Rattle.plain_world.specs.Worlds.{World}
 use Rattle.object_codec.specs.declared.limits.Limits.{Limits}
 use Rattle.keyspace.specs.Sound.{Sound}
 use Rattle.keyspace.specs.Scopes.{AreGrown}
-use Rattle.keyspace.specs.Forms.{AreWhole}
+use Rattle.rdb_reader.specs.Forms.{AreNew}
 use Rattle.redis_core.specs.Engines.{State, IsNew}
 use Rattle.redis_core.specs.Engines as engines
 
@@ -20,7 +20,7 @@ abbrev pub world_of : Engine → World
 world_of engine = engines.world_of heap_blocks engine
 
 -- Its hashes have this seed and its values these limits, the first expiry step is the turn of database 0, no walk is
--- open, its tables come from none, its values are encoded as those written whole, and its keyspace is sound: each live
+-- open, its tables come from none, its values are encoded as those written anew, and its keyspace is sound: each live
 -- block of the store is owned exactly once. The store was served placings by the heap's rule, returns and writes alone,
 -- from one without a block or a slab.
 pub record IsFirst (seed : ℕ) (limits : Limits) (engine : Engine) : Type 0 where
@@ -29,7 +29,7 @@ pub record IsFirst (seed : ℕ) (limits : Limits) (engine : Engine) : Type 0 whe
   pub turn_is : engine.bases.turn ≡ 0
   pub walk_is : engine.walk ≡ None
   pub grown : AreGrown engine.bases (heap_blocks engine.store)
-  pub whole : AreWhole engine.bases
+  pub form : AreNew engine.bases (heap_blocks engine.store)
   pub sound : Sound engine.bases (heap_blocks engine.store)
   pub store : ClassHeap
   pub empty : heap_blocks store ≡ no_blocks

@@ -5,7 +5,7 @@ use Rattle.std.specs.List.{Contains}
 use Rattle.held.specs.Scopes.{keys_of}
 use Rattle.plain_model.specs.Meant.{IsAsked}
 use Rattle.plain_model.specs.declared.command.Command.{Command}
-use Rattle.plain_model.specs.declared.command.Command.TheVariants.{Strings, Lists, Sets, Hashes, Zsets, Keys, Connection}
+use Rattle.plain_model.specs.declared.command.Command.TheVariants.{Strings, Lists, Sets, Hashes, Zsets, Streams, Keys, Connection}
 use Rattle.plain_model.specs.declared.command.StringCommand.{StringCommand}
 use Rattle.plain_model.specs.declared.command.StringCommand.TheVariants as strings
 use Rattle.plain_model.specs.declared.set_command.SetCommand.{SetCommand}
@@ -16,11 +16,13 @@ use Rattle.plain_model.specs.declared.zset_command.ZsetCommand.{ZsetCommand}
 use Rattle.plain_model.specs.declared.zset_command.ZsetCommand.TheVariants as zsets
 use Rattle.plain_model.specs.declared.list_command.ListCommand.{ListCommand}
 use Rattle.plain_model.specs.declared.list_command.ListCommand.TheVariants as lists
+use Rattle.plain_model.specs.declared.stream_command.StreamCommand.{StreamCommand}
+use Rattle.plain_model.specs.declared.stream_command.StreamCommand.TheVariants as streams
 use Rattle.plain_model.specs.declared.keys.KeyCommand.{KeyCommand}
 use Rattle.plain_model.specs.declared.keys.KeyCommand.TheVariants as keys
 use Rattle.plain_model.specs.declared.connection.ConnectionCommand.{ConnectionCommand}
 use Rattle.plain_model.specs.declared.connection.ConnectionCommand.TheVariants as connection
-use Rattle.keyspace.specs.Scopes.{Scope, Reach, untouched, two_keys, all_keys, everything, number_or, scope, string_reach, list_reach, set_reach, hash_reach, zset_reach, key_reach, connection_reach, reach_of, scope_of}
+use Rattle.keyspace.specs.Scopes.{Scope, Reach, untouched, two_keys, all_keys, everything, number_or, scope, string_reach, list_reach, set_reach, hash_reach, zset_reach, stream_reach, key_reach, connection_reach, reach_of, scope_of}
 use Rattle.keyspace.specs.Scopes as reach
 use Rattle.cmd_keys.specs.Found.{IsDatabase}
 use Rattle.cmd_keys.proofs.KeyLemmas.{asked_copy, asked_move}
@@ -115,6 +117,12 @@ set_databases db below (sets.SMIsMember key others) = tt
 set_databases db below (sets.SMembers key) = tt
 set_databases db below (sets.SCard key) = tt
 set_databases db below (sets.SMove from to member) = (below, below)
+set_databases db below (sets.SPop key n) = below
+set_databases db below (sets.SRandMember key n) = tt
+set_databases db below (sets.SJoin how keys) = tt
+set_databases db below (sets.SJoinStore how to keys) = below
+set_databases db below (sets.SInterCard keys limit) = tt
+set_databases db below (sets.SScan key cursor options) = tt
 
 pub hash_databases : (db : ℕ) → db < 16 → (command : HashCommand) → AreDatabases (databases (hash_reach db command))
 hash_databases db below (hashes.HSet key pairs) = below
@@ -130,6 +138,8 @@ hash_databases db below (hashes.HKeys key) = tt
 hash_databases db below (hashes.HVals key) = tt
 hash_databases db below (hashes.HGetAll key) = tt
 hash_databases db below (hashes.HIncrBy key field n) = below
+hash_databases db below (hashes.HRandField key n with_values) = tt
+hash_databases db below (hashes.HScan key cursor options) = tt
 
 pub zset_databases : (db : ℕ) → db < 16 → (command : ZsetCommand) → AreDatabases (databases (zset_reach db command))
 zset_databases db below (zsets.ZAdd key rules ch pairs) = below
@@ -145,6 +155,22 @@ zset_databases db below (zsets.ZRangeByScore key min max from limit with_scores)
 zset_databases db below (zsets.ZRemRangeByRank key a b) = below
 zset_databases db below (zsets.ZRemRangeByScore key min max) = below
 zset_databases db below (zsets.ZPop key from n) = below
+zset_databases db below (zsets.ZRandMember key n with_scores) = tt
+zset_databases db below (zsets.ZJoinStore join to keys how) = below
+zset_databases db below (zsets.ZScan key cursor options) = tt
+
+pub stream_databases : (db : ℕ) → db < 16 → (command : StreamCommand) → AreDatabases (databases (stream_reach db command))
+stream_databases db below (streams.XAdd key options id pairs) = below
+stream_databases db below (streams.XLen key) = tt
+stream_databases db below (streams.XRange key from to order limit) = tt
+stream_databases db below (streams.XDel key ids) = below
+stream_databases db below (streams.XTrim key trim) = below
+stream_databases db below (streams.XRead limit asked) = tt
+stream_databases db below (streams.XGroupCreate key name id make) = below
+stream_databases db below (streams.XGroupDestroy key name) = below
+stream_databases db below (streams.XReadGroup name consumer limit asked) = below
+stream_databases db below (streams.XAck key name ids) = below
+stream_databases db below (streams.XPending key name) = tt
 
 pub key_databases : (db : ℕ) → db < 16 → (command : KeyCommand) → IsAsked (Keys command) → AreDatabases (databases (key_reach db command))
 key_databases db below (keys.Del names) asked = below
@@ -188,6 +214,7 @@ databases_of db below (Lists command) asked = list_databases db below command
 databases_of db below (Sets command) asked = set_databases db below command
 databases_of db below (Hashes command) asked = hash_databases db below command
 databases_of db below (Zsets command) asked = zset_databases db below command
+databases_of db below (Streams command) asked = stream_databases db below command
 databases_of db below (Keys command) asked = key_databases db below command asked
 databases_of db below (Connection command) asked = connection_databases db below command
 

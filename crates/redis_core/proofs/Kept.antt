@@ -1,6 +1,6 @@
 -- A refused request leaves the live world.
 use Rattle.std.proofs.Common.{◌≡◌, ℕ, List, [], ◌∷◌, Option, Some, None, Bool, true, false, Result, Ok, Err, refl, subst, ◌∙◌}
-use Rattle.std.specs.FinMap.{get}
+use Rattle.std.specs.FinMap.{get, entries, contains_key}
 use Rattle.std.specs.Prelude.{MatchResult, is_some, if◌then◌else◌, nat_le, ◌==◌, ◌&&◌, not, bytes_eq, length, ◌++◌, ℤ, pos, ◌+ℤ◌, ◌-ℤ◌}
 use Rattle.plain_world.specs.Words.{Words}
 use Rattle.plain_world.specs.Worlds.{World, Value, Str, Entry, look, live, stand, deadline_of, look_in}
@@ -20,11 +20,26 @@ use Rattle.plain_model.specs.declared.times.Lifetime.{Lifetime}
 use Rattle.plain_model.specs.declared.times.Lifetime.TheVariants as lifetimes
 use Rattle.plain_model.specs.declared.times.Renewal.{Renewal}
 use Rattle.plain_model.specs.declared.times.Renewal.TheVariants as renewals
-use Rattle.plain_model.specs.OfType.{of_type, on_type, may_tell, may_tell_of, list_in, set_in, hash_in, zset_in}
-use Rattle.plain_model.specs.SetSteps.{Members, or_no_members, has, drop_members, move_to, move_from, may_sets}
+use Rattle.plain_model.specs.OfType.{of_type, on_type, may_tell, may_tell_of, may_do, may_do_of, list_in, set_in, hash_in, zset_in, stream_in}
+use Rattle.plain_model.specs.Picks.{picks_told, as_number}
+use Rattle.plain_model.specs.Scans.{listed}
+use Rattle.plain_world.specs.Streams.{Stream}
+use Rattle.stream_groups.specs.Groups.{Id, Group}
+use Rattle.plain_model.specs.StreamSteps.{Pair, no_stream, append_as, id_for, trim_to, delete, tell_range, all_listed}
+use Rattle.plain_model.specs.StreamSteps as stream_steps
+use Rattle.plain_model.specs.GroupSteps.{create_in, create, destroy, unless_refused, first_refusal, ack_in, ack, pending_in, tell_pending, stream_outcome}
+use Rattle.plain_model.specs.declared.stream_command.Trim.{Trim}
+use Rattle.plain_model.specs.declared.stream_command.NewId.{NewId}
+use Rattle.plain_model.specs.declared.stream_command.AppendOptions.{AppendOptions}
+use Rattle.plain_model.specs.declared.stream_command.StreamCommand.{StreamCommand}
+use Rattle.plain_model.specs.declared.stream_command.StreamCommand.TheVariants as streams
+use Rattle.plain_model.specs.declared.set_command.SetJoin.{SetJoin}
+use Rattle.plain_model.specs.declared.zset_command.ScoreJoin.{ScoreJoin}
+use Rattle.plain_model.specs.declared.zset_command.Aggregate.{Aggregate}
+use Rattle.plain_model.specs.SetSteps.{Members, or_no_members, has, drop_members, move_to, move_from, PopsMembers, StoresJoin, sets_at, may_sets}
 use Rattle.plain_model.specs.SetSteps as set_steps
 use Rattle.plain_model.specs.HashSteps.{Fields, or_no_fields, set_missing, unset_fields, number_in, count_field, count_on_field, hash_outcome, may_hashes}
-use Rattle.plain_model.specs.ZsetSteps.{Scores, Scored, or_no_scores, admits, passes, is_score, or_zero, add_to, raise, raise_to, drop_part, within, pop, or_one, zset_outcome}
+use Rattle.plain_model.specs.ZsetSteps.{Scores, Scored, or_no_scores, admits, passes, is_score, or_zero, add_to, raise, raise_to, drop_part, within, pop, or_one, zset_outcome, StoresScores, store_scores, are_scores, zsets_at, weights_of, may_zsets}
 use Rattle.plain_model.specs.ZsetSteps as zset_steps
 use Rattle.plain_model.specs.declared.zset_command.ScoreRules.{ScoreRules}
 use Rattle.plain_model.specs.declared.zset_command.Direction.{Direction}
@@ -48,7 +63,7 @@ use Rattle.plain_model.specs.declared.connection.ConnectionCommand.TheVariants a
 use Rattle.plain_world.specs.Words.{longest}
 use Rattle.plain_model.specs.declared.command.Command.{Command}
 use Rattle.plain_model.specs.declared.command.Condition.{Condition}
-use Rattle.plain_model.specs.declared.command.Command.TheVariants.{Strings, Lists, Sets, Hashes, Zsets, Keys, Connection}
+use Rattle.plain_model.specs.declared.command.Command.TheVariants.{Strings, Lists, Sets, Hashes, Zsets, Streams, Keys, Connection}
 use Rattle.plain_model.specs.declared.command.StringCommand.{StringCommand}
 use Rattle.plain_model.specs.declared.command.StringCommand.TheVariants as strings
 use Rattle.plain_world.specs.declared.refusal.Refusal.{Refusal}
@@ -279,9 +294,9 @@ module _ (old : World) where
   sets_keep (sets.SRem key others) = on_set_keeps key _ (dropped_keeps key others)
   sets_keep (sets.SIsMember key member) = on_set_keeps key _ (λ before r. refl)
   sets_keep (sets.SMIsMember key others) = on_set_keeps key _ (λ before r. refl)
-  sets_keep (sets.SMembers key) = λ r. absurd r
   sets_keep (sets.SCard key) = on_set_keeps key _ (λ before r. refl)
   sets_keep (sets.SMove from to member) = on_set_keeps from _ (from_keeps from to member)
+  sets_keep other = λ r. absurd r
 
   -- what is answered of the hash at a key
   on_hash_keeps : (key : List ℕ) (answer : Option Fields → Outcome) → ((before : Option Fields) → Keeps (answer before)) → Keeps (on_type hash_in old (look old key) answer)
@@ -308,10 +323,8 @@ module _ (old : World) where
   hashes_keep (hashes.HExists key field) = on_hash_keeps key _ (λ before r. refl)
   hashes_keep (hashes.HLen key) = on_hash_keeps key _ (λ before r. refl)
   hashes_keep (hashes.HStrLen key field) = on_hash_keeps key _ (λ before r. refl)
-  hashes_keep (hashes.HKeys key) = λ r. absurd r
-  hashes_keep (hashes.HVals key) = λ r. absurd r
-  hashes_keep (hashes.HGetAll key) = λ r. absurd r
   hashes_keep (hashes.HIncrBy key field by) = on_hash_keeps key _ (λ before. field_keeps key field (or_no_fields before) by (number_in (get (or_no_fields before) field)))
+  hashes_keep other = λ r. absurd r
 
   -- what may be told of a value leaves the world
   told_of_keeps : {A : Type 0} (own : Option A) (told : Option A → List Part → Type 0) (reply : List Part) (new : World) → may_tell_of old own told reply new → new ≡ old
@@ -322,15 +335,51 @@ module _ (old : World) where
   told_keeps in_value None told reply new m = m.1
   told_keeps in_value (Some entry) told reply new m = told_of_keeps (in_value entry.value) told reply new m
 
-  may_sets_keep : (command : SetCommand) (reply : List Part) (new : World) → may_sets old command reply new → IsRefusal reply → new ≡ old
-  may_sets_keep (sets.SMembers key) reply new m r = told_keeps _ (look old key) _ reply new m
-  may_sets_keep command reply new m r = m.1 ∙ sets_keep command (subst IsRefusal m.0 r)
+  -- so does what refuses none that it does
+  done_of_keeps : {A : Type 0} (own : Option A) (does : Option A → List Part → World → Type 0) → ((before : Option A) (reply : List Part) (new : World) → does before reply new → IsRefusal reply → new ≡ old) → (reply : List Part) (new : World) → may_do_of old own does reply new → IsRefusal reply → new ≡ old
+  done_of_keeps None does h reply new m r = m.1
+  done_of_keeps (Some own) does h reply new m r = h (Some own) reply new m r
 
-  may_hashes_keep : (command : HashCommand) (reply : List Part) (new : World) → may_hashes old command reply new → IsRefusal reply → new ≡ old
-  may_hashes_keep (hashes.HKeys key) reply new m r = told_keeps _ (look old key) _ reply new m
-  may_hashes_keep (hashes.HVals key) reply new m r = told_keeps _ (look old key) _ reply new m
-  may_hashes_keep (hashes.HGetAll key) reply new m r = told_keeps _ (look old key) _ reply new m
-  may_hashes_keep command reply new m r = m.1 ∙ hashes_keep command (subst IsRefusal m.0 r)
+  done_keeps : {A : Type 0} (in_value : Value → Option A) (entry : Option Entry) (does : Option A → List Part → World → Type 0) → ((before : Option A) (reply : List Part) (new : World) → does before reply new → IsRefusal reply → new ≡ old) → (reply : List Part) (new : World) → may_do in_value old entry does reply new → IsRefusal reply → new ≡ old
+  done_keeps in_value None does h reply new m r = h None reply new m r
+  done_keeps in_value (Some entry) does h reply new m r = done_of_keeps (in_value entry.value) does h reply new m r
+
+  -- what is picked is no refusal
+  no_picks : {X : Type 0} (n : Option ℤ) (gone : List (List ℕ)) → IsRefusal (picks_told listed n gone) → X
+  no_picks None [] r = absurd r
+  no_picks None (x ∷ gone) r = absurd r
+  no_picks (Some n) gone r = absurd r
+
+  pops_keep : (key : List ℕ) (n : Option ℕ) (before : Option Members) (reply : List Part) (new : World) → PopsMembers old key n before reply new → IsRefusal reply → new ≡ old
+  pops_keep key n None reply new m r = m.1
+  pops_keep key n (Some members) reply new m r = no_picks (as_number n) m.0 (subst IsRefusal m.2 r)
+
+  joins_keep : (to : List ℕ) (how : SetJoin) (own : Option (List Members)) (reply : List Part) (new : World) → StoresJoin old to how own reply new → IsRefusal reply → new ≡ old
+  joins_keep to how own reply new m r = absurd (subst IsRefusal m.2.0 r)
+
+  scores_keep : (to : List ℕ) (scores : Scores) → Keeps (store_scores old to scores)
+  scores_keep to scores = either (are_scores (entries scores)) _ _ (λ r. absurd r) (λ r. refl)
+
+  score_joins_keep : (to : List ℕ) (join : ScoreJoin) (how : Aggregate) (weights : List ℤ) (own : Option (List Scores)) (reply : List Part) (new : World) → StoresScores old to join how weights own reply new → IsRefusal reply → new ≡ old
+  score_joins_keep to join how weights own reply new m r = m.2.1 ∙ scores_keep to m.0 (subst IsRefusal m.2.0 r)
+
+  may_sets_keep : (seed : ℕ) (command : SetCommand) (reply : List Part) (new : World) → may_sets seed old command reply new → IsRefusal reply → new ≡ old
+  may_sets_keep seed (sets.SMembers key) reply new m r = told_keeps _ (look old key) _ reply new m
+  may_sets_keep seed (sets.SPop key n) reply new m r = done_keeps set_in (look old key) (PopsMembers old key n) (pops_keep key n) reply new m r
+  may_sets_keep seed (sets.SRandMember key n) reply new m r = told_keeps _ (look old key) _ reply new m
+  may_sets_keep seed (sets.SJoin how keys) reply new m r = told_of_keeps (sets_at old keys) _ reply new m
+  may_sets_keep seed (sets.SJoinStore how to keys) reply new m r = done_of_keeps (sets_at old keys) (StoresJoin old to how) (joins_keep to how) reply new m r
+  may_sets_keep seed (sets.SInterCard keys limit) reply new m r = told_of_keeps (sets_at old keys) _ reply new m
+  may_sets_keep seed (sets.SScan key cursor options) reply new m r = told_keeps _ (look old key) _ reply new m
+  may_sets_keep seed command reply new m r = m.1 ∙ sets_keep command (subst IsRefusal m.0 r)
+
+  may_hashes_keep : (seed : ℕ) (command : HashCommand) (reply : List Part) (new : World) → may_hashes seed old command reply new → IsRefusal reply → new ≡ old
+  may_hashes_keep seed (hashes.HKeys key) reply new m r = told_keeps _ (look old key) _ reply new m
+  may_hashes_keep seed (hashes.HVals key) reply new m r = told_keeps _ (look old key) _ reply new m
+  may_hashes_keep seed (hashes.HGetAll key) reply new m r = told_keeps _ (look old key) _ reply new m
+  may_hashes_keep seed (hashes.HRandField key n more) reply new m r = told_keeps _ (look old key) _ reply new m
+  may_hashes_keep seed (hashes.HScan key cursor options) reply new m r = told_keeps _ (look old key) _ reply new m
+  may_hashes_keep seed command reply new m r = m.1 ∙ hashes_keep command (subst IsRefusal m.0 r)
 
   -- what is answered of the sorted set at a key
   on_zset_keeps : (key : List ℕ) (answer : Option Scores → Outcome) → ((before : Option Scores) → Keeps (answer before)) → Keeps (on_type zset_in old (look old key) answer)
@@ -372,6 +421,85 @@ module _ (old : World) where
   zsets_keep (zsets.ZRemRangeByRank key a b) = on_zset_keeps key _ (part_keeps key (λ list. list_range list a b))
   zsets_keep (zsets.ZRemRangeByScore key min max) = on_zset_keeps key _ (part_keeps key (within min max))
   zsets_keep (zsets.ZPop key from n) = on_zset_keeps key _ (lowest_keep key from (or_one n))
+  zsets_keep other = λ r. absurd r
+
+  may_zsets_keep : (seed : ℕ) (command : ZsetCommand) (reply : List Part) (new : World) → may_zsets seed old command reply new → IsRefusal reply → new ≡ old
+  may_zsets_keep seed (zsets.ZRandMember key n more) reply new m r = told_keeps _ (look old key) _ reply new m
+  may_zsets_keep seed (zsets.ZJoinStore join to keys how) reply new m r = done_of_keeps (zsets_at old keys) (StoresScores old to join how (weights_of keys)) (score_joins_keep to join how (weights_of keys)) reply new m r
+  may_zsets_keep seed (zsets.ZScan key cursor options) reply new m r = told_keeps _ (look old key) _ reply new m
+  may_zsets_keep seed command reply new m r = m.1 ∙ zsets_keep command (subst IsRefusal m.0 r)
+
+  -- what is answered of the stream at a key
+  on_stream_keeps : (key : List ℕ) (answer : Option Stream → Outcome) → ((before : Option Stream) → Keeps (answer before)) → Keeps (on_type stream_in old (look old key) answer)
+  on_stream_keeps key answer h = on_type_keeps stream_in (look old key) answer h
+
+  append_as_keeps : (key : List ℕ) (trim : Option Trim) (pairs : List Pair) (s : Stream) (id : Result Id Refusal) → Keeps (append_as old key trim pairs s id)
+  append_as_keeps key trim pairs s (Ok id) = λ r. absurd r
+  append_as_keeps key trim pairs s (Err refusal) = λ r. refl
+
+  entry_keeps : (moment : ℕ) (key : List ℕ) (options : AppendOptions) (id : NewId) (pairs : List Pair) (before : Option Stream) → Keeps (stream_steps.append old moment key options id pairs before)
+  entry_keeps moment key options id pairs None = either options.only_there _ _ (λ r. absurd r) (append_as_keeps key options.trim pairs no_stream (id_for moment no_stream.last id))
+  entry_keeps moment key options id pairs (Some s) = append_as_keeps key options.trim pairs s (id_for moment s.last id)
+
+  front_keeps : (key : List ℕ) (trim : Trim) (before : Option Stream) → Keeps (trim_to old key trim before)
+  front_keeps key trim None = λ r. absurd r
+  front_keeps key trim (Some s) = λ r. absurd r
+
+  delete_keeps : (key : List ℕ) (ids : List Id) (before : Option Stream) → Keeps (delete old key ids before)
+  delete_keeps key ids None = λ r. absurd r
+  delete_keeps key ids (Some s) = λ r. absurd r
+
+  ids_keep : (from to : Id) (order : Direction) (limit : Option ℕ) (before : Option Stream) → Keeps (tell_range old from to order limit before)
+  ids_keep from to order limit None = λ r. refl
+  ids_keep from to order limit (Some s) = λ r. refl
+
+  created_keeps : (key name : List ℕ) (id : Option Id) (s : Stream) → Keeps (create_in old key name id s)
+  created_keeps key name id s = either (contains_key s.groups name) _ _ (λ r. refl) (λ r. absurd r)
+
+  create_keeps : (key name : List ℕ) (id : Option Id) (make : Bool) (before : Option Stream) → Keeps (create old key name id make before)
+  create_keeps key name id make None = either make _ _ (created_keeps key name id no_stream) (λ r. refl)
+  create_keeps key name id make (Some s) = created_keeps key name id s
+
+  destroy_keeps : (key name : List ℕ) (before : Option Stream) → Keeps (destroy old key name before)
+  destroy_keeps key name None = λ r. refl
+  destroy_keeps key name (Some s) = either (contains_key s.groups name) _ _ (λ r. absurd r) (λ r. absurd r)
+
+  no_listing : {X : Type 0} (told : List (List Part)) → IsRefusal (all_listed told) → X
+  no_listing [] r = absurd r
+  no_listing (one ∷ more) r = absurd r
+
+  unless_keeps : (refusal : Option Refusal) (read : List (List Part) × World) → Keeps (unless_refused old refusal read)
+  unless_keeps None read = λ r. no_listing read.0 r
+  unless_keeps (Some refusal) read = λ r. refl
+
+  ack_in_keeps : (key name : List ℕ) (ids : List Id) (s : Stream) (group : Option Group) → Keeps (ack_in old key name ids s group)
+  ack_in_keeps key name ids s None = λ r. refl
+  ack_in_keeps key name ids s (Some group) = λ r. absurd r
+
+  ack_keeps : (key name : List ℕ) (ids : List Id) (before : Option Stream) → Keeps (ack old key name ids before)
+  ack_keeps key name ids None = λ r. refl
+  ack_keeps key name ids (Some s) = ack_in_keeps key name ids s (get s.groups name)
+
+  pending_in_keeps : (group : Option Group) → Keeps (pending_in old group)
+  pending_in_keeps None = λ r. refl
+  pending_in_keeps (Some group) = λ r. refl
+
+  pending_keeps : (name : List ℕ) (before : Option Stream) → Keeps (tell_pending old name before)
+  pending_keeps name None = λ r. refl
+  pending_keeps name (Some s) = pending_in_keeps (get s.groups name)
+
+  streams_keep : (moment : ℕ) (command : StreamCommand) → Keeps (stream_outcome old moment command)
+  streams_keep moment (streams.XAdd key options id pairs) = on_stream_keeps key _ (entry_keeps moment key options id pairs)
+  streams_keep moment (streams.XLen key) = on_stream_keeps key _ (λ before r. refl)
+  streams_keep moment (streams.XRange key from to order limit) = on_stream_keeps key _ (ids_keep from to order limit)
+  streams_keep moment (streams.XDel key ids) = on_stream_keeps key _ (delete_keeps key ids)
+  streams_keep moment (streams.XTrim key trim) = on_stream_keeps key _ (front_keeps key trim)
+  streams_keep moment (streams.XRead limit asked) = either _ _ _ (λ r. refl) (λ r. refl)
+  streams_keep moment (streams.XGroupCreate key name id make) = on_stream_keeps key _ (create_keeps key name id make)
+  streams_keep moment (streams.XGroupDestroy key name) = on_stream_keeps key _ (destroy_keeps key name)
+  streams_keep moment (streams.XReadGroup name consumer limit asked) = unless_keeps (first_refusal old name asked) _
+  streams_keep moment (streams.XAck key name ids) = on_stream_keeps key _ (ack_keeps key name ids)
+  streams_keep moment (streams.XPending key name) = on_stream_keeps key _ (pending_keeps name)
 
   connection_keeps : (moment : ℕ) (command : ConnectionCommand) (reply : List Part) (new : World) → may_connection old moment command reply new → IsRefusal reply → new ≡ old
   connection_keeps moment (connection.Ping text) reply new m r = m.1
@@ -388,9 +516,10 @@ module _ (old : World) where
   command_keeps : (seed moment : ℕ) (command : Command) (reply : List Part) (new : World) → may seed old moment command reply new → IsRefusal reply → new ≡ old
   command_keeps seed moment (Strings command) reply new m r = m.1 ∙ outcome_keeps moment command (subst IsRefusal m.0 r)
   command_keeps seed moment (Lists command) reply new m r = m.1 ∙ lists_keep command (subst IsRefusal m.0 r)
-  command_keeps seed moment (Sets command) reply new m r = may_sets_keep command reply new m r
-  command_keeps seed moment (Hashes command) reply new m r = may_hashes_keep command reply new m r
-  command_keeps seed moment (Zsets command) reply new m r = m.1 ∙ zsets_keep command (subst IsRefusal m.0 r)
+  command_keeps seed moment (Sets command) reply new m r = may_sets_keep seed command reply new m r
+  command_keeps seed moment (Hashes command) reply new m r = may_hashes_keep seed command reply new m r
+  command_keeps seed moment (Zsets command) reply new m r = may_zsets_keep seed command reply new m r
+  command_keeps seed moment (Streams command) reply new m r = m.1 ∙ streams_keep moment command (subst IsRefusal m.0 r)
   command_keeps seed moment (Keys command) reply new m r = keys_keep seed moment command reply new m r
   command_keeps seed moment (Connection command) reply new m r = connection_keeps moment command reply new m r
 

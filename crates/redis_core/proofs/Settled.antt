@@ -34,7 +34,7 @@ use Rattle.redis_core.specs.declared.settling.Touched.{Touched}
 use Rattle.redis_core.specs.declared.settling.Touched.TheVariants.{One, Two}
 use Rattle.keyspace.specs.Shown.{Shows, connection_shown}
 use Rattle.cmd_keys.specs.Found as found
-use Rattle.plain_model.specs.declared.command.Command.TheVariants.{Strings, Lists, Sets, Hashes, Zsets, Keys, Connection}
+use Rattle.plain_model.specs.declared.command.Command.TheVariants.{Strings, Lists, Sets, Hashes, Zsets, Streams, Keys, Connection}
 use Rattle.plain_model.specs.declared.connection.ConnectionCommand.{ConnectionCommand}
 use Rattle.plain_model.specs.declared.connection.ConnectionCommand.TheVariants as connection
 use Rattle.redis_core.specs.Touched.{covers, shrinking, touched_of, IsCommon, Lost, Settles}
@@ -119,9 +119,10 @@ connection_shows_on blocks old mid new at same (connection.DebugDefrag n) none r
 shows_on : {S : Type 0} (blocks : S → Blocks) (old mid new : Keyspace S) (at : Ctx) (same : means at.db new.bases (blocks new.store) ≡ means at.db mid.bases (blocks mid.store)) (command : Command) → IsCommon command → (reply : List Part) → Shows blocks old mid at command reply → Shows blocks old new at command reply
 shows_on blocks old mid new at same (Strings command) none reply s = tt
 shows_on blocks old mid new at same (Lists command) none reply s = tt
-shows_on blocks old mid new at same (Sets command) none reply s = tt
-shows_on blocks old mid new at same (Hashes command) none reply s = tt
-shows_on blocks old mid new at same (Zsets command) none reply s = tt
+shows_on blocks old mid new at same (Sets command) none reply s = s
+shows_on blocks old mid new at same (Hashes command) none reply s = s
+shows_on blocks old mid new at same (Zsets command) none reply s = s
+shows_on blocks old mid new at same (Streams command) none reply s = tt
 shows_on blocks old mid new at same (Keys command) none reply s = s
 shows_on blocks old mid new at same (Connection command) none reply s = connection_shows_on blocks old mid new at same command none reply s
 

@@ -7,7 +7,7 @@ use Rattle.plain_world.specs.Worlds.{World, live}
 use Rattle.plain_model.specs.Meant.{meant, asks_to_quit, IsAsked, is_quit}
 use Rattle.plain_model.specs.Outcomes.{IsRefusal}
 use Rattle.plain_model.proofs.Asked.{FitsCommand, command_fits}
-use Rattle.plain_model.specs.declared.command.Command.TheVariants.{Strings, Lists, Sets, Hashes, Zsets, Keys, Connection}
+use Rattle.plain_model.specs.declared.command.Command.TheVariants.{Strings, Lists, Sets, Hashes, Zsets, Streams, Keys, Connection}
 use Rattle.plain_model.specs.declared.connection.ConnectionCommand.{ConnectionCommand}
 use Rattle.plain_model.specs.declared.connection.ConnectionCommand.TheVariants as connection
 use Rattle.blocks.specs.Slabs.{Heap}
@@ -67,6 +67,7 @@ common_tends blocks heap old new walk (Lists command) reply common = refl
 common_tends blocks heap old new walk (Sets command) reply common = refl
 common_tends blocks heap old new walk (Hashes command) reply common = refl
 common_tends blocks heap old new walk (Zsets command) reply common = refl
+common_tends blocks heap old new walk (Streams command) reply common = refl
 common_tends blocks heap old new walk (Keys command) reply common = refl
 common_tends blocks heap old new walk (Connection command) reply common = common_connection blocks heap old new walk command reply common
 

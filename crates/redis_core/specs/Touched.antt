@@ -9,7 +9,7 @@ use Rattle.plain_world.specs.Worlds.{World}
 use Rattle.plain_world.specs.declared.refusal.Refusal.{Refusal}
 use Rattle.plain_model.specs.Steps.{may}
 use Rattle.plain_model.specs.declared.command.Command.{Command}
-use Rattle.plain_model.specs.declared.command.Command.TheVariants.{Strings, Lists, Sets, Hashes, Zsets, Keys, Connection}
+use Rattle.plain_model.specs.declared.command.Command.TheVariants.{Strings, Lists, Sets, Hashes, Zsets, Streams, Keys, Connection}
 use Rattle.plain_model.specs.declared.connection.ConnectionCommand.TheVariants as connection
 use Rattle.keyspace.specs.Databases.{Bases, Keyspace}
 use Rattle.keyspace.specs.Shown.{Shows}
@@ -81,6 +81,7 @@ IsCommon (Lists command) = Unit {0}
 IsCommon (Sets command) = Unit {0}
 IsCommon (Hashes command) = Unit {0}
 IsCommon (Zsets command) = Unit {0}
+IsCommon (Streams command) = Unit {0}
 IsCommon (Keys command) = Unit {0}
 IsCommon (Connection command) = found.IsCommon command
 

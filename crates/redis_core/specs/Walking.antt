@@ -12,7 +12,7 @@ use Rattle.plain_world.specs.declared.refusal.Refusal.{Refusal}
 use Rattle.plain_world.specs.declared.reply.Part.{Part}
 use Rattle.plain_world.specs.declared.reply.Part.TheVariants.{Number}
 use Rattle.plain_model.specs.declared.command.Command.{Command}
-use Rattle.plain_model.specs.declared.command.Command.TheVariants.{Strings, Lists, Sets, Hashes, Zsets, Keys, Connection}
+use Rattle.plain_model.specs.declared.command.Command.TheVariants.{Strings, Lists, Sets, Hashes, Zsets, Streams, Keys, Connection}
 use Rattle.plain_model.specs.declared.connection.ConnectionCommand.{ConnectionCommand}
 use Rattle.plain_model.specs.declared.connection.ConnectionCommand.TheVariants as connection
 use Rattle.keyspace.specs.Databases.{Keyspace}
@@ -111,6 +111,7 @@ module _ {S : Type 0} (blocks : S → Blocks) (heap : S → Heap) where
     Tends (Sets command) reply = after ≡ before
     Tends (Hashes command) reply = after ≡ before
     Tends (Zsets command) reply = after ≡ before
+    Tends (Streams command) reply = after ≡ before
     Tends (Keys command) reply = after ≡ before
     Tends (Connection command) reply = connection_tends command reply
 

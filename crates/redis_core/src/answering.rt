@@ -18,6 +18,7 @@ use cmd_hashes::run_hashes;
 use cmd_keys::{debug_rehash, memory_slabs, run_connection, run_keys};
 use cmd_lists::run_lists;
 use cmd_sets::run_sets;
+use cmd_streams::run_streams;
 use cmd_values::run_strings;
 use cmd_zsets::run_zsets;
 use command_table::{ReadingFault, read};
@@ -86,9 +87,10 @@ fn run_family<B: BlockStore>(
     match command {
         Command::Strings(own) => run_strings(keyspace, at, own),
         Command::Lists(own) => run_lists(keyspace, at, own),
-        Command::Sets(own) => run_sets(keyspace, at, own),
-        Command::Hashes(own) => run_hashes(keyspace, at, own),
-        Command::Zsets(own) => run_zsets(keyspace, at, own),
+        Command::Sets(own) => run_sets(keyspace, at, own, dice),
+        Command::Hashes(own) => run_hashes(keyspace, at, own, dice),
+        Command::Zsets(own) => run_zsets(keyspace, at, own, dice),
+        Command::Streams(own) => run_streams(keyspace, at, own),
         Command::Keys(own) => run_keys(keyspace, at, own, dice),
         Command::Connection(own) => run_connection(keyspace, at, own),
     }

@@ -7,7 +7,7 @@ ghost use Rattle.plain_model.specs.Meant.{meant, asks_to_quit};
 ghost use Rattle.object_codec.specs.Limits.{AreInRange};
 ghost use Rattle.keyspace.specs.Sound.{Sound};
 ghost use Rattle.keyspace.specs.Scopes.{Within};
-ghost use Rattle.keyspace.specs.Forms.{AreWhole};
+ghost use Rattle.rdb_reader.specs.Forms.{AreNew};
 ghost use Rattle.rdb_reader.specs.Fetching.{Counts, has_failed};
 ghost use Rattle.rdb_reader.specs.Taken.{TakesFile};
 ghost use Rattle.rdb_reader.specs.Loads.{Loads, load_scope};
@@ -49,9 +49,13 @@ pub struct Engine<B: BlockStore> {
 }
 
 impl<B: BlockStore> Model for Engine<B> {
+    ghost use Rattle.std.specs.Coded.{codes};
+    ghost use Rattle.stream_groups.specs.GroupsCode.{groups_code};
     ghost use Rattle.redis_core.specs.Engines.{State, IsWhole};
 
     ghost Value = { State B };
+
+    ghost coded = { Prim.hlevel (codes, B.code, groups_code) };
 
     ghost view = { λ e. record { bases = e.keyspace.bases; store = e.keyspace.store; selected = e.selected; last = e.last; walk = e.walk; is_spent = e.is_spent } };
 
@@ -122,7 +126,7 @@ impl<B: BlockStore> Engine<B> {
     /// spent.
     ///
     /// The tables come from those before, after a fault also from none, by inserts and removals, and each value is encoded as one that is
-    /// written whole.
+    /// written anew: a collection in the least form that fits.
     pub fn load<H: Host>(
         &mut self,
         host: &mut H,
@@ -142,7 +146,7 @@ impl<B: BlockStore> Engine<B> {
         ensures served { Served B.step self.old.store self.new.store }
         ensures walk { self.new.walk ≡ self.old.walk }
         ensures within { Within (load_scope result) self.old.bases self.new.bases (B.blocks self.old.store) (B.blocks self.new.store) }
-        ensures whole { self.old.is_spent ≡ false → AreWhole self.new.bases }
+        ensures form { self.old.is_spent ≡ false → AreNew self.new.bases (B.blocks self.new.store) }
     {
         self.observe(moment);
         if self.is_spent {

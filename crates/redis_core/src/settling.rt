@@ -3,7 +3,7 @@
 ghost use Rattle.std.specs.Prelude.{◌≡◌, ◌<◌, ℕ, OnOk, IfSome, IfNone};
 ghost use Rattle.keyspace.specs.Databases.{means};
 ghost use Rattle.keyspace.specs.Sound.{Sound};
-ghost use Rattle.keyspace.specs.Scopes.{no_key, number_or, AreSettled, string_reach, list_reach, set_reach, hash_reach, zset_reach, key_reach, connection_reach};
+ghost use Rattle.keyspace.specs.Scopes.{no_key, number_or, AreSettled, string_reach, list_reach, set_reach, hash_reach, zset_reach, stream_reach, key_reach, connection_reach};
 ghost use Rattle.keyspace.specs.Commands.{Held};
 ghost use Rattle.redis_core.specs.Touched.{covers, databases, shrinking, touched_of, AreDatabases};
 
@@ -11,7 +11,7 @@ use blocks::BlockStore;
 use keyspace::Keyspace;
 use plain_model::{
     Command, ConnectionCommand, HashCommand, KeyCommand, ListCommand, Memory, SetCommand,
-    StringCommand, ZsetCommand,
+    StreamCommand, StringCommand, ZsetCommand,
 };
 
 // How many databases there are.
@@ -86,6 +86,12 @@ fn touched_by_sets(command: &SetCommand<'_>, db: usize) -> Touched
         SetCommand::SMembers(_) => Touched::Nothing,
         SetCommand::SCard(_) => Touched::Nothing,
         SetCommand::SMove(_, _, _) => Touched::Two(db, db),
+        SetCommand::SPop(_, _) => Touched::One(db),
+        SetCommand::SRandMember(_, _) => Touched::Nothing,
+        SetCommand::SJoin(_, _) => Touched::Nothing,
+        SetCommand::SJoinStore(_, _, _) => Touched::One(db),
+        SetCommand::SInterCard(_, _) => Touched::Nothing,
+        SetCommand::SScan(_, _, _) => Touched::Nothing,
     }
 }
 
@@ -106,6 +112,8 @@ fn touched_by_hashes(command: &HashCommand<'_>, db: usize) -> Touched
         HashCommand::HVals(_) => Touched::Nothing,
         HashCommand::HGetAll(_) => Touched::Nothing,
         HashCommand::HIncrBy(_, _, _) => Touched::One(db),
+        HashCommand::HRandField(_, _, _) => Touched::Nothing,
+        HashCommand::HScan(_, _, _) => Touched::Nothing,
     }
 }
 
@@ -126,6 +134,9 @@ fn touched_by_zsets(command: &ZsetCommand<'_>, db: usize) -> Touched
         ZsetCommand::ZRemRangeByRank(_, _, _) => Touched::One(db),
         ZsetCommand::ZRemRangeByScore(_, _, _) => Touched::One(db),
         ZsetCommand::ZPop(_, _, _) => Touched::One(db),
+        ZsetCommand::ZRandMember(_, _, _) => Touched::Nothing,
+        ZsetCommand::ZJoinStore(_, _, _, _) => Touched::One(db),
+        ZsetCommand::ZScan(_, _, _) => Touched::Nothing,
     }
 }
 
@@ -136,6 +147,24 @@ fn number_of(db: usize, number: Option<usize>) -> usize
     match number {
         None => db,
         Some(number) => number,
+    }
+}
+
+fn touched_by_streams(command: &StreamCommand<'_>, db: usize) -> Touched
+    ensures { result ≡ databases (stream_reach db command.now) }
+{
+    match command {
+        StreamCommand::XAdd(_, _, _, _) => Touched::One(db),
+        StreamCommand::XLen(_) => Touched::Nothing,
+        StreamCommand::XRange(_, _, _, _, _) => Touched::Nothing,
+        StreamCommand::XDel(_, _) => Touched::One(db),
+        StreamCommand::XTrim(_, _) => Touched::One(db),
+        StreamCommand::XRead(_, _) => Touched::Nothing,
+        StreamCommand::XGroupCreate(_, _, _, _) => Touched::One(db),
+        StreamCommand::XGroupDestroy(_, _) => Touched::One(db),
+        StreamCommand::XReadGroup(_, _, _, _) => Touched::One(db),
+        StreamCommand::XAck(_, _, _) => Touched::One(db),
+        StreamCommand::XPending(_, _) => Touched::Nothing,
     }
 }
 
@@ -195,6 +224,7 @@ pub fn touched_by(command: &Command<'_>, db: usize) -> Touched
         Command::Sets(own) => touched_by_sets(own, db),
         Command::Hashes(own) => touched_by_hashes(own, db),
         Command::Zsets(own) => touched_by_zsets(own, db),
+        Command::Streams(own) => touched_by_streams(own, db),
         Command::Keys(own) => touched_by_keys(own, db),
         Command::Connection(own) => touched_by_connection(own, db),
     }

@@ -49,6 +49,8 @@ fn refusal_line(refusal: Refusal) -> &'static [u8]
         Refusal::DatabaseOutOfRange => b"-ERR DB index is out of range\r\n",
         Refusal::ValueOutOfRange => b"-ERR value is out of range\r\n",
         Refusal::SameSourceAndDestination => b"-ERR source and destination are the same\r\n",
+        Refusal::GroupExists => b"-BUSYGROUP consumer group name already exists\r\n",
+        Refusal::NoSuchGroup => b"-NOGROUP no such key or consumer group\r\n",
     }
 }
 
