@@ -6,6 +6,7 @@ use crate::command_lines::{connection_line, key_line, string_line};
 use crate::list_lines::words_line;
 use crate::member_lines::{hash_words_line, set_words_line};
 use crate::score_lines::zset_words_line;
+use crate::stream_lines::stream_words_line;
 use command_table::{ReadingFault, read};
 use plain_model::Command;
 use resp_frames::Feeder;
@@ -37,6 +38,7 @@ fn read_line(alloc: Global, feeder: &Feeder) -> Result<Vec<u8>, AllocError>
         Ok(Command::Sets(command)) => set_words_line(alloc, &command),
         Ok(Command::Hashes(command)) => hash_words_line(alloc, &command),
         Ok(Command::Zsets(command)) => zset_words_line(alloc, &command),
+        Ok(Command::Streams(command)) => stream_words_line(alloc, &command),
         Ok(Command::Keys(command)) => key_line(alloc, &command),
         Ok(Command::Connection(command)) => connection_line(alloc, &command),
         Err(ReadingFault::Refused(refusal)) => {

@@ -150,12 +150,17 @@ fn push_option(
     Ok(())
 }
 
-fn scan_line(alloc: Global, cursor: u64, options: &ScanOptions<'_>) -> Result<Vec<u8>, AllocError> {
+/// A command's name and its words, a cursor, and what the options of SCAN say.
+pub fn scan_line(
+    alloc: Global,
+    name: &str,
+    words: &[&[u8]],
+    cursor: u64,
+    options: &ScanOptions<'_>,
+) -> Result<Vec<u8>, AllocError> {
     let count = options.count;
-    let mut bytes = Vec::from_slice(
-        alloc,
-        format!(in alloc; "Scan {cursor} {count}")?.as_bytes(),
-    )?;
+    let mut bytes = line(alloc, name, words)?;
+    bytes.extend_from_slice(format!(in alloc; " {cursor} {count}")?.as_bytes())?;
     push_option(&mut bytes, b" match=", &options.pattern)?;
     push_option(&mut bytes, b" type=", &options.type_name)?;
     Ok(bytes)
@@ -213,7 +218,7 @@ pub fn key_line(alloc: Global, command: &KeyCommand<'_>) -> Result<Vec<u8>, Allo
             let db = format!(in alloc; "{db}")?;
             line(alloc, "MoveKey", &[key.as_slice(), db.as_bytes()])
         }
-        KeyCommand::Scan(cursor, options) => scan_line(alloc, *cursor, options),
+        KeyCommand::Scan(cursor, options) => scan_line(alloc, "Scan", &[], *cursor, options),
         _ => plain_key_line(alloc, command),
     }
 }

@@ -13,6 +13,7 @@ mod member_lines;
 mod score_lines;
 mod served;
 mod serving_lines;
+mod stream_lines;
 
 use crate::command::command;
 use crate::served::Given;

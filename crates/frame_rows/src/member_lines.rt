@@ -1,6 +1,6 @@
 //! Commands on sets and on hashes as lines of text.
 
-use crate::command_lines::{line, list_line, pairs_line};
+use crate::command_lines::{line, list_line, pairs_line, scan_line};
 use plain_model::{HashCommand, PairList, SetCommand, Word, WordList};
 use std::alloc::{AllocError, Global};
 
@@ -28,6 +28,42 @@ fn fields_line(
     Ok(bytes)
 }
 
+// Commands that pick members, join sets or walk through one.
+fn joined_line(alloc: Global, command: &SetCommand<'_>) -> Result<Vec<u8>, AllocError> {
+    match command {
+        SetCommand::SPop(key, n) => {
+            let n = format!(in alloc; "{n:?}")?;
+            line(alloc, "SPop", &[key.as_slice(), n.as_bytes()])
+        }
+        SetCommand::SRandMember(key, n) => {
+            let n = format!(in alloc; "{n:?}")?;
+            line(alloc, "SRandMember", &[key.as_slice(), n.as_bytes()])
+        }
+        SetCommand::SJoin(how, keys) => {
+            list_line(alloc, format!(in alloc; "SJoin {how:?}")?.as_str(), keys)
+        }
+        SetCommand::SJoinStore(how, to, keys) => {
+            keyed_line(
+                alloc,
+                format!(in alloc; "SJoinStore {how:?}")?.as_str(),
+                to,
+                keys,
+            )
+        }
+        SetCommand::SInterCard(keys, limit) => {
+            list_line(
+                alloc,
+                format!(in alloc; "SInterCard {limit}")?.as_str(),
+                keys,
+            )
+        }
+        SetCommand::SScan(key, from, options) => {
+            scan_line(alloc, "SScan", &[key.as_slice()], *from, options)
+        }
+        _ => line(alloc, "another", &[]),
+    }
+}
+
 /// The command's name, and what it keeps.
 pub fn set_words_line(alloc: Global, command: &SetCommand<'_>) -> Result<Vec<u8>, AllocError> {
     match command {
@@ -46,10 +82,11 @@ pub fn set_words_line(alloc: Global, command: &SetCommand<'_>) -> Result<Vec<u8>
                 &[from.as_slice(), to.as_slice(), member.as_slice()],
             )
         }
+        _ => joined_line(alloc, command),
     }
 }
 
-// Commands of a key and one field.
+// Commands of a key and one field, or of all or some fields.
 fn field_line(alloc: Global, command: &HashCommand<'_>) -> Result<Vec<u8>, AllocError> {
     match command {
         HashCommand::HGet(key, field) => {
@@ -64,6 +101,13 @@ fn field_line(alloc: Global, command: &HashCommand<'_>) -> Result<Vec<u8>, Alloc
         HashCommand::HKeys(key) => line(alloc, "HKeys", &[key.as_slice()]),
         HashCommand::HVals(key) => line(alloc, "HVals", &[key.as_slice()]),
         HashCommand::HGetAll(key) => line(alloc, "HGetAll", &[key.as_slice()]),
+        HashCommand::HRandField(key, n, with_values) => {
+            let beside = format!(in alloc; "{n:?} {with_values}")?;
+            line(alloc, "HRandField", &[key.as_slice(), beside.as_bytes()])
+        }
+        HashCommand::HScan(key, from, options) => {
+            scan_line(alloc, "HScan", &[key.as_slice()], *from, options)
+        }
         _ => line(alloc, "another", &[]),
     }
 }

@@ -1,6 +1,6 @@
 //! Commands on sorted sets as lines of text.
 
-use crate::command_lines::line;
+use crate::command_lines::{line, scan_line};
 use crate::member_lines::keyed_line;
 use plain_model::{ScoreList, ScoreRules, Word, ZsetCommand};
 use std::alloc::{AllocError, Global};
@@ -70,6 +70,10 @@ fn changing_line(alloc: Global, command: &ZsetCommand<'_>) -> Result<Vec<u8>, Al
         ZsetCommand::ZPop(key, from, n) => {
             beside_line(alloc, "ZPop", key, format!(in alloc; "{from:?} {n:?}")?)
         }
+        ZsetCommand::ZJoinStore(join, to, keys, aggregate) => {
+            let beside = format!(in alloc; "{join:?} {aggregate:?}")?;
+            scores_line(alloc, "ZJoinStore", to, beside.as_str(), keys)
+        }
         _ => line(alloc, "another", &[]),
     }
 }
@@ -110,6 +114,17 @@ pub fn zset_words_line(alloc: Global, command: &ZsetCommand<'_>) -> Result<Vec<u
         ZsetCommand::ZRangeByScore(key, min, max, from, limit, with_scores) => {
             let beside = format!(in alloc; "{min:?} {max:?} {from:?} {limit:?} {with_scores}")?;
             beside_line(alloc, "ZRangeByScore", key, beside)
+        }
+        ZsetCommand::ZRandMember(key, n, with_scores) => {
+            beside_line(
+                alloc,
+                "ZRandMember",
+                key,
+                format!(in alloc; "{n:?} {with_scores}")?,
+            )
+        }
+        ZsetCommand::ZScan(key, from, options) => {
+            scan_line(alloc, "ZScan", &[key.as_slice()], *from, options)
         }
         _ => changing_line(alloc, command),
     }
