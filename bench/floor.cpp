@@ -1,6 +1,7 @@
-// The floor of what a server of strings, lists and sorted sets costs: it reads requests in RESP2 from its input in pieces of 64 KiB, keeps an
-// std::unordered_map of std::string, one of std::deque and one of trees that count ranks, and writes the replies. No deadline ends, no table grows in steps, and nothing is checked that a
-// workload doesn't do wrong.
+// The floor of what a server of strings, lists, sorted sets, sets, hashes and streams costs: it reads requests in RESP2 from its input in
+// pieces of 64 KiB, keeps an std::unordered_map of std::string, one of std::deque, one of trees that count ranks, and others of
+// std::unordered_set, std::unordered_map and std::map, and writes the replies. No deadline ends, no table grows in steps, and nothing is
+// checked that a workload doesn't do wrong.
 #include <algorithm>
 #include <cstdio>
 #include <cstdlib>
@@ -9,10 +10,12 @@
 #include <deque>
 #include <ext/pb_ds/assoc_container.hpp>
 #include <ext/pb_ds/tree_policy.hpp>
+#include <map>
 #include <string>
 #include <string_view>
 #include <unistd.h>
 #include <unordered_map>
+#include <unordered_set>
 #include <vector>
 
 using Words = std::vector<std::string_view>;
@@ -28,6 +31,27 @@ struct Scored {
 };
 
 static std::unordered_map<std::string, Scored> zsets;
+static std::unordered_map<std::string, std::unordered_set<std::string>> sets;
+
+// a small hash is told in the order in which its fields came, which a map of the library doesn't keep
+struct Hash {
+  std::unordered_map<std::string, std::string> fields;
+  std::vector<const std::pair<const std::string, std::string> *> order;
+};
+
+static std::unordered_map<std::string, Hash> hashes;
+using Id = std::pair<unsigned long long, unsigned long long>;
+using Entries = std::map<Id, std::vector<std::string>>;
+struct Group {
+  Id last;
+  std::map<Id, std::string> pending;
+};
+struct Stream {
+  Entries entries;
+  std::unordered_map<std::string, Group> groups;
+};
+
+static std::unordered_map<std::string, Stream> streams;
 static std::string input, replies;
 
 static void put_all() {
@@ -156,6 +180,121 @@ static void execute_of_zset(const Words &words) {
   else range_from(set, set.order.lower_bound({whole(words[2]), ""}), place(words[6]));
 }
 
+static void intersect(const std::unordered_set<std::string> &set, const std::unordered_set<std::string> &other) {
+  std::string told;
+  size_t count = 0;
+  std::swap(told, replies);
+  for (const std::string &member : set)
+    if (other.count(member)) {
+      bulk(member);
+      count++;
+    }
+  std::swap(told, replies);
+  replies += '*' + std::to_string(count) + "\r\n" + told;
+}
+
+// A workload pops from no set that is empty. Which member goes is the map's choice: nothing is drawn.
+static void execute_of_set(const Words &words) {
+  std::string_view name = words[0];
+  std::unordered_set<std::string> &set = sets[std::string(words[1])];
+  if (name == "SADD") {
+    long long fresh = 0;
+    for (size_t i = 2; i < words.size(); i++) fresh += set.emplace(words[i]).second;
+    number(fresh);
+  } else if (name == "SISMEMBER") number(set.count(std::string(words[2])));
+  else if (name == "SPOP") {
+    bulk(*set.begin());
+    set.erase(set.begin());
+  } else intersect(set, sets[std::string(words[2])]);
+}
+
+// a field gets a value; whether it is new
+static bool field(Hash &hash, std::string_view name, std::string_view value) {
+  auto [at, fresh] = hash.fields.try_emplace(std::string(name), value);
+  if (fresh) hash.order.push_back(&*at);
+  else at->second = value;
+  return fresh;
+}
+
+// A workload asks for no field that isn't there.
+static void execute_of_hash(const Words &words) {
+  std::string_view name = words[0];
+  Hash &hash = hashes[std::string(words[1])];
+  if (name == "HSET") {
+    long long fresh = 0;
+    for (size_t i = 2; i < words.size(); i += 2) fresh += field(hash, words[i], words[i + 1]);
+    number(fresh);
+  } else if (name == "HGET") bulk(hash.fields[std::string(words[2])]);
+  else if (name == "HGETALL") {
+    replies += '*' + std::to_string(2 * hash.order.size()) + "\r\n";
+    for (const auto *pair : hash.order) {
+      bulk(pair->first);
+      bulk(pair->second);
+    }
+  } else {
+    std::string &value = hash.fields[std::string(words[2])];
+    long long sum = whole(value) + whole(words[3]);
+    value = std::to_string(sum);
+    number(sum);
+  }
+}
+
+static Id id(std::string_view word) {
+  size_t dash = word.find('-');
+  return {whole(word.substr(0, dash)), whole(word.substr(dash + 1))};
+}
+
+// the entries between two places
+static void tell(Entries::const_iterator at, Entries::const_iterator behind) {
+  replies += '*' + std::to_string(std::distance(at, behind)) + "\r\n";
+  for (; at != behind; ++at) {
+    replies += "*2\r\n";
+    bulk(std::to_string(at->first.first) + '-' + std::to_string(at->first.second));
+    replies += '*' + std::to_string(at->second.size()) + "\r\n";
+    for (const std::string &word : at->second) bulk(word);
+  }
+}
+
+// GROUP, the group, the consumer, COUNT, how many, STREAMS, the key and >
+static void read_group(const Words &words) {
+  Stream &stream = streams[std::string(words[7])];
+  Group &group = stream.groups[std::string(words[2])];
+  auto first = stream.entries.upper_bound(group.last), behind = first;
+  if (first == stream.entries.end()) {
+    replies += "*-1\r\n";
+    return;
+  }
+  for (size_t left = place(words[5]); left > 0 && behind != stream.entries.end(); left--, ++behind) {
+    group.pending.emplace_hint(group.pending.end(), behind->first, words[3]);
+    group.last = behind->first;
+  }
+  replies += "*1\r\n*2\r\n";
+  bulk(words[7]);
+  tell(first, behind);
+}
+
+static void execute_of_stream(const Words &words) {
+  std::string_view name = words[0];
+  if (name == "XREADGROUP") return read_group(words);
+  Stream &stream = streams[std::string(words[name == "XGROUP" ? 2 : 1])];
+  if (name == "XADD") {
+    stream.entries.emplace_hint(stream.entries.end(), id(words[2]), std::vector<std::string>(words.begin() + 3, words.end()));
+    bulk(words[2]);
+  } else if (name == "XRANGE") {
+    auto first = stream.entries.lower_bound(id(words[2])), behind = first;
+    for (size_t left = place(words[5]); left > 0 && behind != stream.entries.end(); left--) ++behind;
+    tell(first, behind);
+  } else if (name == "XACK") {
+    Group &group = stream.groups[std::string(words[2])];
+    long long gone = 0;
+    for (size_t i = 3; i < words.size(); i++) gone += group.pending.erase(id(words[i]));
+    number(gone);
+  } else {
+    stream.groups[std::string(words[3])];
+    replies += "+OK\r\n";
+  }
+}
+
 static void execute(const Words &words) {
   std::string_view name = words[0];
   if (name == "GET") {
@@ -182,6 +321,12 @@ static void execute(const Words &words) {
     execute_of_list(words);
   } else if (name[0] == 'Z') {
     execute_of_zset(words);
+  } else if (name[0] == 'S') {
+    execute_of_set(words);
+  } else if (name[0] == 'H') {
+    execute_of_hash(words);
+  } else if (name[0] == 'X') {
+    execute_of_stream(words);
   } else if (name == "APPEND") {
     std::string &value = values[std::string(words[1])];
     value += words[2];

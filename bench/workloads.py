@@ -5,6 +5,9 @@ and prints how many are measured.
 usage: workloads.py set|get|incr|setex|expire|mset|mget|append|del|mix KEYS REQUESTS BYTES PREPARED MEASURED
        workloads.py lpush|pushpop|lrange|lindex|lpos KEYS REQUESTS BYTES PREPARED MEASURED ELEMENTS
        workloads.py zadd|zrescore|zrank|zrange|zbyscore|zincrby|zaddpop KEYS REQUESTS BYTES PREPARED MEASURED MEMBERS
+       workloads.py sadd|sismember|spop|sinter KEYS REQUESTS BYTES PREPARED MEASURED MEMBERS
+       workloads.py hset|hreset|hget|hgetall|hincrby KEYS REQUESTS BYTES PREPARED MEASURED FIELDS
+       workloads.py xadd|xrange|xreadgroup KEYS REQUESTS BYTES PREPARED MEASURED ENTRIES
 
 A key has 16 bytes, and a value as many as BYTES says; for INCR a value is a number. MSET and MGET name 10 keys. The mix is of 80
 percent GET, 15 SET and 5 EXPIRE, with few keys that are named often. All keys are there before, but for those that DEL named.
@@ -16,7 +19,17 @@ middle, and LPOS where that one stands, which is the only one of its kind.
 Each key of the third line is a sorted set of so many members of as many bytes. ZADD adds a new member, or gives one that is there
 another score; ZRANK, ZINCRBY ask for any member; ten members are told from a rank or from a score on. The lowest member is added and
 taken off by two requests, and the set stays as large.
+
+Each key of the fourth line is a set of so many members of as many bytes. SADD adds a new member; a new one and then any are put in and
+taken off by two requests, and the set stays as large. SINTER joins it with one more set that is as large and shares a single member.
+
+Each key of the fifth line is a hash of so many fields, which have as many bytes as their values; for HINCRBY a value is a number. HSET
+adds a new field, or gives one that is there another value.
+
+Each key of the last line is a stream of so many entries of two fields, whose values have as many bytes. XRANGE tells ten entries from
+any on. A group reads the next ten and then acknowledges them by two requests; ask for half of all entries at most, lest a stream ends.
 """
+import collections
 import random
 import sys
 
@@ -32,10 +45,16 @@ SKEW = 4
 # the workloads over lists, how many elements a request prepares, and how many LRANGE tells
 LISTS = ("lpush", "pushpop", "lrange", "lindex", "lpos")
 ZSETS = ("zadd", "zrescore", "zrank", "zrange", "zbyscore", "zincrby", "zaddpop")
+SETS = ("sadd", "sismember", "spop", "sinter")
+HASHES = ("hset", "hreset", "hget", "hgetall", "hincrby")
+STREAMS = ("xadd", "xrange", "xreadgroup")
 PUSHED = 100
 SCORES = 1_000_003
 RANGE = 10
 TOLD = 100
+# the set that SINTER joins each other with, and how many entries of each stream the group has read
+OTHER = b"other"
+read = collections.Counter()
 
 
 def name(number):
@@ -57,7 +76,7 @@ def element(i, elements, length):
     return b"m" * length if i == elements // 2 else value(i, length)
 
 
-def prepared_lists(keys, elements, length):
+def prepared_lists(_kind, keys, elements, length):
     """RPUSH of all elements of each list."""
     for i in range(keys):
         for first in range(0, elements, PUSHED):
@@ -79,7 +98,7 @@ def of_list(kind, i, key, dice, elements, length):
     return [request(b"LPOS", key, b"m" * length)]
 
 
-def prepared_zsets(keys, members, length):
+def prepared_zsets(_kind, keys, members, length):
     """ZADD of all members of each sorted set."""
     for i in range(keys):
         for first in range(0, members, PUSHED):
@@ -105,6 +124,80 @@ def of_zset(kind, i, key, dice, members, length):
     if kind == "zincrby":
         return [request(b"ZINCRBY", key, b"%d" % (dice.randrange(201) - 100), any_member)]
     return [request(b"ZADD", key, b"-1", value(members, length)), request(b"ZPOPMIN", key)]
+
+
+def prepared_sets(kind, keys, members, length):
+    """SADD of all members of each set, and of the other one, whose first member is the last of each."""
+    starts = [(name(i), 0) for i in range(keys)] + [(OTHER, members - 1)] * (kind == "sinter")
+    for key, start in starts:
+        for first in range(start, start + members, PUSHED):
+            behind = min(first + PUSHED, start + members)
+            yield request(b"SADD", key, *[value(j, length) for j in range(first, behind)])
+
+
+def of_set(kind, i, key, dice, members, length):
+    """The requests of a workload over sets."""
+    if kind == "sadd":
+        return [request(b"SADD", key, value(members + i, length))]
+    if kind == "sismember":
+        return [request(b"SISMEMBER", key, value(dice.randrange(members), length))]
+    if kind == "spop":
+        return [request(b"SADD", key, value(members + i, length)), request(b"SPOP", key)]
+    return [request(b"SINTER", key, OTHER)]
+
+
+def prepared_hashes(kind, keys, fields, length):
+    """HSET of all fields of each hash."""
+    for i in range(keys):
+        for first in range(0, fields, PUSHED):
+            behind = min(first + PUSHED, fields)
+            pairs = [(value(j, length), b"%d" % j if kind == "hincrby" else value(i, length)) for j in range(first, behind)]
+            yield request(b"HSET", name(i), *[word for pair in pairs for word in pair])
+
+
+def of_hash(kind, i, key, dice, fields, length):
+    """The requests of a workload over hashes."""
+    any_field = value(dice.randrange(fields), length)
+    if kind == "hset":
+        return [request(b"HSET", key, value(fields + i, length), value(i, length))]
+    if kind == "hreset":
+        return [request(b"HSET", key, any_field, value(i, length))]
+    if kind == "hget":
+        return [request(b"HGET", key, any_field)]
+    if kind == "hgetall":
+        return [request(b"HGETALL", key)]
+    return [request(b"HINCRBY", key, any_field, b"%d" % (dice.randrange(201) - 100))]
+
+
+def entry_id(number):
+    return b"%d-1" % (number + 1)
+
+
+def added(key, number, length):
+    """XADD of an entry: its id is the client's, so that the reply is the same each time."""
+    return request(b"XADD", key, entry_id(number), b"first", value(number, length), b"second", value(number * 7, length))
+
+
+def prepared_streams(kind, keys, entries, length):
+    """XADD of each entry of each stream, and a group that has read none of them."""
+    for i in range(keys):
+        for j in range(entries):
+            yield added(name(i), j, length)
+        if kind == "xreadgroup":
+            yield request(b"XGROUP", b"CREATE", name(i), b"group", b"0")
+
+
+def of_stream(kind, i, key, dice, entries, length):
+    """The requests of a workload over streams."""
+    if kind == "xadd":
+        return [added(key, entries + i, length)]
+    if kind == "xrange":
+        first = dice.randrange(max(entries - RANGE, 0) + 1)
+        return [request(b"XRANGE", key, entry_id(first), b"+", b"COUNT", b"%d" % RANGE)]
+    ids = [entry_id(j) for j in range(read[key], read[key] + RANGE)]
+    read[key] += RANGE
+    return [request(b"XREADGROUP", b"GROUP", b"group", b"consumer", b"COUNT", b"%d" % RANGE, b"STREAMS", key, b">"),
+            request(b"XACK", key, b"group", *ids)]
 
 
 def mixed(i, key, dice, length):
@@ -175,15 +268,19 @@ def write(path, requests):
     return count
 
 
+FAMILIES = ((LISTS, prepared_lists, of_list), (ZSETS, prepared_zsets, of_zset), (SETS, prepared_sets, of_set),
+            (HASHES, prepared_hashes, of_hash), (STREAMS, prepared_streams, of_stream))
+
+
 def main():
     kind, keys, count, length, first, second, *rest = sys.argv[1:]
     keys, count, length = int(keys), int(count), int(length)
-    if kind in LISTS + ZSETS:
-        elements = int(rest[0])
-        prepare, of_value = (prepared_lists, of_list) if kind in LISTS else (prepared_zsets, of_zset)
-        write(first, prepare(keys, elements, length))
-        print(write(second, measured_values(of_value, kind, keys, count, elements, length)))
-        return
+    for kinds, prepare, of_value in FAMILIES:
+        if kind in kinds:
+            elements = int(rest[0])
+            write(first, prepare(kind, keys, elements, length))
+            print(write(second, measured_values(of_value, kind, keys, count, elements, length)))
+            return
     write(first, prepared(kind, keys, length))
     print(write(second, measured(kind, keys, count, length)))
 
