@@ -1,3 +1,22 @@
+//! What a pass keeps.
+//!
+//! # How a pass packs the slabs
+//!
+//! Blocks that come and go leave slabs half empty, and a slab is given back only when its last block goes. A pass makes each class
+//! stand in as few slabs as its blocks need, `needed = used / slots`, rounded up, and moves no more blocks than it must:
+//!
+//! 1. `begin_pass` keeps the `needed` fullest slabs of each class, among equals those with the lower number. The blocks of the others
+//!    want to move, and taking the fullest makes these the fewest.
+//! 2. Whoever owns blocks goes through them and moves each that wants it, at any pace, while requests are served in between. A moved
+//!    block goes into the first kept slab of its class that has room, and a slab whose last block has gone is given back at once.
+//! 3. `end_pass` lets all slabs take blocks again.
+//!
+//! A move must need no memory, so room may never run short. The kept slabs of a class have `needed * slots - kept` free places for
+//! `used - kept` blocks that wait to move; the difference, the class's margin, is `needed * slots - used`, which is not below 0. A move
+//! takes a place from both sides. A block that is placed during the pass takes one from the margin, and where that is 0 it
+//! gets a new slab, which is kept and brings the margin up by its other places; one that is given back adds one. So the margin never
+//! goes below 0, and each block that waits has a place.
+
 ghost use Rattle.std.specs.Prelude.{◌≡◌, ℕ, ◌+◌, ◌*◌, ◌^◌, ◌<◌, ◌≤◌, false, true, length, sum_by, count_by, slice_index_or};
 ghost use Rattle.blocks.specs.Slabs.{is_of, released, spare_in, unmarked, used_in, waiting_in};
 ghost use Rattle.class_heap.specs.Directory.{labels_at};

@@ -1,4 +1,28 @@
 //! Moves of a scan over the tables.
+//!
+//! # How a scan survives a rehash
+//!
+//! A client keeps nothing of a scan but a cursor, and between two calls the tables may grow, shrink, or be anywhere in a rehash. An
+//! element that stays throughout must be given all the same, so the cursor can't be a bucket's number: in a table of twice as many
+//! buckets the elements of a bucket `b` of `2^k` stand in `b` and in `b + 2^k`.
+//!
+//! An element's bucket is the low bits of its hash. Read those bits backwards, lowest first, and call the 64 bits of the hash read so
+//! the element's place. The bucket of a table of `2^k` buckets is then the run of all places that begin with the same `k` bits, and
+//! doubling the table cuts each run in two halves that lie side by side, in that order. So all tables, of whatever size, cut one
+//! and the same line of places:
+//!
+//! ```text
+//! 4 buckets   |      00       |      10       |      01       |      11       |
+//! 8 buckets   |  000  |  100  |  010  |  110  |  001  |  101  |  011  |  111  |
+//! ```
+//!
+//! A cursor is a point of this line (its 64 bits backwards): all places before it are done. A move gives the run that begins there, and
+//! answers the point where it ends: with the bits reversed that is adding one at the table's last bit, which is how the SCAN commands
+//! count. The next move may meet another table; the point is an edge of one of its runs, or lies within one, whose elements
+//! are then given again from its beginning. None is left out.
+//!
+//! In a rehash an element is in the one table or in the other. A move gives the run of the smaller table, and of the larger one
+//! all the runs that lie within it from the cursor on, so that whatever has been moved was met.
 
 ghost use Rattle.std.specs.Prelude.{◌≡◌, ℕ, ◌+◌, ◌-◌, ◌*◌, ◌/◌, ◌%◌, ◌^◌, ◌<◌, ◌≤◌, ◌++◌, ◌∷◌, List, length, Option, Some, None, OnOk, OnErr, IfOk, IsTrue, ◌↔◌};
 ghost use Rattle.std.specs.Option.{option_copied};
