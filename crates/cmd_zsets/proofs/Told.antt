@@ -2,7 +2,8 @@
 use Rattle.std.proofs.Common.{◌≡◌, ℕ, zero, suc, ◌+◌, ◌-◌, ◌*◌, ◌<◌, ◌≤◌, Bool, true, false, List, [], ◌∷◌, ◌++◌, length, take, drop, map, reverse, get_or, ℤ, pos, Option, Some, None, MatchOption, slice_get, refl, sym, ap, subst, ◌∙◌, arith}
 use Rattle.std.specs.FinMap.{get}
 use Rattle.std.proofs.lemmas.Grind.{flat_map-append}
-use Rattle.std.proofs.lemmas.List.{append_assoc, append-nil, take_more, get_or-drop, length-drop, length-take-le, length-reverse, get_or-reverse}
+use Rattle.std.proofs.Math.Seq.{take-append_seam, drop-append_seam}
+use Rattle.std.proofs.lemmas.List.{append_assoc, append-nil, take_more, take-append-drop, get_or-drop, length-drop, length-take-le, length-reverse, reverse-append, get_or-reverse}
 use Rattle.int_text.specs.Decimal.{canonical}
 use Rattle.plain_world.specs.Parts.{AreReplies, IsReply, following}
 use Rattle.plain_world.specs.declared.reply.Part.{Part}
@@ -111,6 +112,47 @@ one_more w xs start k first parts new x at so_far pushed =
     take_more rest k d (omega (arith, there.0, length-drop start xs)) ∙ ap (λ (y : Scored). take k rest ++ y ∷ []) (get_or-drop start xs k d ∙ there.1) in
     pushed ∙ ap (λ l. l ++ told w x) so_far ∙ append_assoc first (told_all w (take k rest)) (told w x)
     ∙ ap (λ l. first ++ l) (ap (λ l. told_all w (take k rest) ++ l) (sym (append-nil (told w x))) ∙ sym (flat_map-append (told w) (take k rest) (x ∷ [])) ∙ ap (told_all w) (sym e))
+
+-- ---- walks
+
+-- the place behind a member that was met
+pub met_next : {C : Type 0} (F : C → Type 0) (o : Option C) (rank start index count : ℕ) (at : C → ℕ) → rank ≡ start + index → MatchOption o (rank + 1 ≡ count) (λ to. F to × (at to ≡ rank + 1)) → MatchOption o (count ≤ start + (index + 1)) (λ to. F to × (at to ≡ start + (index + 1)))
+met_next F None rank start index count at is h = omega (arith, is, h)
+met_next F (Some to) rank start index count at is h = (h.0, omega (arith, is, h.1))
+
+-- one member more was met
+pub more_met : (xs met : List Scored) (start k : ℕ) (x : Scored) → slice_get xs (start + k) ≡ Some x → met ≡ take k (drop start xs) → met ++ x ∷ [] ≡ take (k + 1) (drop start xs)
+more_met xs met start k x at so_far =
+    let d : Scored = (pos 0, []) in
+    let there = some_at xs (start + k) x d at in
+    let rest = drop start xs in
+    ap (λ l. l ++ x ∷ []) so_far
+    ∙ sym (take_more rest k d (omega (arith, there.0, length-drop start xs)) ∙ ap (λ (y : Scored). take k rest ++ y ∷ []) (get_or-drop start xs k d ∙ there.1))
+
+-- one member more is told from the last one back
+pub one_back : (w : Bool) (first parts new : List Part) (left front : List Scored) (x : Scored) → left ≡ front ++ x ∷ [] → new ≡ parts ++ told w x → parts ++ told_all w (reverse left) ≡ first → new ++ told_all w (reverse front) ≡ first
+one_back w first parts new left front x is pushed so_far =
+    ap (λ l. l ++ told_all w (reverse front)) pushed
+    ∙ append_assoc parts (told w x) (told_all w (reverse front))
+    ∙ ap (λ l. parts ++ told_all w l) (sym (ap reverse is ∙ reverse-append front (x ∷ [])))
+    ∙ so_far
+
+-- a part of a list is met from the end as the part so far from the start, backwards
+pub met_back : (list : List Scored) (start count : ℕ) → start + count ≤ length list → take count (drop start (reverse list)) ≡ reverse (take count (drop (length list - start - count) list))
+met_back list start count inside =
+    let low = length list - start - count in
+    let a = take low list in
+    let rest = drop low list in
+    let b = take count rest in
+    let c = drop count rest in
+    let long_rest : length rest ≡ count + start = omega (arith, inside, length-drop low list) in
+    let long_c : length (reverse c) ≡ start = omega (arith, length-reverse c, length-drop count rest, long_rest) in
+    let long_b : length (reverse b) ≡ count = length-reverse b ∙ length-take-le count rest (omega (arith, long_rest)) in
+    let whole : reverse list ≡ reverse c ++ (reverse b ++ reverse a) =
+    ap reverse (sym (ap (λ l. a ++ l) (take-append-drop count rest) ∙ take-append-drop low list)) ∙ reverse-append a (b ++ c) ∙ ap (λ l. l ++ reverse a) (reverse-append b c) ∙ append_assoc (reverse c) (reverse b) (reverse a) in
+    let behind : drop start (reverse list) ≡ reverse b ++ reverse a =
+    ap (drop start) whole ∙ ap (λ n. drop n (reverse c ++ (reverse b ++ reverse a))) (sym long_c) ∙ drop-append_seam (reverse c) (reverse b ++ reverse a) in
+    ap (take count) behind ∙ ap (λ n. take n (reverse b ++ reverse a)) (sym long_b) ∙ take-append_seam (reverse b) (reverse a)
 
 -- ---- scores
 

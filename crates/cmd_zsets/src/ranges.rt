@@ -76,15 +76,13 @@ fn up_to<B: BlockStore>(store: &B, zset: &Scored, most: i64) -> usize
     requires sound { IsScored (B.blocks store.now) zset.now }
     ensures { result ≡ count_by (λ scored. not (int_lt most scored.0)) (ranked (scores (B.blocks store.now) zset.now)) }
 {
+    if most < i64::MAX {
+        return zset.below(store, most + 1);
+    }
+    // no score is above the greatest number
     match highest(store, zset) {
         None => 0,
-        Some(score) => {
-            if score <= most {
-                return zset.len();
-            }
-            // the highest score is above it, so that it isn't the greatest number
-            zset.below(store, most + 1)
-        }
+        Some(_) => zset.len(),
     }
 }
 

@@ -1,17 +1,17 @@
 //! Members that are told one after the other.
 
-ghost use Rattle.std.specs.Prelude.{◌≡◌, ◌+◌, ◌<◌, ◌≤◌, ◌++◌, Some, MatchOption, slice_get, IfOk, OnOk};
+ghost use Rattle.std.specs.Prelude.{◌≡◌, ◌+◌, ◌<◌, ◌≤◌, ◌++◌, take, drop, reverse, IfOk, OnOk};
 ghost use Rattle.std.specs.FinMap.{len as members};
 ghost use Rattle.listpack.specs.Element.{element_text};
 ghost use Rattle.zset_object.specs.Scored.{IsScored, scores};
-ghost use Rattle.plain_model.specs.ZsetSteps.{met, ranked, listed};
+ghost use Rattle.plain_model.specs.ZsetSteps.{ranked, listed};
 ghost use Rattle.cmd_zsets.specs.Spans.{in_span, rank_of, told, told_all, sized};
 
 use crate::reading::score_text;
 use blocks::BlockStore;
 use keyspace::bytes_of;
 use listpack::Element;
-use plain_model::{Direction, Memory, Part, Parts, Reply};
+use plain_model::{Bytes, Direction, Memory, Part, Parts, Reply};
 use std::alloc::{AllocError, Global};
 use zset_object::Scored;
 
@@ -38,20 +38,21 @@ pub fn rank_met(from: Direction, len: usize, place: usize) -> usize
     }
 }
 
-// The member that is met at a place, of so many, and its score. `None` never comes.
-fn member_at<'a, B: BlockStore>(
-    store: &'a B,
-    zset: &'a Scored,
-    len: usize,
-    from: Direction,
-    place: usize,
-) -> Option<(Element<'a>, i64)>
-    requires sound { IsScored (B.blocks store.now) zset.now }
-    requires size { len ≡ members (scores (B.blocks store.now) zset.now) }
-    requires there { place < len }
-    ensures { MatchOption result ⊥ (λ pair. slice_get (met from (ranked (scores (B.blocks store.now) zset.now))) place ≡ Some (pair.1, element_text pair.0)) }
+// Adds a member, whose bytes are at hand, followed by its score where that is asked for.
+fn push_bytes(
+    alloc: Global,
+    member: Bytes,
+    score: i64,
+    with_score: bool,
+    parts: &mut Parts,
+) -> Result<(), Memory>
+    ensures { OnOk result (parts.new ≡ parts.old ++ told with_score (score, member)) }
 {
-    zset.at_rank(store, rank_met(from, len, place))
+    parts.push(Part::Bulk(member))?;
+    if with_score {
+        parts.push(Part::Bulk(score_text(alloc, score)?))?;
+    }
+    Ok(())
 }
 
 /// Adds a member, followed by its score where that is asked for.
@@ -64,9 +65,77 @@ pub fn push_member(
 ) -> Result<(), Memory>
     ensures { OnOk result (parts.new ≡ parts.old ++ told with_score (score, element_text member.entry)) }
 {
-    parts.push(Part::Bulk(bytes_of(alloc, member)?))?;
-    if with_score {
-        parts.push(Part::Bulk(score_text(alloc, score)?))?;
+    let bytes = bytes_of(alloc, member)?;
+    push_bytes(alloc, bytes, score, with_score, parts)
+}
+
+// Adds the members of so many ranks from one on, each followed by its score where that is asked for. They are met in one walk.
+fn push_rising<B: BlockStore>(
+    alloc: Global,
+    store: &B,
+    zset: &Scored,
+    rank: usize,
+    count: usize,
+    with_scores: bool,
+    parts: &mut Parts,
+) -> Result<(), Memory>
+    requires sound { IsScored (B.blocks store.now) zset.now }
+    requires inside { rank + count ≤ members (scores (B.blocks store.now) zset.now) }
+    ensures { OnOk result (parts.new ≡ parts.old ++ told_all with_scores (take count (drop rank (ranked (scores (B.blocks store.now) zset.now))))) }
+{
+    let mut place = zset.cursor(store, rank);
+    for index in 0..count {
+        match place {
+            None => unreachable!(),
+            Some(cursor) => {
+                let (member, score) = zset.pair(store, &cursor);
+                push_member(alloc, member, score, with_scores, parts)?;
+                place = zset.next(store, &cursor);
+            }
+        }
+    }
+    Ok(())
+}
+
+// The members of so many ranks from one on, and their scores. They are met in one walk.
+fn walk<B: BlockStore>(
+    alloc: Global,
+    store: &B,
+    zset: &Scored,
+    rank: usize,
+    count: usize,
+) -> Result<Vec<(i64, Bytes)>, Memory>
+    requires sound { IsScored (B.blocks store.now) zset.now }
+    requires inside { rank + count ≤ members (scores (B.blocks store.now) zset.now) }
+    ensures { IfOk result (λ met. met.items ≡ take count (drop rank (ranked (scores (B.blocks store.now) zset.now)))) }
+{
+    let mut met = Vec::new(alloc);
+    let mut place = zset.cursor(store, rank);
+    for index in 0..count {
+        match place {
+            None => unreachable!(),
+            Some(cursor) => {
+                let (member, score) = zset.pair(store, &cursor);
+                met.push((score, bytes_of(alloc, member)?))?;
+                place = zset.next(store, &cursor);
+            }
+        }
+    }
+    Ok(met)
+}
+
+// Adds members from the last one back, each followed by its score where that is asked for.
+fn push_back(
+    alloc: Global,
+    met: Vec<(i64, Bytes)>,
+    with_scores: bool,
+    parts: &mut Parts,
+) -> Result<(), Memory>
+    ensures { OnOk result (parts.new ≡ parts.old ++ told_all with_scores (reverse met.items)) }
+{
+    let mut left = met;
+    'members: while let Some((score, member)) = left.pop() {
+        push_bytes(alloc, member, score, with_scores, parts)?;
     }
     Ok(())
 }
@@ -84,14 +153,23 @@ fn push_span<B: BlockStore>(
     requires inside { span.start + span.count ≤ members (scores (B.blocks store.now) zset.now) }
     ensures { OnOk result (parts.new ≡ parts.old ++ told_all with_scores (in_span span (ranked (scores (B.blocks store.now) zset.now)))) }
 {
-    let len = zset.len();
-    for index in 0..span.count {
-        match member_at(store, zset, len, span.from, span.start + index) {
-            None => unreachable!(),
-            Some((member, score)) => push_member(alloc, member, score, with_scores, parts)?,
+    match span.from {
+        Direction::Rising => push_rising(
+            alloc,
+            store,
+            zset,
+            span.start,
+            span.count,
+            with_scores,
+            parts,
+        ),
+        Direction::Falling => {
+            // a place has no way back to the one before it, so that the members are met as they rise
+            let lowest = zset.len() - span.start - span.count;
+            let met = walk(alloc, store, zset, lowest, span.count)?;
+            push_back(alloc, met, with_scores, parts)
         }
     }
-    Ok(())
 }
 
 /// How many replies tell of so many members. 2^64 or more are want of memory.
