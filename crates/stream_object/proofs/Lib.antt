@@ -1,9 +1,11 @@
 pub mod Agains
+pub mod Alone
 pub mod Clears
 pub mod Copies
 pub mod Exchanging
 pub mod Grows
 pub mod Later
+pub mod Loads
 pub mod Losing
 pub mod Marking
 pub mod Movings
@@ -12,6 +14,7 @@ pub mod Parts
 pub mod Passed
 pub mod Picks
 pub mod Rises
+pub mod Shortest
 pub mod Trims
 pub mod Walkings
 pub mod Walks

@@ -4,6 +4,7 @@ pub mod Found
 pub mod Groups
 pub mod Handing
 pub mod Laws
+pub mod Loading
 pub mod Node
 pub mod Parts
 pub mod Ranges

@@ -10,6 +10,7 @@ mod fault;
 mod groups;
 mod growing;
 mod laws;
+mod loading;
 mod looking;
 mod marks;
 mod node;
