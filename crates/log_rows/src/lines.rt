@@ -1,6 +1,7 @@
 //! What each line answers.
 
 use crate::held::Held;
+use crate::loads::{load, pack_of};
 use crate::texts::{again_text, entries_text, id_text, moved_text};
 use crate::twin::play;
 use row_words::{done, number, shown, told, unknown};
@@ -27,6 +28,15 @@ fn add(held: &mut Held, alloc: Global, id: Id, field: &str, value: &str) -> Resu
         Ok(()) => done(alloc),
         Err(AddFault::NotAbove(last)) => id_text(alloc, last),
         Err(AddFault::Memory) => want(alloc),
+    }
+}
+
+// A line that loads a node.
+fn load_words(held: &mut Held, alloc: Global, key: Id, words: &[&str]) -> Result<String, Memory> {
+    let pack = pack_of(alloc, words)?;
+    match load(held, key, &pack) {
+        Ok(taken) => told(alloc, taken),
+        Err(_) => want(alloc),
     }
 }
 
@@ -167,6 +177,7 @@ fn plain(held: &mut Held, alloc: Global, name: &str) -> Result<String, Memory> {
 pub fn answer(held: &mut Held, alloc: Global, line: &str) -> Result<String, Memory> {
     let words: Vec<&str> = line.split(' ').collect(alloc)?;
     match words.as_slice() {
+        ["load", ms, seq, elements @ ..] => load_words(held, alloc, id_of(ms, seq), elements),
         ["add", ms, seq, field, value] => add(held, alloc, id_of(ms, seq), field, value),
         ["range", a, b, c, d, limit] => {
             range(held, alloc, id_of(a, b), id_of(c, d), false, number(limit))

@@ -1,10 +1,11 @@
 //! Reads calls of a stream, a line each, and prints what each answers. The lines and the answers are data: stdin and stdout. Expected
 //! answers are those of the Redis command reference of streams (XADD, XDEL, XLEN, XRANGE, XREVRANGE, XTRIM, XGROUP CREATE,
-//! XREADGROUP, XACK, COPY), and those of a plain list under the same edits.
+//! XREADGROUP, XACK, COPY), those of a plain list under the same edits, and the entries that a node of a file has by its format.
 #![tactic(auto)]
 
 mod held;
 mod lines;
+mod loads;
 mod texts;
 mod twin;
 
