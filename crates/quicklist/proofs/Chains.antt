@@ -1,20 +1,19 @@
 -- Chains of nodes over blocks that change.
-use Rattle.std.proofs.Common.{◌≡◌, ℕ, ◌+◌, ◌<◌, ◌≤◌, List, [], ◌∷◌, ◌++◌, Some, None, IsSome, length, map, take, drop, get_or, refl, ap, ◌∙◌, sym, subst, inl, inr, arith, unwrap_or, flat_map, take-add}
+use Rattle.std.proofs.Common.{◌≡◌, ℕ, ◌+◌, ◌<◌, ◌≤◌, List, [], ◌∷◌, ◌++◌, Option, Some, None, IsSome, length, map, take, drop, get_or, refl, ap, ◌∙◌, sym, subst, inl, inr, arith, unwrap_or, flat_map, take-add}
 use Rattle.std.specs.List.{All, remove_range}
 use Rattle.std.proofs.lemmas.Bool.{cond-true, cond-false}
 use Rattle.std.proofs.lemmas.List.{append_assoc, take-append-drop, drop_more, take-map, drop-map, map-append, length-append, length-map, length-drop, drop-drop, take_at, drop_at, length-take-le}
 use Rattle.std.proofs.lemmas.List.Concat.{flat_map-append}
 use Rattle.std.proofs.lemmas.List.Elements.{All-nil, All-cons, All-append, All-take, All-drop}
 use Rattle.blocks.specs.declared.BlockRef.{BlockRef}
-use Rattle.blocks.specs.Blocks.{Blocks, ref_eq, with_block, bytes_at, live, times, IsIn, Changes, Owned}
+use Rattle.blocks.specs.Blocks.{Blocks, ref_eq, with_block, live, times, IsIn, Changes, Owned}
 use Rattle.blocks.proofs.Refs.{apart_live, ref_eq-refl, ref_eq-sym, cases_ref, with_block-other}
 use Rattle.blocks.proofs.Times.{times-append}
-use Rattle.blocks.proofs.Written.{bytes_at-placed}
 use Rattle.blocks.proofs.Change.{one, live-is, live-Some, live-once, Counts, Counts-placed, Counts-ended, Counts-changed, Changes-counted, Changes-then, Changes-both, Changes-same, Changes-owned}
 use Rattle.quicklist.specs.declared.node.Container.{Container}
 use Rattle.quicklist.specs.declared.node.Node.{Node}
 use Rattle.quicklist.specs.declared.piece.Piece.{Piece}
-use Rattle.quicklist.specs.Nodes.{IsNode, IsChain, IsPiece, Placed, Exchanged, Inserted, refs_of, elements_of, node_list, bytes_of, piece_list, held, IsHeld, container_of, container_of_piece}
+use Rattle.quicklist.specs.Nodes.{IsNode, IsChain, IsReadable, IsPiece, IsPlacedOf, filled, Placed, Exchanged, Inserted, refs_of, elements_of, node_list, bytes_of, piece_list, held, IsHeld, container_of, container_of_piece}
 
 -- at itself a reference counts as one
 pub one_self : (at : BlockRef) → one at at ≡ 1
@@ -38,7 +37,7 @@ Same-rest m n node nodes same r isin = same r (omega (arith, isin))
 
 -- where the blocks of nodes are the same, the first node has the same bytes
 Same-bytes : (m n : Blocks) (node : Node) (nodes : List Node) → Same m n (node ∷ nodes) → bytes_of n node ≡ bytes_of m node
-Same-bytes m n node nodes same = ap (λ o. unwrap_or o []) (same node.at (omega (arith, one_self node.at)))
+Same-bytes m n node nodes same = ap (λ o. filled node.container (unwrap_or o [])) (same node.at (omega (arith, one_self node.at)))
 
 -- so their elements are
 pub elements-same : (m n : Blocks) (nodes : List Node) → Same m n nodes → elements_of n nodes ≡ elements_of m nodes
@@ -72,12 +71,23 @@ node_live m nodes k node h is own =
     let whole = ap (λ (xs : List Node). times node.at (refs_of xs)) (cut_at nodes k node h is) in
     live-is m node.at (omega (arith, own node.at, whole, times-refs node.at (take k nodes) (node ∷ drop (k + 1) nodes), one_self node.at))
 
+-- and holds what the node counts
+pub node_read : (m : Blocks) (nodes : List Node) (k : ℕ) (node : Node) → k < length nodes → node ≡ get_or nodes k node → IsChain m nodes → IsReadable m node
+node_read m nodes k node h is c = record { live = node_live m nodes k node h is c.owned; is_node = subst (λ (x : Node). IsNode m x) (sym is) (c.each k node h) }
+
+-- so it is over other blocks where its own is the same
+pub readable_as : (m n : Blocks) (node : Node) → m node.at ≡ n node.at → IsReadable m node → IsReadable n node
+readable_as m n node same r = record {
+  live = subst (λ (o : Option (List ℕ)). IsSome o) same r.live;
+  is_node = IsNode-as m n node (ap (λ (o : Option (List ℕ)). filled node.container (unwrap_or o [])) (sym same)) r.is_node;
+}
+
 -- a part of the nodes
 abbrev pub part : ℕ → ℕ → List Node → List Node
 part k count nodes = take count (drop k nodes)
 
 -- the part of one node from an index on is the node there
-part_one : (nodes : List Node) (k : ℕ) (node : Node) → k < length nodes → node ≡ get_or nodes k node → part k 1 nodes ≡ node ∷ []
+pub part_one : (nodes : List Node) (k : ℕ) (node : Node) → k < length nodes → node ≡ get_or nodes k node → part k 1 nodes ≡ node ∷ []
 part_one nodes k node h is = ap (take 1) (drop_more nodes k node h) ∙ ap (λ (n : Node). n ∷ []) (sym is)
 
 -- the block of a node was given back
@@ -103,7 +113,7 @@ times_cut r nodes k count =
     omega (arith, one, two, rest, times-refs r (take k nodes) (drop k nodes), times-refs r (part k count nodes) (drop count (drop k nodes)))
 
 -- where nodes own their blocks, so does each part of them
-Owned-part : (m : Blocks) (nodes : List Node) (k count : ℕ) → Owned (refs_of nodes) m → Owned (refs_of (part k count nodes)) m
+pub Owned-part : (m : Blocks) (nodes : List Node) (k count : ℕ) → Owned (refs_of nodes) m → Owned (refs_of (part k count nodes)) m
 Owned-part m nodes k count own r = omega (arith, own r, times_cut r nodes k count)
 
 -- the block of the next node behind those that ended is live
@@ -135,10 +145,9 @@ pub none_placed : (m : Blocks) → Placed m m [] []
 none_placed m = record { changes = Changes-same m [] (λ r. omega arith); each = All-nil (IsNode m); list = refl; containers = refl }
 
 -- a node with the count and container of a piece, placed of its bytes, is a node of its elements
-node_of_piece : (m n : Blocks) (piece : Piece) (node : Node) → IsPiece piece → n ≡ with_block m node.at (Some piece.bytes.now) → node.count ≡ piece.count → node.container ≡ piece.container
+pub node_of_piece : (n : Blocks) (piece : Piece) (node : Node) → IsPiece piece → bytes_of n node ≡ piece.bytes.now → node.count ≡ piece.count → node.container ≡ piece.container
     → IsNode n node × (node_list n node ≡ piece_list piece)
-node_of_piece m n piece node is placed count container =
-    let bytes : bytes_of n node ≡ piece.bytes.now = ap (λ k. bytes_at k node.at) placed ∙ bytes_at-placed m node.at piece.bytes.now in
+node_of_piece n piece node is bytes count container =
     let list : node_list n node ≡ piece_list piece = ap (λ (c : Container). held c (bytes_of n node)) container ∙ ap (held piece.container) bytes in (
       record {
         is_held = subst (λ (c : Container). IsHeld c (bytes_of n node)) (sym container) (subst (IsHeld piece.container) (sym bytes) is.is_held);
@@ -149,16 +158,16 @@ node_of_piece m n piece node is placed count container =
     )
 
 -- one node more is placed
-pub one_placed : (m mid n : Blocks) (pieces : List Piece) (piece : Piece) (fresh : List Node) (node : Node) → Placed m mid pieces fresh → IsPiece piece → mid node.at ≡ None
-    → n ≡ with_block mid node.at (Some piece.bytes.now) → node.count ≡ piece.count → node.container ≡ piece.container → Placed m n (pieces ++ piece ∷ []) (fresh ++ node ∷ [])
-one_placed m mid n pieces piece fresh node p is free placed count container =
+pub one_placed : (m mid n : Blocks) (pieces : List Piece) (piece : Piece) (fresh : List Node) (node : Node) → Placed m mid pieces fresh → IsPiece piece
+    → IsPlacedOf mid n piece.bytes.now node → node.count ≡ piece.count → node.container ≡ piece.container → Placed m n (pieces ++ piece ∷ []) (fresh ++ node ∷ [])
+one_placed m mid n pieces piece fresh node p is put count container =
     let own = Changes-owned m mid [] (refs_of fresh) p.changes in
     let same : Same mid n fresh = λ r isin.
-    ap (λ k. k r) placed ∙ with_block-other mid node.at r (Some piece.bytes.now) (apart_live mid r node.at (live-is mid r (omega (arith, own r, isin))) free) in
-    let one' = node_of_piece mid n piece node is placed count container in
+    ap (λ k. k r) put.placed ∙ with_block-other mid node.at r (Some put.block) (apart_live mid r node.at (live-is mid r (omega (arith, own r, isin))) put.free) in
+    let one' = node_of_piece n piece node is put.bytes_is count container in
     let step : Changes mid n (refs_of fresh) (refs_of (fresh ++ node ∷ [])) =
     Changes-counted mid n (refs_of fresh) (refs_of (fresh ++ node ∷ [])) own
-    (Counts-placed mid n node.at piece.bytes.now (refs_of fresh) (refs_of (fresh ++ node ∷ [])) free placed (λ r. omega (arith, times-refs r fresh (node ∷ [])))) in
+    (Counts-placed mid n node.at put.block (refs_of fresh) (refs_of (fresh ++ node ∷ [])) put.free put.placed (λ r. omega (arith, times-refs r fresh (node ∷ [])))) in
     record {
       changes = Changes-then m mid n [] (refs_of fresh) (refs_of (fresh ++ node ∷ [])) p.changes step;
       each = All-append (IsNode n) fresh (node ∷ []) (each-same mid n fresh same p.each) (All-cons (IsNode n) node [] one'.0 (All-nil (IsNode n)));

@@ -1,5 +1,5 @@
 -- Cursors, and the places next to theirs.
-use Rattle.std.proofs.Common.{◌≡◌, ℕ, ◌+◌, ◌-◌, ◌<◌, List, [], ◌++◌, Option, Some, length, take, drop, ap, sym, subst, inl, inr, arith, unwrap_or, length-append}
+use Rattle.std.proofs.Common.{◌≡◌, ℕ, ◌+◌, ◌-◌, ◌<◌, List, ◌++◌, length, take, drop, ap, sym, subst, inl, inr, arith, length-append}
 use Rattle.std.proofs.lemmas.Bool.{cases_lt}
 use Rattle.std.proofs.lemmas.List.{drop_all}
 use Rattle.blocks.specs.Blocks.{Blocks}
@@ -11,16 +11,16 @@ use Rattle.quicklist.specs.Chain.{Chain, IsQuick, elements}
 use Rattle.quicklist.specs.Cursor.{IsOffsetIn}
 use Rattle.quicklist.proofs.Elements.{sum_front, front_more, node_of, elements_cut, place_room}
 
-pub offset_at : (m : Blocks) (nodes : List Node) (k j at : ℕ) (node : Node) (bytes : List ℕ) → node ≡ node_at nodes k → m node.at ≡ Some bytes
+pub offset_at : (m : Blocks) (nodes : List Node) (k j at : ℕ) (node : Node) (bytes : List ℕ) → node ≡ node_at nodes k → bytes_of m node ≡ bytes
     → IsOffsetIn (node_at nodes k).container (bytes_of m (node_at nodes k)) j at → IsOffsetIn node.container bytes j at
 offset_at m nodes k j at node bytes is there off =
     let one = subst (λ (n : Node). IsOffsetIn n.container (bytes_of m n) j at) (sym is) off in
-    subst (λ (xs : List ℕ). IsOffsetIn node.container xs j at) (ap (λ (o : Option (List ℕ)). unwrap_or o []) there) one
+    subst (λ (xs : List ℕ). IsOffsetIn node.container xs j at) there one
 
-pub offset_back : (m : Blocks) (nodes : List Node) (k j at : ℕ) (node : Node) (bytes : List ℕ) → node ≡ node_at nodes k → m node.at ≡ Some bytes
+pub offset_back : (m : Blocks) (nodes : List Node) (k j at : ℕ) (node : Node) (bytes : List ℕ) → node ≡ node_at nodes k → bytes_of m node ≡ bytes
     → IsOffsetIn node.container bytes j at → IsOffsetIn (node_at nodes k).container (bytes_of m (node_at nodes k)) j at
 offset_back m nodes k j at node bytes is there off =
-    let one = subst (λ (xs : List ℕ). IsOffsetIn node.container xs j at) (sym (ap (λ (o : Option (List ℕ)). unwrap_or o []) there)) off in
+    let one = subst (λ (xs : List ℕ). IsOffsetIn node.container xs j at) (sym there) off in
     subst (λ (n : Node). IsOffsetIn n.container (bytes_of m n) j at) is one
 
 pub offset_inside : (container : Container) (bytes : List ℕ) (j at : ℕ) → IsOffsetIn container bytes j at → j < length (held container bytes)

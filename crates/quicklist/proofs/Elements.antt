@@ -1,9 +1,9 @@
 -- The elements of a chain, by its nodes.
-use Rattle.std.proofs.Common.{◌≡◌, Option, Some, unwrap_or, ℕ, suc, ◌+◌, ◌-◌, ◌<◌, ◌≤◌, List, [], ◌∷◌, ◌++◌, length, map, take, drop, get_or, set, refl, ap, ◌∙◌, sym, subst, inl, inr, arith, flat_map, length-append}
+use Rattle.std.proofs.Common.{◌≡◌, ℕ, suc, ◌+◌, ◌-◌, ◌<◌, ◌≤◌, List, [], ◌∷◌, ◌++◌, length, map, take, drop, get_or, set, refl, ap, ◌∙◌, sym, subst, inl, inr, arith, flat_map, length-append}
 use Rattle.std.specs.Prelude.{sum_by}
 use Rattle.std.specs.List.{All, insert, remove, remove_range}
 use Rattle.std.proofs.lemmas.List.{append_assoc, append-nil, take-append-drop, take_at, drop_at, length-take-le, set_split, drop_more, take_more, get_or_default, length-drop, drop_all, length-set}
-use Rattle.std.proofs.lemmas.List.Edits.{length-insert}
+use Rattle.std.proofs.lemmas.List.Edits.{length-insert, insert_end}
 use Rattle.std.proofs.lemmas.List.Concat.{flat_map-append, get_or-flat_map}
 use Rattle.std.proofs.lemmas.Grind.{common_steps}
 use Rattle.std.proofs.lemmas.Bool.{cases_lt}
@@ -20,7 +20,7 @@ use Rattle.listpack.specs.Pack.{texts}
 use Rattle.listpack.specs.Writing.{entry, spelling}
 use Rattle.quicklist.proofs.Written.{packed_len, back_some}
 use Rattle.quicklist.specs.declared.piece.Piece.{Piece}
-use Rattle.quicklist.specs.Nodes.{IsNode, IsPlace, IsGap, IsPacked, IsHeld, IsPart, IsPiece, three, container_of, pack_len, held, piece_list, node_at, node_list, elements_of, count_of, bytes_of}
+use Rattle.quicklist.specs.Nodes.{IsNode, IsPlace, IsGap, IsPacked, IsHeld, IsPart, three, container_of, pack_len, held, piece_list, node_at, node_list, elements_of, count_of, bytes_of}
 use Rattle.quicklist.specs.Chain.{Chain, IsQuick, IsFormed, IsOverfull, respelled, around, elements}
 
 -- the counts of the nodes are those of their elements
@@ -158,13 +158,13 @@ pub node_is : (nodes : List Node) (k : ℕ) (node : Node) → k < length nodes �
 node_is nodes k node h is = is ∙ get_or_default nodes k node (record { at = record { slab = 0; slot = 0 }; count = 0; container = Plain }) h
 
 -- the elements of a packed node are the texts of its block's bytes
-pub packed_list : (m : Blocks) (node : Node) (bytes : List ℕ) → node.container ≡ Packed → m node.at ≡ Some bytes → node_list m node ≡ texts bytes
+pub packed_list : (m : Blocks) (node : Node) (bytes : List ℕ) → node.container ≡ Packed → bytes_of m node ≡ bytes → node_list m node ≡ texts bytes
 packed_list m node bytes is there =
-    ap (λ (c : Container). held c (bytes_of m node)) is ∙ ap (λ (o : Option (List ℕ)). texts (unwrap_or o [])) there
+    ap (λ (c : Container). held c (bytes_of m node)) is ∙ ap texts there
 
 -- the elements of a node are those that its container has in its block's bytes
-pub held_is : (m : Blocks) (node : Node) (bytes : List ℕ) → m node.at ≡ Some bytes → node_list m node ≡ held node.container bytes
-held_is m node bytes there = ap (λ (o : Option (List ℕ)). held node.container (unwrap_or o [])) there
+pub held_is : (m : Blocks) (node : Node) (bytes : List ℕ) → bytes_of m node ≡ bytes → node_list m node ≡ held node.container bytes
+held_is m node bytes there = ap (held node.container) there
 
 -- pieces beside each other
 pub part_list : (piece : Piece) → IsPart piece → piece_list piece ≡ texts piece.bytes.now
@@ -198,15 +198,15 @@ pub split_back : (xs right : List (List ℕ)) (to : ℕ) → right ≡ remove_ra
 split_back xs right to r = omega (arith, ap length r, length-drop to xs)
 
 -- the bytes of a packed node, and how many elements they have
-pub packed_node : (m : Blocks) (nodes : List Node) (k : ℕ) (node : Node) (bytes : List ℕ) → All (IsNode m) nodes → k < length nodes → node ≡ node_at nodes k → (node_at nodes k).container ≡ Packed → m node.at ≡ Some bytes
+pub packed_node : (m : Blocks) (nodes : List Node) (k : ℕ) (node : Node) (bytes : List ℕ) → All (IsNode m) nodes → k < length nodes → node ≡ node_at nodes k → (node_at nodes k).container ≡ Packed → bytes_of m node ≡ bytes
     → (node_list m (node_at nodes k) ≡ texts bytes) × (node.count ≡ length (texts bytes))
 packed_node m nodes k node bytes each h is packed there =
-    let list = packed_list m (node_at nodes k) bytes packed (ap (λ (n : Node). m n.at) (sym is) ∙ there) in
+    let list = packed_list m (node_at nodes k) bytes packed (ap (bytes_of m) (sym is) ∙ there) in
     (list, ap count_of is ∙ (node_of m nodes k each h).counted ∙ ap length list)
 
 -- the three pieces of a packed node that was split have its elements with a new one in the place of a range
 pub split_whole : (m : Blocks) (nodes : List Node) (k : ℕ) (node : Node) (bytes left right : List ℕ) (a b c : Piece) (from to : ℕ) (x : List ℕ) → All (IsNode m) nodes → k < length nodes → node ≡ node_at nodes k
-    → (node_at nodes k).container ≡ Packed → m node.at ≡ Some bytes → texts left ≡ remove_range (texts bytes) from node.count → texts right ≡ remove_range (texts bytes) 0 to
+    → (node_at nodes k).container ≡ Packed → bytes_of m node ≡ bytes → texts left ≡ remove_range (texts bytes) from node.count → texts right ≡ remove_range (texts bytes) 0 to
     → piece_list a ≡ texts left → piece_list b ≡ x ∷ [] → piece_list c ≡ texts right → three a b c ≡ around from to x (node_list m (node_at nodes k))
 split_whole m nodes k node bytes left right a b c from to x each h is packed there l r one two last =
     let facts = packed_node m nodes k node bytes each h is packed there in
@@ -247,6 +247,13 @@ at_back m q index k j x s gap all =
     ap (respelled m q (k + 1) (x ∷ [])) same
     ∙ insert_beside_is m q index (k + 1) x (omega (arith, gap.before, all, sum_front m q.nodes k s.chain.each, front_more m q.nodes k gap.inside, (node_of m q.nodes k s.chain.each gap.inside).counted))
 
+-- with an element behind those of a node, the list has it put in at the gap's index
+pub behind_is : (m : Blocks) (q : Chain) (index k j : ℕ) (x : List ℕ) → IsQuick m q → IsGap q.nodes index k j → j ≡ (node_at q.nodes k).count → respelled m q k (node_list m (node_at q.nodes k) ++ x ∷ []) (k + 1) ≡ insert (elements m q) index x
+behind_is m q index k j x s gap all =
+    let xs = node_list m (node_at q.nodes k) in
+    let end : j ≡ length xs = all ∙ (node_of m q.nodes k s.chain.each gap.inside).counted in
+    ap (λ (ys : List (List ℕ)). respelled m q k ys (k + 1)) (sym (insert_end xs x) ∙ ap (λ (i : ℕ). insert xs i x) (sym end)) ∙ insert_node_is m q index k j x s gap
+
 -- the one element of a node in the place of which another stands
 pub set_alone : (m : Blocks) (q : Chain) (index k j : ℕ) (x : List ℕ) → IsQuick m q → IsPlace q.nodes index k j → (node_at q.nodes k).count ≡ 1 → respelled m q k (x ∷ []) (k + 1) ≡ set (elements m q) index x
 set_alone m q index k j x s place one =
@@ -275,23 +282,23 @@ remove_alone m q index k j s place one =
     ∙ remove_node_is m q index k j s place
 
 -- the elements of the node at a place, by its bytes
-pub list_at : (m : Blocks) (nodes : List Node) (k : ℕ) (node : Node) (bytes : List ℕ) → node ≡ node_at nodes k → m node.at ≡ Some bytes → node_list m (node_at nodes k) ≡ held node.container bytes
+pub list_at : (m : Blocks) (nodes : List Node) (k : ℕ) (node : Node) (bytes : List ℕ) → node ≡ node_at nodes k → bytes_of m node ≡ bytes → node_list m (node_at nodes k) ≡ held node.container bytes
 list_at m nodes k node bytes is there = ap (node_list m) (sym is) ∙ held_is m node bytes there
 
 -- with an element put into what a node's bytes hold, the list has it put in at its index
-pub joined_list : (m : Blocks) (q : Chain) (index k j : ℕ) (x : List ℕ) (node : Node) (bytes : List ℕ) (list : List (List ℕ)) → IsQuick m q → IsGap q.nodes index k j → node ≡ node_at q.nodes k → m node.at ≡ Some bytes
+pub joined_list : (m : Blocks) (q : Chain) (index k j : ℕ) (x : List ℕ) (node : Node) (bytes : List ℕ) (list : List (List ℕ)) → IsQuick m q → IsGap q.nodes index k j → node ≡ node_at q.nodes k → bytes_of m node ≡ bytes
     → list ≡ insert (held node.container bytes) j x → respelled m q k list (k + 1) ≡ insert (elements m q) index x
 joined_list m q index k j x node bytes list s gap is there same =
     ap (λ (xs : List (List ℕ)). respelled m q k xs (k + 1)) (same ∙ ap (λ (xs : List (List ℕ)). insert xs j x) (sym (list_at m q.nodes k node bytes is there))) ∙ insert_node_is m q index k j x s gap
 
 -- with an element set in what a node's bytes hold, the list has it set at its index
-pub replaced_list : (m : Blocks) (q : Chain) (index k j : ℕ) (x : List ℕ) (node : Node) (bytes : List ℕ) (list : List (List ℕ)) → IsQuick m q → IsPlace q.nodes index k j → node ≡ node_at q.nodes k → m node.at ≡ Some bytes
+pub replaced_list : (m : Blocks) (q : Chain) (index k j : ℕ) (x : List ℕ) (node : Node) (bytes : List ℕ) (list : List (List ℕ)) → IsQuick m q → IsPlace q.nodes index k j → node ≡ node_at q.nodes k → bytes_of m node ≡ bytes
     → list ≡ set (held node.container bytes) j x → respelled m q k list (k + 1) ≡ set (elements m q) index x
 replaced_list m q index k j x node bytes list s place is there same =
     ap (λ (xs : List (List ℕ)). respelled m q k xs (k + 1)) (same ∙ ap (λ (xs : List (List ℕ)). set xs j x) (sym (list_at m q.nodes k node bytes is there))) ∙ set_node_is m q index k j x s place
 
 -- how many elements the node has
-pub count_at : (m : Blocks) (nodes : List Node) (k : ℕ) (node : Node) (bytes : List ℕ) → All (IsNode m) nodes → k < length nodes → node ≡ node_at nodes k → m node.at ≡ Some bytes → node.count ≡ length (held node.container bytes)
+pub count_at : (m : Blocks) (nodes : List Node) (k : ℕ) (node : Node) (bytes : List ℕ) → All (IsNode m) nodes → k < length nodes → node ≡ node_at nodes k → bytes_of m node ≡ bytes → node.count ≡ length (held node.container bytes)
 count_at m nodes k node bytes each h is there = ap count_of is ∙ (node_of m nodes k each h).counted ∙ ap length (list_at m nodes k node bytes is there)
 
 -- a packed node has few elements, since each takes a byte at least
@@ -305,11 +312,10 @@ pub count_small : (bytes : List ℕ) → IsPacked bytes → length (texts bytes)
 count_small bytes p = omega (arith, entries_some (texts bytes), packed_len bytes p, p.short)
 
 -- the bytes at a place are those of its node
-pub held_at : (m : Blocks) (nodes : List Node) (k : ℕ) (node : Node) (bytes : List ℕ) → All (IsNode m) nodes → k < length nodes → node ≡ node_at nodes k → m node.at ≡ Some bytes → IsHeld node.container bytes
+pub held_at : (m : Blocks) (nodes : List Node) (k : ℕ) (node : Node) (bytes : List ℕ) → All (IsNode m) nodes → k < length nodes → node ≡ node_at nodes k → bytes_of m node ≡ bytes → IsHeld node.container bytes
 held_at m nodes k node bytes each h is there =
     let one = subst (λ (n : Node). IsNode m n) (sym is) (node_of m nodes k each h) in
-    let same : bytes_of m node ≡ bytes = ap (λ (o : Option (List ℕ)). unwrap_or o []) there in
-    subst (IsHeld node.container) same one.is_held
+    subst (IsHeld node.container) there one.is_held
 
 -- a node of more elements than one is packed
 pub many_list : (container : Container) (bytes : List ℕ) (count : ℕ) → count ≡ length (held container bytes) → (count ≡ 1 → ⊥) → held container bytes ≡ texts bytes
@@ -321,7 +327,7 @@ pub cut_one_len : (xs : List (List ℕ)) (j : ℕ) → j < length xs → length 
 cut_one_len xs j h = omega (arith, length-append (take j xs) (drop (j + 1) xs), length-take-le j xs (omega arith), length-drop (j + 1) xs)
 
 -- where a node of more elements than one loses one, the list loses it at its index, and the node has one less
-pub removed_list : (m : Blocks) (q : Chain) (index k j : ℕ) (node : Node) (bytes : List ℕ) (list : List (List ℕ)) → IsQuick m q → IsPlace q.nodes index k j → node ≡ node_at q.nodes k → m node.at ≡ Some bytes
+pub removed_list : (m : Blocks) (q : Chain) (index k j : ℕ) (node : Node) (bytes : List ℕ) (list : List (List ℕ)) → IsQuick m q → IsPlace q.nodes index k j → node ≡ node_at q.nodes k → bytes_of m node ≡ bytes
     → (node.count ≡ 1 → ⊥) → list ≡ remove_range (texts bytes) j (j + 1) → (respelled m q k list (k + 1) ≡ remove (elements m q) index) × (node.count ≡ length list + 1)
 removed_list m q index k j node bytes list s place is there many same =
     let count = count_at m q.nodes k node bytes s.chain.each place.inside is there in
@@ -352,6 +358,17 @@ range_is m q from last_index first i last j s one two =
     ap (λ (xs : List (List ℕ)). a ++ xs) (append_assoc (take i b) (drop (j + 1) e) f) ∙ sym (append_assoc a (take i b) (drop (j + 1) e ++ f))
     ∙ ap (λ (xs : List (List ℕ)). xs ++ (drop (j + 1) e ++ f)) (sym front) ∙ ap (λ (xs : List (List ℕ)). take from (elements m q) ++ xs) (sym back)
 
+-- where the last elements of one node go, the list loses them
+pub back_is : (m : Blocks) (q : Chain) (from to k i l j : ℕ) → IsQuick m q → IsPlace q.nodes from k i → IsPlace q.nodes (to - 1) l j → l ≡ k → from < to → j + 1 ≡ (node_at q.nodes k).count
+    → respelled m q k (take i (node_list m (node_at q.nodes k))) (k + 1) ≡ remove_range (elements m q) from to
+back_is m q from to k i l j s one two same less all =
+    let more : to - 1 + 1 ≡ to = omega (arith, less) in
+    let xs = node_list m (node_at q.nodes k) in
+    let none : drop (j + 1) xs ≡ [] = drop_all (j + 1) xs (omega (arith, all, (node_of m q.nodes k s.chain.each one.inside).counted)) in
+    ap (λ (ys : List (List ℕ)). respelled m q k ys (k + 1)) (sym (append-nil (take i xs)) ∙ ap (λ (ys : List (List ℕ)). take i xs ++ ys) (sym none))
+    ∙ ap (λ (t : ℕ). respelled m q k (take i xs ++ drop (j + 1) (node_list m (node_at q.nodes t))) (t + 1)) (sym same)
+    ∙ range_is m q from (to - 1) k i l j s one two ∙ ap (λ (t : ℕ). remove_range (elements m q) from t) more
+
 -- places stand in the order of their indexes
 sums_rise : (nodes : List Node) (i j : ℕ) → i ≤ j → sum_by count_of (take i nodes) ≤ sum_by count_of (take j nodes)
 sums_rise nodes i j h =
@@ -375,7 +392,7 @@ front_left xs i n h = ap (λ (ys : List (List ℕ)). take i xs ++ ys) (drop_all 
 
 -- what is left of two nodes and of those between them
 pub across_is : (m : Blocks) (q : Chain) (first last i j gone : ℕ) (head tail : Node) (one two : List ℕ) (before behind : List (List ℕ)) → All (IsNode m) q.nodes → first < length q.nodes → first ≤ last
-    → head ≡ node_at q.nodes first → tail ≡ node_at q.nodes last → m head.at ≡ Some one → m tail.at ≡ Some two → gone ≡ last + 1 - first
+    → head ≡ node_at q.nodes first → tail ≡ node_at q.nodes last → bytes_of m head ≡ one → bytes_of m tail ≡ two → gone ≡ last + 1 - first
     → before ≡ remove_range (held head.container one) i head.count → behind ≡ remove_range (held tail.container two) 0 j
     → respelled m q first (before ++ behind) (first + gone) ≡ respelled m q first (take i (node_list m (node_at q.nodes first)) ++ drop j (node_list m (node_at q.nodes last))) (last + 1)
 across_is m q first last i j gone head tail one two before behind each h order is_head is_tail there_one there_two so_many b e =

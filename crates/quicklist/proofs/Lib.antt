@@ -4,8 +4,11 @@ pub mod Going
 pub mod Cursors
 pub mod Depends
 pub mod Elements
+pub mod Filling
 pub mod Moving
+pub mod Overwriting
 pub mod Places
 pub mod Rebuilding
+pub mod Retelling
 pub mod Rising
 pub mod Written

@@ -1,5 +1,5 @@
 -- Chains that are copied, and chains whose blocks move.
-use Rattle.std.proofs.Common.{◌≡◌, ◌≢◌, ℕ, zero, suc, ◌+◌, ◌-◌, ◌<◌, ◌≤◌, List, [], ◌∷◌, ◌++◌, Option, Some, None, IsSome, length, map, take, drop, get_or, set, refl, ap, ◌∙◌, sym, subst, arith, flat_map, unwrap_or, get_or-set_other, inl, inr, ◌⊎◌}
+use Rattle.std.proofs.Common.{◌≡◌, ◌≢◌, ℕ, zero, suc, ◌+◌, ◌-◌, ◌<◌, ◌≤◌, List, [], ◌∷◌, ◌++◌, Option, Some, None, length, map, take, drop, get_or, set, refl, ap, ◌∙◌, sym, subst, arith, flat_map, unwrap_or, get_or-set_other, inl, inr}
 use Rattle.std.specs.Prelude.{IfSome, false}
 use Rattle.std.specs.List.{All}
 use Rattle.blocks.specs.Slabs.{Heap, wants}
@@ -7,14 +7,14 @@ use Rattle.std.proofs.lemmas.List.{take_more, map-append, set_split, take_all, l
 use Rattle.std.proofs.lemmas.List.Concat.{flat_map-append}
 use Rattle.std.proofs.lemmas.List.Elements.{All-cons, All-append, All-take, All-drop}
 use Rattle.blocks.specs.declared.BlockRef.{BlockRef}
-use Rattle.blocks.specs.Blocks.{Blocks, with_block, bytes_at, times, IsIn, Changes, Owned}
-use Rattle.blocks.proofs.Change.{live-once, Changes-then, Changes-same, Changes-owned, Changes-beside, Owned-others}
+use Rattle.blocks.specs.Blocks.{Blocks, times, IsIn, Changes, Owned}
+use Rattle.blocks.proofs.Change.{live-once, Changes-then, Changes-owned, Changes-beside, Owned-others}
 use Rattle.quicklist.specs.declared.node.Container.{Container}
 use Rattle.quicklist.specs.declared.node.Node.{Node}
 use Rattle.quicklist.specs.declared.piece.Piece.{Piece}
-use Rattle.quicklist.specs.Nodes.{IsNode, IsChain, IsPiece, Placed, held, IsHeld, node_at, node_list, bytes_of, piece_list, refs_of, elements_of, container_of, container_of_piece}
+use Rattle.quicklist.specs.Nodes.{IsNode, IsChain, IsReadable, IsPiece, IsPlacedOf, filled, Placed, held, IsHeld, node_at, node_list, bytes_of, piece_list, refs_of, elements_of, container_of, container_of_piece}
 use Rattle.quicklist.specs.Chain.{IsCopied, IsSettled, IsPassed, IsOutside, ref_at, passed_to}
-use Rattle.quicklist.proofs.Chains.{Same, times-refs, elements-same, each-same, one_placed, cut_at, one_self, node_live, all_same, length-placed}
+use Rattle.quicklist.proofs.Chains.{Same, node_read, readable_as, times-refs, elements-same, each-same, one_placed, cut_at, one_self, all_same, length-placed}
 
 -- what a copy of a node is placed of
 abbrev pub piece_for : Blocks → Node → Piece
@@ -41,22 +41,22 @@ in_refs nodes k node h is =
 
 -- one node more is copied
 pub one_copied : (m mid n : Blocks) (nodes fresh : List Node) (k : ℕ) (node copy : Node) → IsChain m nodes → k < length nodes → node ≡ get_or nodes k node
-    → Placed m mid (map (piece_for m) (take k nodes)) fresh → mid copy.at ≡ None → n ≡ with_block mid copy.at (Some (bytes_at mid node.at)) → copy.count ≡ node.count → copy.container ≡ node.container
+    → Placed m mid (map (piece_for m) (take k nodes)) fresh → IsPlacedOf mid n (bytes_of mid node) copy → copy.count ≡ node.count → copy.container ≡ node.container
     → Placed m n (map (piece_for m) (take (k + 1) nodes)) (fresh ++ copy ∷ [])
-one_copied m mid n nodes fresh k node copy c h is p free placed count container =
-    let same : bytes_at mid node.at ≡ bytes_of m node =
-    ap (λ (o : Option (List ℕ)). unwrap_or o []) (placed_same m mid nodes fresh (map (piece_for m) (take k nodes)) c.owned p node.at (in_refs nodes k node h is)) in
+one_copied m mid n nodes fresh k node copy c h is p put count container =
+    let same : bytes_of mid node ≡ bytes_of m node =
+    ap (λ (o : Option (List ℕ)). filled node.container (unwrap_or o [])) (placed_same m mid nodes fresh (map (piece_for m) (take k nodes)) c.owned p node.at (in_refs nodes k node h is)) in
     let more : take (k + 1) nodes ≡ take k nodes ++ node ∷ [] = take_more nodes k node h ∙ ap (λ (x : Node). take k nodes ++ x ∷ []) (sym is) in
     let all : map (piece_for m) (take (k + 1) nodes) ≡ map (piece_for m) (take k nodes) ++ piece_for m node ∷ [] = ap (map (piece_for m)) more ∙ map-append (piece_for m) (take k nodes) (node ∷ []) in
     let node_is : IsNode m node = subst (λ (x : Node). IsNode m x) (sym is) (c.each k node h) in
     subst (λ (ps : List Piece). Placed m n ps (fresh ++ copy ∷ [])) (sym all)
-    (one_placed m mid n (map (piece_for m) (take k nodes)) (piece_for m node) fresh copy p (piece_for-is m node node_is) free (placed ∙ ap (λ (bytes : List ℕ). with_block mid copy.at (Some bytes)) same) count container)
+    (one_placed m mid n (map (piece_for m) (take k nodes)) (piece_for m node) fresh copy p (piece_for-is m node node_is) (subst (λ (bytes : List ℕ). IsPlacedOf mid n bytes copy) same put) count container)
 
--- the block of a node that is still to be copied is live
-pub still_live : (m mid : Blocks) (nodes fresh : List Node) (pieces : List Piece) (k : ℕ) (node : Node) → IsChain m nodes → k < length nodes → node ≡ get_or nodes k node → Placed m mid pieces fresh → IsSome (mid node.at)
+-- the block of a node that is still to be copied is live, and holds what the node counts
+pub still_live : (m mid : Blocks) (nodes fresh : List Node) (pieces : List Piece) (k : ℕ) (node : Node) → IsChain m nodes → k < length nodes → node ≡ get_or nodes k node → Placed m mid pieces fresh → IsReadable mid node
 still_live m mid nodes fresh pieces k node c h is p =
     let same = Owned-others m mid [] (refs_of fresh) (refs_of nodes) c.owned p.changes node.at (in_refs nodes k node h is) refl in
-    subst (λ (o : Option (List ℕ)). IsSome o) (sym same) (node_live m nodes k node h is c.owned)
+    readable_as m mid node (sym same) (node_read m nodes k node h is c)
 
 -- what was copied so far is given back
 pub uncopied : (m mid n : Blocks) (nodes fresh : List Node) (k : ℕ) → k ≤ length nodes → Placed m mid (map (piece_for m) (take k nodes)) fresh → Changes mid n (refs_of (take k fresh)) [] → n ≡ m
@@ -89,7 +89,7 @@ module _ (m n : Blocks) (front back : List Node) (node : Node) (at : BlockRef) (
       Owned-others m n (node.at ∷ []) (at ∷ []) (refs_of (front ++ (node ∷ back))) own p r (omega (arith, isin, whole r node)) (omega (arith, isin, whole r node, own r, live-once m r))
 
   same_bytes : bytes_of n moved ≡ bytes_of m node
-  same_bytes = ap (λ (o : Option (List ℕ)). unwrap_or o []) bytes
+  same_bytes = ap (λ (o : Option (List ℕ)). filled node.container (unwrap_or o [])) bytes
 
   same_list : node_list n moved ≡ node_list m node
   same_list = ap (held node.container) same_bytes

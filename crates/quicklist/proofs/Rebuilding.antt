@@ -1,14 +1,13 @@
 -- Nodes of a list made anew.
-use Rattle.std.proofs.Common.{◌≡◌, ◌⊎◌, ℕ, ◌+◌, ◌<◌, ◌≤◌, List, [], ◌∷◌, ◌++◌, Option, Some, IsSome, length, map, take, drop, get_or, unwrap_or, refl, ap, ◌∙◌, sym, subst, inl, inr, arith, rules, length-append, deque_len}
+use Rattle.std.proofs.Common.{◌≡◌, ◌⊎◌, ℕ, ◌+◌, ◌<◌, ◌≤◌, List, [], ◌∷◌, ◌++◌, Option, Some, length, map, take, drop, get_or, unwrap_or, refl, ap, ◌∙◌, sym, subst, inl, inr, arith, rules, length-append, deque_len}
 use Rattle.std.specs.List.{All}
 use Rattle.std.proofs.lemmas.List.{append-nil, take_at, drop_at, take_more, take-append-drop}
 use Rattle.std.proofs.lemmas.List.Concat.{flat_map-append}
 use Rattle.std.proofs.lemmas.List.Elements.{All-nil, All-cons, All-append, All-take, All-drop}
 use Rattle.blocks.specs.declared.BlockRef.{BlockRef}
-use Rattle.blocks.specs.Blocks.{Blocks, bytes_at, times, IsIn, Changes, Owned}
+use Rattle.blocks.specs.Blocks.{Blocks, times, IsIn, Changes, Owned}
 use Rattle.blocks.proofs.Refs.{apart_live, with_block-other}
 use Rattle.blocks.proofs.Times.{times-append}
-use Rattle.blocks.proofs.Written.{bytes_at-placed}
 use Rattle.blocks.proofs.Change.{live-is, live-once, Counts, Counts-placed, Counts-changed, Changes-counted, Changes-then, Changes-same, Changes-owned, Owned-others}
 use Rattle.listpack.specs.Pack.{texts}
 use Rattle.object_codec.specs.declared.form.Form.{Form}
@@ -20,10 +19,10 @@ use Rattle.quicklist.specs.declared.clearing.Left.{Left}
 use Rattle.quicklist.specs.declared.clearing.Left.TheVariants.{Whole, Nothing, Part}
 use Rattle.quicklist.specs.declared.reach.Reach.{Reach}
 use Rattle.quicklist.specs.declared.rebuilt.Rebuilt.{Rebuilt}
-use Rattle.quicklist.specs.Nodes.{IsNode, IsChain, IsHeld, IsPacked, held, node_list, bytes_of, elements_of, refs_of, container_of}
+use Rattle.quicklist.specs.Nodes.{IsNode, IsChain, IsReadable, filled, IsHeld, IsPacked, held, node_list, bytes_of, elements_of, refs_of, container_of}
 use Rattle.quicklist.specs.Chain.{Chain, IsFormed, IsQuick, IsChanged}
-use Rattle.quicklist.specs.Equal.{cleared, IsLeft, IsPackedNode, IsRebuilt, IsGrown, IsFresh, IsAdded, IsOpen, HasRoom}
-use Rattle.quicklist.proofs.Chains.{Same, times-refs, elements-same, each-same, all_same, node_live}
+use Rattle.quicklist.specs.Equal.{cleared, IsLeft, IsKept, IsPackedNode, IsRebuilt, IsGrown, IsFresh, IsAdded, IsOpen, HasRoom}
+use Rattle.quicklist.proofs.Chains.{Same, times-refs, elements-same, each-same, all_same, node_read, readable_as}
 use Rattle.quicklist.proofs.Elements.{elements_split}
 use Rattle.quicklist.proofs.Going.{cleared-append}
 use Rattle.quicklist.proofs.Moving.{in_refs}
@@ -39,6 +38,12 @@ none_rebuilt m r nodes placed replaced = record {
   packed = λ all. subst (All IsPackedNode) (sym nodes) (All-nil IsPackedNode);
   fewer = omega (arith, ap length nodes);
 }
+
+-- what is left of a node is what a node can hold
+pub kept_of : (was list : List (List ℕ)) (left : Left) → IsLeft was list left → IsKept left
+kept_of was list Whole l = tt
+kept_of was list Nothing l = tt
+kept_of was list (Part pack count) l = (l.0, l.2 ∙ ap length (sym l.1), l.3)
 
 -- where nodes came behind others, all name a reference as often as both together
 one_more : (r : BlockRef) (now before : List Node) (more : List Node) → now ≡ before ++ more → times r (refs_of now) ≡ times r (refs_of before) + times r (refs_of more)
@@ -103,7 +108,7 @@ module _ (m mid n : Blocks) (old : List Node) (node : Node) (list rest : List (L
   -- a fresh packed node of what is left of the old one is a node of those elements
   part_node : (fresh : Node) (bytes : List ℕ) (count : ℕ) → IsFresh mid n fresh bytes count → IsPacked bytes → texts bytes ≡ rest → count ≡ length rest → 0 < count → IsNode n fresh × (node_list n fresh ≡ rest)
   part_node fresh bytes count f packed left counted some =
-      let bytes_is : bytes_of n fresh ≡ bytes = ap (λ b. bytes_at b fresh.at) f.placed ∙ bytes_at-placed mid fresh.at bytes in
+      let bytes_is : bytes_of n fresh ≡ bytes = f.placed.bytes_is in
       let list_here : node_list n fresh ≡ rest = ap (λ (c : Container). held c (bytes_of n fresh)) f.container ∙ ap texts bytes_is ∙ left in (
         record {
           is_held = subst (λ (c : Container). IsHeld c (bytes_of n fresh)) (sym f.container) (subst IsPacked (sym bytes_is) packed);
@@ -119,11 +124,11 @@ module _ (m mid n : Blocks) (old : List Node) (node : Node) (list rest : List (L
   part_more fresh bytes count f g packed left counted some =
       let owned = nodes_owned m mid old list r own_old is in
       let apart = λ (at : BlockRef) (h : IsIn at (refs_of r.nodes.items)). live-is mid at (omega (arith, h, owned at, times-append at (refs_of r.nodes.items) (refs_of r.replaced.items))) in
-      let same : Same mid n r.nodes.items = λ at isin. ap (λ k. k at) f.placed ∙ with_block-other mid fresh.at at (Some bytes) (apart_live mid at fresh.at (apart at isin) f.free) in
+      let same : Same mid n r.nodes.items = λ at isin. ap (λ k. k at) f.placed.placed ∙ with_block-other mid fresh.at at (Some f.placed.block) (apart_live mid at fresh.at (apart at isin) f.placed.free) in
       let placed_own = Changes-owned m mid [] (refs_of r.placed.items) is.changes in
       let step : Changes mid n (refs_of r.placed.items) (refs_of (r.placed.items ++ fresh ∷ [])) =
       Changes-counted mid n (refs_of r.placed.items) (refs_of (r.placed.items ++ fresh ∷ [])) placed_own
-      (Counts-placed mid n fresh.at bytes (refs_of r.placed.items) (refs_of (r.placed.items ++ fresh ∷ [])) f.free f.placed (λ at. omega (arith, times-refs at r.placed.items (fresh ∷ [])))) in
+      (Counts-placed mid n fresh.at f.placed.block (refs_of r.placed.items) (refs_of (r.placed.items ++ fresh ∷ [])) f.placed.free f.placed.placed (λ at. omega (arith, times-refs at r.placed.items (fresh ∷ [])))) in
       let one' = part_node fresh bytes count f packed left counted some in
       record {
         changes = subst (λ (xs : List Node). Changes m n [] (refs_of xs)) (sym g.placed_is) (Changes-then m mid n [] (refs_of r.placed.items) (refs_of (r.placed.items ++ fresh ∷ [])) is.changes step);
@@ -146,20 +151,20 @@ module _ (m mid n : Blocks) (old : List Node) (node : Node) (list rest : List (L
 pub node_stays : (m mid : Blocks) (nodes placed : List Node) (k : ℕ) (node : Node) → IsChain m nodes → k < length nodes → node ≡ get_or nodes k node → Changes m mid [] (refs_of placed) → mid node.at ≡ m node.at
 node_stays m mid nodes placed k node c h is p = Owned-others m mid [] (refs_of placed) (refs_of nodes) c.owned p node.at (in_refs nodes k node h is) refl
 
--- the block of a node that is still to be taken up is live
-pub node_there : (m mid : Blocks) (nodes placed : List Node) (k : ℕ) (node : Node) → IsChain m nodes → k < length nodes → node ≡ get_or nodes k node → Changes m mid [] (refs_of placed) → IsSome (mid node.at)
+-- it is live, and holds what the node counts
+pub node_there : (m mid : Blocks) (nodes placed : List Node) (k : ℕ) (node : Node) → IsChain m nodes → k < length nodes → node ≡ get_or nodes k node → Changes m mid [] (refs_of placed) → IsReadable mid node
 node_there m mid nodes placed k node c h is p =
-    subst (λ (o : Option (List ℕ)). IsSome o) (sym (node_stays m mid nodes placed k node c h is p)) (node_live m nodes k node h is c.owned)
+    readable_as m mid node (sym (node_stays m mid nodes placed k node c h is p)) (node_read m nodes k node h is c)
 
 -- what stands in it
-module _ (m mid : Blocks) (nodes placed : List Node) (k : ℕ) (node : Node) (bytes : List ℕ) (c : IsChain m nodes) (h : k < length nodes) (is : node ≡ get_or nodes k node) (p : Changes m mid [] (refs_of placed)) (there : mid node.at ≡ Some bytes) where
+module _ (m mid : Blocks) (nodes placed : List Node) (k : ℕ) (node : Node) (bytes : List ℕ) (c : IsChain m nodes) (h : k < length nodes) (is : node ≡ get_or nodes k node) (p : Changes m mid [] (refs_of placed)) (there : bytes_of mid node ≡ bytes) where
   -- over the blocks before, the node at the index holds what it counts
   pub is_node_of : IsNode m node
   is_node_of = subst (λ (x : Node). IsNode m x) (sym is) (c.each k node h)
 
   -- the bytes that are there are those that the node had before
   bytes_there : bytes_of m node ≡ bytes
-  bytes_there = ap (λ (o : Option (List ℕ)). unwrap_or o []) (sym (node_stays m mid nodes placed k node c h is p) ∙ there)
+  bytes_there = ap (λ (o : Option (List ℕ)). filled node.container (unwrap_or o [])) (sym (node_stays m mid nodes placed k node c h is p)) ∙ there
 
   -- the bytes that are there are such as the node's container holds
   pub held_there : IsHeld node.container bytes

@@ -1,10 +1,10 @@
 -- Elements that are a text, taken out. (Redis command reference, LREM: the first ones from the head on, the first ones
 -- from the tail on, or all.)
-use Rattle.std.specs.Prelude.{◌≡◌, ℕ, zero, suc, ◌+◌, ◌<◌, ◌≤◌, min, List, [], ◌∷◌, ◌++◌, length, Some, None, Bool, not, ◌&&◌, bytes_eq, nat_le, nat_lt, if◌then◌else◌}
+use Rattle.std.specs.Prelude.{◌≡◌, ℕ, zero, suc, ◌+◌, ◌<◌, ◌≤◌, min, List, [], ◌∷◌, ◌++◌, length, Bool, not, ◌&&◌, bytes_eq, nat_le, nat_lt, if◌then◌else◌}
 use Rattle.std.specs.List.{All, count_by, filter}
 use Rattle.std.specs.VecDeque.{deque_len, deque_capacity}
 use Rattle.blocks.specs.declared.BlockRef.{BlockRef}
-use Rattle.blocks.specs.Blocks.{Blocks, Changes, times, with_block}
+use Rattle.blocks.specs.Blocks.{Blocks, Changes, times}
 use Rattle.listpack.specs.Pack.{texts}
 use Rattle.quicklist.specs.declared.node.Container.TheVariants.{Packed}
 use Rattle.quicklist.specs.declared.node.Node.{Node}
@@ -14,7 +14,7 @@ use Rattle.quicklist.specs.declared.reach.Reach.{Reach}
 use Rattle.quicklist.specs.declared.clearing.Left.{Left}
 use Rattle.quicklist.specs.declared.clearing.Left.TheVariants.{Whole, Nothing, Part}
 use Rattle.quicklist.specs.declared.rebuilt.Rebuilt.{Rebuilt}
-use Rattle.quicklist.specs.Nodes.{IsNode, IsPacked, refs_of, elements_of}
+use Rattle.quicklist.specs.Nodes.{IsNode, IsPacked, IsPlacedOf, refs_of, elements_of}
 
 -- how many elements are the text
 abbrev pub equals : List ℕ → List (List ℕ) → ℕ
@@ -72,6 +72,12 @@ IsLeft was list Nothing = list ≡ []
 IsLeft was list (Part pack count) =
     IsPacked pack.items × (texts pack.items ≡ list) × (count ≡ length list) × (0 < count)
 
+-- what is left is what a node can hold
+abbrev pub IsKept : Left → Type 0
+IsKept Whole = Unit {0}
+IsKept Nothing = Unit {0}
+IsKept (Part pack count) = IsPacked pack.items × (count ≡ length (texts pack.items)) × (0 < count)
+
 -- a packed node
 abbrev pub IsPackedNode : Node → Type 0
 IsPackedNode node = node.container ≡ Packed
@@ -114,8 +120,7 @@ pub record IsGrown (old new : Rebuilt) (nodes placed replaced : List Node) : Typ
 
 -- a packed node was placed of these bytes, under a reference that wasn't live
 pub record IsFresh (before after : Blocks) (fresh : Node) (bytes : List ℕ) (count : ℕ) : Type 0 where
-  pub free : before fresh.at ≡ None
-  pub placed : after ≡ with_block before fresh.at (Some bytes)
+  pub placed : IsPlacedOf before after bytes fresh
   pub counted : fresh.count ≡ count
   pub container : fresh.container ≡ Packed
 

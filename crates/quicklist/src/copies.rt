@@ -1,9 +1,9 @@
 // Lists copied, and lists whose blocks move.
 
 ghost use Rattle.std.specs.Prelude.{◌≡◌, ◌≢◌, ℕ, ◌<◌, ◌≤◌, ◌+◌, [], Some, None, IsSome, IfOk, OnErr, length, slice_set, slice_index_or, false};
-ghost use Rattle.blocks.specs.Blocks.{Changes, Served, with_block, bytes_at, Owned};
+ghost use Rattle.blocks.specs.Blocks.{Changes, Served, Owned};
 ghost use Rattle.blocks.specs.Slabs.{wants, Calmer};
-ghost use Rattle.quicklist.specs.Nodes.{IsChain, node_at, refs_of, elements_of};
+ghost use Rattle.quicklist.specs.Nodes.{IsChain, IsReadable, IsPlacedOf, bytes_of, node_at, refs_of, elements_of};
 ghost use Rattle.quicklist.specs.Chain.{elements, refs, IsQuick, IsCopied, IsSettled, IsOutside, IsPassed};
 
 use crate::exchange::end_nodes;
@@ -16,15 +16,14 @@ use std::collections::VecDeque;
 
 // Places a node of the same bytes.
 fn copy_node<B: BlockStore>(alloc: Global, store: &mut B, node: Node) -> Result<Node, Memory>
-    requires { IsSome (B.blocks store.old node.at) }
-    ensures fresh { IfOk result (λ n. B.blocks store.old n.at ≡ None) }
-    ensures placed { IfOk result (λ n. B.blocks store.new ≡ with_block (B.blocks store.old) n.at (Some (bytes_at (B.blocks store.old) node.at))) }
+    requires { IsReadable (B.blocks store.old) node }
+    ensures placed { IfOk result (IsPlacedOf (B.blocks store.old) (B.blocks store.new) (bytes_of (B.blocks store.old) node)) }
     ensures count { IfOk result (λ n. n.count ≡ node.count) }
     ensures container { IfOk result (λ n. n.container ≡ node.container) }
     ensures served { Served B.step store.old store.new }
     ensures err_blocks { OnErr result (B.blocks store.new ≡ B.blocks store.old) }
 {
-    let bytes = Vec::from_slice(alloc, store.bytes(node.at))?;
+    let bytes = Vec::from_slice(alloc, node.bytes(store))?;
     let piece = Piece {
         container: node.container,
         count: node.count,

@@ -29,8 +29,8 @@ impl Cursor {
     }
 }
 
-// Where the element at an index of a node of these bytes stands.
-fn offset_in(container: Container, bytes: &[u8], index: usize) -> usize
+/// Where the element at an index of a node of these bytes stands.
+pub(crate) fn offset_in(container: Container, bytes: &[u8], index: usize) -> usize
     requires held { IsHeld container bytes.now }
     requires inside { index < length (held container bytes.now) }
     ensures { IsOffsetIn container bytes.now index result }
@@ -96,7 +96,7 @@ impl Quick {
         Some(Cursor {
             index,
             node: k,
-            at: offset_in(node.container, store.bytes(node.at), j),
+            at: offset_in(node.container, node.bytes(store), j),
         })
     }
 
@@ -107,7 +107,7 @@ impl Quick {
         ensures { element_text result ≡ slice_index_or (elements (B.blocks store.now) self.now) cursor.index [] }
     {
         let node = self.nodes[cursor.node];
-        element_in(node.container, store.bytes(node.at), cursor.at)
+        element_in(node.container, node.bytes(store), cursor.at)
     }
 
     /// The place of the next element towards the list's end.
@@ -122,7 +122,7 @@ impl Quick {
         }
         let index = cursor.index + 1;
         let node = self.nodes[cursor.node];
-        match offset_behind(node.container, store.bytes(node.at), cursor.at) {
+        match offset_behind(node.container, node.bytes(store), cursor.at) {
             Some(at) => Some(Cursor {
                 index,
                 node: cursor.node,
@@ -133,7 +133,7 @@ impl Quick {
                 Some(Cursor {
                     index,
                     node: cursor.node + 1,
-                    at: offset_in(behind.container, store.bytes(behind.at), 0),
+                    at: offset_in(behind.container, behind.bytes(store), 0),
                 })
             }
         }
@@ -150,7 +150,7 @@ impl Quick {
         }
         let index = cursor.index - 1;
         let node = self.nodes[cursor.node];
-        match offset_before(node.container, store.bytes(node.at), cursor.at) {
+        match offset_before(node.container, node.bytes(store), cursor.at) {
             Some(at) => Some(Cursor {
                 index,
                 node: cursor.node,
@@ -162,7 +162,7 @@ impl Quick {
                 Some(Cursor {
                     index,
                     node: cursor.node - 1,
-                    at: offset_in(before.container, store.bytes(before.at), last),
+                    at: offset_in(before.container, before.bytes(store), last),
                 })
             }
         }

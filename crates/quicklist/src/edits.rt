@@ -12,6 +12,7 @@ use crate::node::{Container, Node};
 use crate::packs::{joined, pack_of, packed_piece, piece_of, replaced, without};
 use crate::piece::Piece;
 use crate::quick::Quick;
+use crate::within::has_space;
 use blocks::{BlockStore, Memory};
 use object_codec::Form;
 use std::alloc::AllocError;
@@ -129,7 +130,7 @@ impl Quick {
         let node = self.nodes[k];
         let count = node.count as usize;
         let alone = pack_of(self.alloc, element)?;
-        let bytes = store.bytes(node.at);
+        let bytes = node.bytes(store);
         let left = without(self.alloc, bytes, from, count)?;
         let right = without(self.alloc, bytes, 0, to)?;
         let before = packed_piece(&left, from as u32);
@@ -205,7 +206,10 @@ impl Quick {
         }
         let (k, j) = self.gap(index);
         let node = self.nodes[k];
-        match joined(self.alloc, node.container, store.bytes(node.at), j, element)? {
+        if has_space(store, node, j, element) {
+            return self.push_behind(store, k, element, len);
+        }
+        match joined(self.alloc, node.container, node.bytes(store), j, element)? {
             Some(pack) => self.rewrite(store, k, &pack, node.count + 1, len),
             None if j == 0 => self.place_alone(store, k, 0, element, len),
             None if j == node.count as usize => self.place_alone(store, k + 1, 0, element, len),
@@ -232,7 +236,7 @@ impl Quick {
         let len = self.len;
         let (k, j) = find(&self.nodes, index, len);
         let node = self.nodes[k];
-        match replaced(self.alloc, node.container, store.bytes(node.at), j, element)? {
+        match replaced(self.alloc, node.container, node.bytes(store), j, element)? {
             Some(pack) => self.rewrite(store, k, &pack, node.count, len),
             None if node.count == 1 => self.place_alone(store, k, 1, element, len),
             None => self.split(store, k, j, j + 1, element, len),
@@ -258,7 +262,7 @@ impl Quick {
             let form = self.form;
             return self.exchange(store, k, 1, &[], len - 1, form);
         }
-        let pack = without(self.alloc, store.bytes(node.at), j, j + 1)?;
+        let pack = without(self.alloc, node.bytes(store), j, j + 1)?;
         self.rewrite(store, k, &pack, node.count - 1, len - 1)
     }
 }

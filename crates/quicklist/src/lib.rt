@@ -16,6 +16,7 @@ mod quick;
 mod ranges;
 mod reach;
 mod rebuilt;
+mod within;
 
 pub use blocks::Memory;
 pub use cursor::Cursor;

@@ -1,11 +1,11 @@
 // What nodes are placed of.
 
-ghost use Rattle.std.specs.Prelude.{◌≡◌, ◌∷◌, ◌<◌, ◌≤◌, ◌^◌, ◌↔◌, [], Some, None, IfOk, OnErr, IsTrue, length};
-ghost use Rattle.blocks.specs.Blocks.{with_block, Served};
-ghost use Rattle.quicklist.specs.Nodes.{pack_len};
+ghost use Rattle.std.specs.Prelude.{◌≡◌, ◌∷◌, ◌<◌, ◌≤◌, ◌^◌, ◌↔◌, [], IfOk, OnErr, IsTrue, length};
+ghost use Rattle.blocks.specs.Blocks.{Served};
+ghost use Rattle.quicklist.specs.Nodes.{IsPiece, IsPlacedOf, pack_len};
 
 use crate::node::{Container, Node};
-use blocks::{BlockStore, Memory, put_block};
+use blocks::{BlockStore, CLASS_SIZES, Memory};
 use listpack::entry_size;
 
 /// The greatest length of a packed node in bytes.
@@ -19,17 +19,42 @@ pub(crate) struct Piece<'a> {
     pub(crate) bytes: &'a [u8],
 }
 
+// How long a block may be that holds so many bytes and takes no more memory: the size of the least class that holds it.
+fn room_for(len: usize) -> usize
+    ensures { len ≤ result }
+{
+    for class in 0..CLASS_SIZES.len() {
+        let size = CLASS_SIZES[class] as usize;
+        if len <= size {
+            return size;
+        }
+    }
+    len
+}
+
+// How long the block of a piece is. That of a packed node has the room behind its bytes that its class gives it.
+fn block_len(piece: Piece<'_>) -> usize
+    ensures room { length piece.entry.bytes.now ≤ result }
+    ensures plain { piece.entry.container ≡ Container.Plain → result ≡ length piece.entry.bytes.now }
+{
+    match piece.container {
+        Container::Plain => piece.bytes.len(),
+        Container::Packed => room_for(piece.bytes.len()),
+    }
+}
+
 /// Places a node.
 pub(crate) fn place_piece<B: BlockStore>(store: &mut B, piece: Piece<'_>) -> Result<Node, Memory>
-    ensures fresh { IfOk result (λ n. B.blocks store.old n.at ≡ None) }
-    ensures placed { IfOk result (λ n. B.blocks store.new ≡ with_block (B.blocks store.old) n.at (Some piece.entry.bytes.now)) }
+    requires { IsPiece piece }
+    ensures placed { IfOk result (IsPlacedOf (B.blocks store.old) (B.blocks store.new) piece.entry.bytes.now) }
     ensures count { IfOk result (λ n. n.count ≡ piece.entry.count) }
     ensures container { IfOk result (λ n. n.container ≡ piece.entry.container) }
     ensures served { Served B.step store.old store.new }
     ensures err_blocks { OnErr result (B.blocks store.new ≡ B.blocks store.old) }
     ensures err_slabs { OnErr result (B.heap store.new ≡ B.heap store.old) }
 {
-    let at = put_block(store, piece.bytes)?;
+    let at = store.place(block_len(piece))?;
+    store.write(at, 0, piece.bytes);
     Ok(Node {
         at,
         count: piece.count,

@@ -89,7 +89,7 @@ impl Quick {
         }
         let (k, j) = find(&self.nodes, index, self.len);
         let node = self.nodes[k];
-        Some(element_at(node.container, store.bytes(node.at), j))
+        Some(element_at(node.container, node.bytes(store), j))
     }
 
     /// Gives back all blocks.

@@ -12,6 +12,7 @@ use crate::node::Container;
 use crate::packs::{packed_piece, without};
 use crate::piece::Piece;
 use crate::quick::Quick;
+use crate::within::is_back;
 use blocks::{BlockStore, Memory};
 use std::alloc::Global;
 
@@ -133,19 +134,12 @@ impl Quick {
         let before = rest_of(
             alloc,
             head.container,
-            store.bytes(head.at),
+            head.bytes(store),
             head_count,
             i,
             head_count,
         )?;
-        let behind = rest_of(
-            alloc,
-            tail.container,
-            store.bytes(tail.at),
-            tail_count,
-            0,
-            j,
-        )?;
+        let behind = rest_of(alloc, tail.container, tail.bytes(store), tail_count, 0, j)?;
         match (&before, &behind) {
             (Some(a), Some(b)) => {
                 let behind_piece = packed_piece(b, (tail_count - j) as u32);
@@ -193,11 +187,15 @@ impl Quick {
             return self.remove_across(store, first, i, last, j + 1, left);
         }
         let node = self.nodes[first];
+        if is_back(store, node, i, j + 1) {
+            self.cut_back(store, first, i, left);
+            return Ok(());
+        }
         let count = node.count as usize;
         let rest = rest_of(
             self.alloc,
             node.container,
-            store.bytes(node.at),
+            node.bytes(store),
             count,
             i,
             j + 1,

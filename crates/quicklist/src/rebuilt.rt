@@ -3,7 +3,7 @@
 ghost use Rattle.std.specs.Prelude.{◌≡◌, ◌<◌, ◌^◌, [], length, IfOk, OnOk, OnErr};
 ghost use Rattle.blocks.specs.Blocks.{Served, Changes};
 ghost use Rattle.quicklist.specs.Nodes.{IsChain, elements_of, refs_of};
-ghost use Rattle.quicklist.specs.Equal.{IsAdded, IsRebuilt, IsOpen, HasRoom, cleared};
+ghost use Rattle.quicklist.specs.Equal.{IsAdded, IsKept, IsRebuilt, IsOpen, HasRoom, cleared};
 
 use crate::clearing::{Left, left_of};
 use crate::node::{Container, Node};
@@ -42,6 +42,7 @@ impl Rebuilt {
     // Takes up a node of which this is left.
     fn add<B: BlockStore>(&mut self, store: &mut B, node: Node, left: Left) -> Result<(), Memory>
         requires room { IsOpen self.old }
+        requires left { IsKept left }
         ensures added { OnOk result (IsAdded (B.blocks store.old) (B.blocks store.new) node left self.old self.new) }
         ensures served { Served B.step store.old store.new }
         ensures err_nodes { OnErr result (self.new ≡ self.old) }
@@ -92,7 +93,7 @@ impl Rebuilt {
         let mut start = 0;
         for k in 0..nodes.len() {
             let node = nodes[k];
-            let bytes = store.bytes(node.at);
+            let bytes = node.bytes(store);
             let left = left_of(alloc, node.container, bytes, node.count, reach, start)?;
             self.add(store, node, left)?;
             start += node.count as usize;

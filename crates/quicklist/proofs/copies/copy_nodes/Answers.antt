@@ -36,7 +36,7 @@ loop-k-preserved g c =
     let inv = c.loop-k.invariant in
     let h = c.in-Ok.ensures in
     let next = one_copied m (g.B.BlockStore.blocks c.loop-k.store) n c.args.nodes.now.items c.loop-k.copy.items c.loop-k.k c.index.result.now c.in-Ok.node c.requires (omega (arith, len)) c.index.ensures
-    inv.placed h.fresh h.placed h.count h.container in
+    inv.placed h.placed h.count h.container in
     record {
       placed = subst (λ (xs : List Node). Placed m n (map (piece_for m) (take (c.loop-k.k + 1) c.args.nodes.now.items)) xs) (sym c.push_back_reserved.ensures.items) next;
       room = omega (arith, inv.room, c.push_back_reserved.ensures.capacity);

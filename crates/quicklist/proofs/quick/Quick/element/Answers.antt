@@ -1,13 +1,13 @@
 use Rattle.std.proofs.Common.{[], get_or, ap, ◌∙◌, sym}
-use Rattle.quicklist.proofs.Chains.{node_live}
+use Rattle.quicklist.proofs.Chains.{node_read}
 use Rattle.quicklist.proofs.Elements.{node_is, list_at, get_is}
 use Rattle.quicklist.proofs.Cursors.{offset_at}
 use Rattle.quicklist.proofs.quick.Quick.element.Goals as goal
 
 pub bytes-requires : goal.bytes-requires
 bytes-requires g c =
-    node_live (g.B.BlockStore.blocks c.args.store.now) c.args.self.now.nodes c.args.cursor.node c.index-node.result.now c.requires.cursor.place.inside
-    (c.index-node.ensures ∙ ap (λ v. get_or v.nodes c.args.cursor.node c.index-node.result.now) c.self.view_is) c.requires.quick.chain.owned
+    node_read (g.B.BlockStore.blocks c.args.store.now) c.args.self.now.nodes c.args.cursor.node c.index-node.result.now c.requires.cursor.place.inside
+    (c.index-node.ensures ∙ ap (λ v. get_or v.nodes c.args.cursor.node c.index-node.result.now) c.self.view_is) c.requires.quick.chain
 
 pub returns : goal.returns
 returns g c =

@@ -5,10 +5,11 @@ use Rattle.std.specs.Global.{Vec}
 use Rattle.std.proofs.lemmas.List.Edits.{length-insert}
 use Rattle.blocks.specs.Blocks.{no_step}
 use Rattle.listpack.specs.Pack.{texts}
-use Rattle.quicklist.specs.Nodes.{IsPacked, held, pack_len, node_at, node_list}
+use Rattle.quicklist.specs.declared.node.Node.{Node}
+use Rattle.quicklist.specs.Nodes.{IsPacked, HasSpace, held, pack_len, node_at, node_list}
 use Rattle.quicklist.specs.Chain.{elements, IsWritten}
-use Rattle.quicklist.proofs.Chains.{node_live}
-use Rattle.quicklist.proofs.Elements.{len_is, node_is, list_at, joined_list, count_at, count_small, overfull_insert, at_front, at_back, insert_node_is}
+use Rattle.quicklist.proofs.Chains.{node_read}
+use Rattle.quicklist.proofs.Elements.{len_is, node_is, list_at, joined_list, count_at, count_small, overfull_insert, at_front, at_back, behind_is, insert_node_is}
 use Rattle.quicklist.proofs.Rising.{at_some, at_none}
 use Rattle.quicklist.proofs.quick.Quick.insert.Goals as goal
 
@@ -20,8 +21,50 @@ gap-k-requires-clause-len g c = len_is (g.B.BlockStore.blocks c.args.store.now) 
 
 pub bytes-requires : goal.bytes-requires
 bytes-requires g c =
-    node_live (g.B.BlockStore.blocks c.args.store.now) c.args.self.now.nodes c.gap-k.result.0 c.index-node.result.now c.gap-k.ensures.inside
-    (c.index-node.ensures ∙ ap (λ v. get_or v.nodes c.gap-k.result.0 c.index-node.result.now) c.self.view_is) c.requires.quick.chain.owned
+    node_read (g.B.BlockStore.blocks c.args.store.now) c.args.self.now.nodes c.gap-k.result.0 c.index-node.result.now c.gap-k.ensures.inside
+    (c.index-node.ensures ∙ ap (λ v. get_or v.nodes c.gap-k.result.0 c.index-node.result.now) c.self.view_is) c.requires.quick.chain
+
+pub has_space-requires : goal.has_space-requires
+has_space-requires g c =
+    node_read (g.B.BlockStore.blocks c.args.store.now) c.args.self.now.nodes c.gap-k.result.0 c.index-node.result.now c.gap-k.ensures.inside
+    (c.index-node.ensures ∙ ap (λ v. get_or v.nodes c.gap-k.result.0 c.index-node.result.now) c.self.view_is) c.requires.quick.chain
+
+pub push_behind-requires-clause-space : goal.push_behind-requires-clause-space
+push_behind-requires-clause-space g c =
+    let m = g.B.BlockStore.blocks c.args.store.now in
+    let q = c.args.self.now in
+    let k = c.gap-k.result.0 in
+    let node = c.index-node.result.now in
+    let is = node_is q.nodes k node c.gap-k.ensures.inside (c.index-node.ensures ∙ ap (λ v. get_or v.nodes k node) c.self.view_is) in
+    let space = c.has_space.ensures c.if-has_space.true in
+    subst (λ (n : Node). HasSpace m n n.count c.args.element.now) is (subst (λ (j : ℕ). HasSpace m node j c.args.element.now) space.behind space)
+
+pub push_behind-requires-clause-len : goal.push_behind-requires-clause-len
+push_behind-requires-clause-len g c =
+    let m = g.B.BlockStore.blocks c.args.store.now in
+    let q = c.args.self.now in
+    let k = c.gap-k.result.0 in
+    let j = c.gap-k.result.1 in
+    let x = c.args.element.now in
+    let node = c.index-node.result.now in
+    let gap = c.gap-k.ensures in
+    let is = node_is q.nodes k node gap.inside (c.index-node.ensures ∙ ap (λ v. get_or v.nodes k node) c.self.view_is) in
+    let more : c.in-Some.len ≡ q.len + 1 = omega (arith, c.in-Some.ensures.1, ap (λ v. v.len) c.self.view_is) in
+    let whole = behind_is m q c.args.index k j x c.requires.quick gap ((c.has_space.ensures c.if-has_space.true).behind ∙ ap (λ n. n.count) is) in
+    omega (arith, more, c.requires.quick.counted, ap length whole, length-insert (elements m q) c.args.index x c.requires.index)
+
+pub returns-then-has_space-clause-written : goal.returns-then-has_space-clause-written
+returns-then-has_space-clause-written g c =
+    let m = g.B.BlockStore.blocks c.args.store.now in
+    let q = c.args.self.now in
+    let k = c.gap-k.result.0 in
+    let j = c.gap-k.result.1 in
+    let x = c.args.element.now in
+    let node = c.index-node.result.now in
+    let gap = c.gap-k.ensures in
+    let is = node_is q.nodes k node gap.inside (c.index-node.ensures ∙ ap (λ v. get_or v.nodes k node) c.self.view_is) in
+    let whole = behind_is m q c.args.index k j x c.requires.quick gap ((c.has_space.ensures c.if-has_space.true).behind ∙ ap (λ n. n.count) is) in
+    subst (λ xs. OnOk c.push_behind.result (IsWritten m (g.B.BlockStore.blocks c.push_behind.new.store) q c.push_behind.new.self xs)) whole c.push_behind.ensures.written
 
 pub returns-in_err-pack-clause-served : goal.returns-in_err-pack-clause-served
 returns-in_err-pack-clause-served g c = no_step

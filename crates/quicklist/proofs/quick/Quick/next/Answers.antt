@@ -1,7 +1,7 @@
 use Rattle.std.proofs.Common.{◌≡◌, ◌+◌, ◌<◌, length, get_or, ap, ◌∙◌, sym, refl, arith, rules, deque_len}
 use Rattle.quicklist.specs.Nodes.{node_at, node_list}
 use Rattle.quicklist.specs.Chain.{elements}
-use Rattle.quicklist.proofs.Chains.{node_live}
+use Rattle.quicklist.proofs.Chains.{node_read}
 use Rattle.quicklist.proofs.Elements.{node_is, list_at, held_at}
 use Rattle.quicklist.proofs.Cursors.{offset_at, offset_back, index_inside, node_behind, node_some, place_next}
 use Rattle.quicklist.proofs.quick.Quick.next.Goals as goal
@@ -18,8 +18,8 @@ overflow_add-index g c =
 
 pub bytes-requires : goal.bytes-requires
 bytes-requires g c =
-    node_live (g.B.BlockStore.blocks c.args.store.now) c.args.self.now.nodes c.args.cursor.node c.index-node.result.now c.requires.cursor.place.inside
-    (c.index-node.ensures ∙ ap (λ v. get_or v.nodes c.args.cursor.node c.index-node.result.now) c.self.view_is) c.requires.quick.chain.owned
+    node_read (g.B.BlockStore.blocks c.args.store.now) c.args.self.now.nodes c.args.cursor.node c.index-node.result.now c.requires.cursor.place.inside
+    (c.index-node.ensures ∙ ap (λ v. get_or v.nodes c.args.cursor.node c.index-node.result.now) c.self.view_is) c.requires.quick.chain
 
 pub index-behind-requires : goal.index-behind-requires
 index-behind-requires g c =
@@ -54,7 +54,7 @@ bytes-requires-in-None g c =
     let len : c.len.result ≡ length (elements m q) = c.len.ensures ∙ s.counted in
     let more : c.args.cursor.index + 1 < length (elements m q) = omega (arith, len, index_inside m q c.args.cursor.index k cursor.among s cursor.place, c.if-left-eq1.false) in
     let inside : k + 1 < length q.nodes = node_behind m q c.args.cursor.index k cursor.among s cursor.place last more in
-    node_live m q.nodes (k + 1) c.index-behind.result.now inside (c.index-behind.ensures ∙ ap (λ v. get_or v.nodes (k + 1) c.index-behind.result.now) c.self.view_is) s.chain.owned
+    node_read m q.nodes (k + 1) c.index-behind.result.now inside (c.index-behind.ensures ∙ ap (λ v. get_or v.nodes (k + 1) c.index-behind.result.now) c.self.view_is) s.chain
 
 pub offset_in-requires-clause-held : goal.offset_in-requires-clause-held
 offset_in-requires-clause-held g c =

@@ -1,14 +1,14 @@
 use Rattle.std.proofs.Common.{◌≡◌, ◌-◌, ◌<◌, ℕ, length, get_or, ap, ◌∙◌, sym, subst, arith}
 use Rattle.quicklist.specs.Nodes.{IsPlace, node_at, node_list}
-use Rattle.quicklist.proofs.Chains.{node_live}
+use Rattle.quicklist.proofs.Chains.{node_read}
 use Rattle.quicklist.proofs.Elements.{node_is, list_at, count_at}
 use Rattle.quicklist.proofs.Cursors.{offset_at, offset_back, node_before, place_last}
 use Rattle.quicklist.proofs.quick.Quick.prev.Goals as goal
 
 pub bytes-requires : goal.bytes-requires
 bytes-requires g c =
-    node_live (g.B.BlockStore.blocks c.args.store.now) c.args.self.now.nodes c.args.cursor.node c.index-node.result.now c.requires.cursor.place.inside
-    (c.index-node.ensures ∙ ap (λ v. get_or v.nodes c.args.cursor.node c.index-node.result.now) c.self.view_is) c.requires.quick.chain.owned
+    node_read (g.B.BlockStore.blocks c.args.store.now) c.args.self.now.nodes c.args.cursor.node c.index-node.result.now c.requires.cursor.place.inside
+    (c.index-node.ensures ∙ ap (λ v. get_or v.nodes c.args.cursor.node c.index-node.result.now) c.self.view_is) c.requires.quick.chain
 
 pub bytes-requires-in-None : goal.bytes-requires-in-None
 bytes-requires-in-None g c =
@@ -23,7 +23,7 @@ bytes-requires-in-None g c =
     let first = c.in-None.ensures cursor.among off in
     let some = node_before m q c.args.cursor.index k cursor.among s cursor.place first c.if-cursor-eq0.false in
     let inside : k - 1 < length q.nodes = omega (arith, cursor.place.inside, some) in
-    node_live m q.nodes (k - 1) c.index-before.result.now inside (c.index-before.ensures ∙ ap (λ v. get_or v.nodes (k - 1) c.index-before.result.now) c.self.view_is) s.chain.owned
+    node_read m q.nodes (k - 1) c.index-before.result.now inside (c.index-before.ensures ∙ ap (λ v. get_or v.nodes (k - 1) c.index-before.result.now) c.self.view_is) s.chain
 
 pub returns-in-None : goal.returns-in-None
 returns-in-None g c =

@@ -4,19 +4,19 @@ use Rattle.blocks.specs.Blocks.{no_step}
 use Rattle.listpack.specs.Pack.{texts}
 use Rattle.quicklist.specs.Nodes.{left_list, piece_list}
 use Rattle.quicklist.specs.Chain.{respelled, IsChanged}
-use Rattle.quicklist.proofs.Chains.{node_live}
+use Rattle.quicklist.proofs.Chains.{node_read}
 use Rattle.quicklist.proofs.Elements.{node_is, across_is}
 use Rattle.quicklist.proofs.quick.Quick.remove_across.Goals as goal
 
 pub bytes-requires : goal.bytes-requires
 bytes-requires g c =
-    node_live (g.B.BlockStore.blocks c.args.store.now) c.args.self.now.nodes c.args.first c.index.result.now (omega (arith, c.requires.order, c.requires.inside))
-    (c.index.ensures ∙ ap (λ v. get_or v.nodes c.args.first c.index.result.now) c.self.view_is) c.requires.quick.chain.owned
+    node_read (g.B.BlockStore.blocks c.args.store.now) c.args.self.now.nodes c.args.first c.index.result.now (omega (arith, c.requires.order, c.requires.inside))
+    (c.index.ensures ∙ ap (λ v. get_or v.nodes c.args.first c.index.result.now) c.self.view_is) c.requires.quick.chain
 
 pub bytes-requires-2 : goal.bytes-requires-2
 bytes-requires-2 g c =
-    node_live (g.B.BlockStore.blocks c.args.store.now) c.args.self.now.nodes c.args.last c.index-2.result.now c.requires.inside
-    (c.index-2.ensures ∙ ap (λ v. get_or v.nodes c.args.last c.index-2.result.now) c.self.view_is) c.requires.quick.chain.owned
+    node_read (g.B.BlockStore.blocks c.args.store.now) c.args.self.now.nodes c.args.last c.index-2.result.now c.requires.inside
+    (c.index-2.ensures ∙ ap (λ v. get_or v.nodes c.args.last c.index-2.result.now) c.self.view_is) c.requires.quick.chain
 
 pub returns-in_err-before-clause-served : goal.returns-in_err-before-clause-served
 returns-in_err-before-clause-served g c = no_step

@@ -1,4 +1,4 @@
-use Rattle.std.proofs.Common.{◌≡◌, ◌+◌, ◌-◌, ◌++◌, ◌≤◌, ℕ, length, take, drop, get_or, Option, Some, None, ap, ◌∙◌, sym, subst, refl, arith}
+use Rattle.std.proofs.Common.{◌≡◌, ◌+◌, ◌-◌, ◌++◌, ◌<◌, ◌≤◌, ℕ, length, take, drop, get_or, Option, Some, None, ap, ◌∙◌, sym, subst, refl, arith}
 use Rattle.std.specs.Prelude.{OnOk, sum_by}
 use Rattle.std.specs.Option.{option_copied}
 use Rattle.std.specs.Borrow.{Bor}
@@ -7,8 +7,9 @@ use Rattle.std.specs.List.{remove_range}
 use Rattle.blocks.specs.Blocks.{no_step}
 use Rattle.quicklist.specs.Nodes.{IsPlace, left_list, rest_list, node_at, node_list, count_of}
 use Rattle.quicklist.specs.Chain.{Chain, elements, respelled, IsChanged}
-use Rattle.quicklist.proofs.Chains.{node_live}
-use Rattle.quicklist.proofs.Elements.{len_is, node_is, node_of, list_at, place_room, place_order, range_is, range_len}
+use Rattle.quicklist.proofs.Chains.{node_read}
+use Rattle.quicklist.proofs.Elements.{len_is, node_is, node_of, list_at, place_room, place_order, range_is, back_is, range_len}
+use Rattle.quicklist.proofs.Rising.{changed_from}
 use Rattle.quicklist.proofs.quick.Quick.remove_range.Goals as goal
 
 -- what a borrowed rest holds
@@ -50,8 +51,66 @@ returns-then-first-last-clause-changed g c =
 pub bytes-requires : goal.bytes-requires
 bytes-requires g c =
     let one = subst (λ (v : Chain). IsPlace v.nodes c.args.from c.find-first.result.0 c.find-first.result.1) c.self.view_is c.find-first.ensures in
-    node_live (g.B.BlockStore.blocks c.args.store.now) c.args.self.now.nodes c.find-first.result.0 c.index-node.result.now one.inside
-    (c.index-node.ensures ∙ ap (λ v. get_or v.nodes c.find-first.result.0 c.index-node.result.now) c.self.view_is) c.requires.quick.chain.owned
+    node_read (g.B.BlockStore.blocks c.args.store.now) c.args.self.now.nodes c.find-first.result.0 c.index-node.result.now one.inside
+    (c.index-node.ensures ∙ ap (λ v. get_or v.nodes c.find-first.result.0 c.index-node.result.now) c.self.view_is) c.requires.quick.chain
+
+pub is_back-requires : goal.is_back-requires
+is_back-requires g c =
+    let one = subst (λ (v : Chain). IsPlace v.nodes c.args.from c.find-first.result.0 c.find-first.result.1) c.self.view_is c.find-first.ensures in
+    node_read (g.B.BlockStore.blocks c.args.store.now) c.args.self.now.nodes c.find-first.result.0 c.index-node.result.now one.inside
+    (c.index-node.ensures ∙ ap (λ v. get_or v.nodes c.find-first.result.0 c.index-node.result.now) c.self.view_is) c.requires.quick.chain
+
+pub cut_back-requires-clause-back : goal.cut_back-requires-clause-back
+cut_back-requires-clause-back g c =
+    let m = g.B.BlockStore.blocks c.args.store.now in
+    let q = c.args.self.now in
+    let s = c.requires.quick in
+    let k = c.find-first.result.0 in
+    let node = c.index-node.result.now in
+    let one = subst (λ (v : Chain). IsPlace v.nodes c.args.from k c.find-first.result.1) c.self.view_is c.find-first.ensures in
+    let is = node_is q.nodes k node one.inside (c.index-node.ensures ∙ ap (λ v. get_or v.nodes k node) c.self.view_is) in
+    let back = c.is_back.ensures c.if-is_back.true in
+    record { packed = ap (λ n. n.container) (sym is) ∙ back.packed; some = back.some; last = refl }
+
+pub cut_back-requires-clause-from : goal.cut_back-requires-clause-from
+cut_back-requires-clause-from g c =
+    let one = subst (λ (v : Chain). IsPlace v.nodes c.args.from c.find-first.result.0 c.find-first.result.1) c.self.view_is c.find-first.ensures in
+    (place_room (g.B.BlockStore.blocks c.args.store.now) c.args.self.now c.args.from c.find-first.result.0 c.find-first.result.1 c.requires.quick one).0
+
+pub cut_back-requires-clause-len : goal.cut_back-requires-clause-len
+cut_back-requires-clause-len g c =
+    let m = g.B.BlockStore.blocks c.args.store.now in
+    let q = c.args.self.now in
+    let s = c.requires.quick in
+    let k = c.find-first.result.0 in
+    let node = c.index-node.result.now in
+    let one = subst (λ (v : Chain). IsPlace v.nodes c.args.from k c.find-first.result.1) c.self.view_is c.find-first.ensures in
+    let is = node_is q.nodes k node one.inside (c.index-node.ensures ∙ ap (λ v. get_or v.nodes k node) c.self.view_is) in
+    let two = subst (λ (v : Chain). IsPlace v.nodes (c.args.to - 1) c.find-last.result.0 c.find-last.result.1) c.self.view_is c.find-last.ensures in
+    let less : c.args.from < c.args.to = omega (arith, c.if-from-to.false, c.requires.order) in
+    let order = place_order q.nodes c.args.from (c.args.to - 1) k c.find-last.result.0 c.find-first.result.1 c.find-last.result.1 one two (omega (arith, less)) in
+    let same : c.find-last.result.0 ≡ k = omega (arith, order, c.if-first-last.false) in
+    let all = (c.is_back.ensures c.if-is_back.true).last ∙ ap count_of is in
+    let whole = back_is m q c.args.from c.args.to k c.find-first.result.1 c.find-last.result.0 c.find-last.result.1 s one two same less all in
+    omega (arith, ap (λ v. v.len) c.self.view_is, s.counted, ap length whole, range_len (elements m q) c.args.from c.args.to c.requires.order c.requires.inside)
+
+pub returns-then-is_back-clause-changed : goal.returns-then-is_back-clause-changed
+returns-then-is_back-clause-changed g c =
+    let m = g.B.BlockStore.blocks c.args.store.now in
+    let q = c.args.self.now in
+    let s = c.requires.quick in
+    let k = c.find-first.result.0 in
+    let node = c.index-node.result.now in
+    let one = subst (λ (v : Chain). IsPlace v.nodes c.args.from k c.find-first.result.1) c.self.view_is c.find-first.ensures in
+    let is = node_is q.nodes k node one.inside (c.index-node.ensures ∙ ap (λ v. get_or v.nodes k node) c.self.view_is) in
+    let two = subst (λ (v : Chain). IsPlace v.nodes (c.args.to - 1) c.find-last.result.0 c.find-last.result.1) c.self.view_is c.find-last.ensures in
+    let less : c.args.from < c.args.to = omega (arith, c.if-from-to.false, c.requires.order) in
+    let order = place_order q.nodes c.args.from (c.args.to - 1) k c.find-last.result.0 c.find-first.result.1 c.find-last.result.1 one two (omega (arith, less)) in
+    let same : c.find-last.result.0 ≡ k = omega (arith, order, c.if-first-last.false) in
+    let all = (c.is_back.ensures c.if-is_back.true).last ∙ ap count_of is in
+    let whole = back_is m q c.args.from c.args.to k c.find-first.result.1 c.find-last.result.0 c.find-last.result.1 s one two same less all in
+    let n = g.B.BlockStore.blocks c.cut_back.new.store in
+    subst (λ xs. IsChanged m n q c.cut_back.new.self xs) whole (changed_from m n q c.cut_back.new.self _ c.cut_back.ensures.written)
 
 pub rest_of-requires-clause-order : goal.rest_of-requires-clause-order
 rest_of-requires-clause-order g c =

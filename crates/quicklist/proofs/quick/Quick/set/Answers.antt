@@ -6,7 +6,7 @@ use Rattle.blocks.specs.Blocks.{no_step}
 use Rattle.listpack.specs.Pack.{texts}
 use Rattle.quicklist.specs.Nodes.{IsPacked, IsPlace, held, pack_len, node_at, node_list, count_of}
 use Rattle.quicklist.specs.Chain.{Chain, elements, respelled, IsWritten}
-use Rattle.quicklist.proofs.Chains.{node_live}
+use Rattle.quicklist.proofs.Chains.{node_read}
 use Rattle.quicklist.proofs.Elements.{len_is, node_is, list_at, replaced_list, overfull_set, set_alone, around_set, set_node_is, place_room}
 use Rattle.quicklist.proofs.Rising.{at_some, at_none}
 use Rattle.quicklist.proofs.quick.Quick.set.Goals as goal
@@ -17,8 +17,8 @@ find-k-requires-clause-whole g c = subst (λ (v : Chain). v.len ≡ sum_by count
 pub bytes-requires : goal.bytes-requires
 bytes-requires g c =
     let place = subst (λ (v : Chain). IsPlace v.nodes c.args.index c.find-k.result.0 c.find-k.result.1) c.self.view_is c.find-k.ensures in
-    node_live (g.B.BlockStore.blocks c.args.store.now) c.args.self.now.nodes c.find-k.result.0 c.index-node.result.now place.inside
-    (c.index-node.ensures ∙ ap (λ v. get_or v.nodes c.find-k.result.0 c.index-node.result.now) c.self.view_is) c.requires.quick.chain.owned
+    node_read (g.B.BlockStore.blocks c.args.store.now) c.args.self.now.nodes c.find-k.result.0 c.index-node.result.now place.inside
+    (c.index-node.ensures ∙ ap (λ v. get_or v.nodes c.find-k.result.0 c.index-node.result.now) c.self.view_is) c.requires.quick.chain
 
 pub returns-in_err-pack-clause-served : goal.returns-in_err-pack-clause-served
 returns-in_err-pack-clause-served g c = no_step

@@ -1,7 +1,9 @@
-use Rattle.std.proofs.Common.{Some, ap, ◌∙◌, sym, subst}
-use Rattle.blocks.specs.Blocks.{no_step, with_block}
+use Rattle.std.proofs.Common.{List, ℕ, length, ap, ◌∙◌, sym, subst}
+use Rattle.blocks.specs.Blocks.{no_step}
 use Rattle.quicklist.specs.declared.clearing.Left.{Left}
-use Rattle.quicklist.specs.Equal.{IsAdded}
+use Rattle.listpack.specs.Pack.{texts}
+use Rattle.quicklist.specs.Nodes.{IsPacked, IsPlacedOf}
+use Rattle.quicklist.specs.Equal.{IsAdded, IsKept}
 use Rattle.quicklist.proofs.rebuilt.Rebuilt.add.Goals as goal
 
 pub returns-in-Whole-clause-served : goal.returns-in-Whole-clause-served
@@ -9,6 +11,12 @@ returns-in-Whole-clause-served g c = no_step
 
 pub returns-in-Nothing-clause-served : goal.returns-in-Nothing-clause-served
 returns-in-Nothing-clause-served g c = no_step
+
+pub place_piece-requires : goal.place_piece-requires
+place_piece-requires g c =
+    let kept = subst IsKept c.in-Part.is c.requires.left in
+    let value = c.deref.ensures.value in
+    record { is_held = subst IsPacked (sym value) kept.0; counted = kept.1 ∙ ap (λ (bytes : List ℕ). length (texts bytes)) (sym value); some = kept.2 }
 
 pub returns-in_ok-fresh-in-Part-clause-added : goal.returns-in_ok-fresh-in-Part-clause-added
 returns-in_ok-fresh-in-Part-clause-added g c =
@@ -20,6 +28,6 @@ returns-in_ok-fresh-in-Part-clause-added g c =
     let three' = c.push_back_reserved-in-Part-3.ensures in
     subst (λ (l : Left). IsAdded m n c.args.node l c.args.self.now (record { nodes = c.push_back_reserved-in-Part.new.self; placed = c.push_back_reserved-in-Part-2.new.self; replaced = c.push_back_reserved-in-Part-3.new.self })) (sym c.in-Part.is) (
       c.in_ok-fresh-in-Part.fresh,
-      record { free = h.fresh; placed = h.placed ∙ ap (λ xs. with_block m c.in_ok-fresh-in-Part.fresh.at (Some xs)) c.deref.ensures.value; counted = h.count; container = h.container },
+      record { placed = subst (λ (bytes : List ℕ). IsPlacedOf m n bytes c.in_ok-fresh-in-Part.fresh) c.deref.ensures.value h.placed; counted = h.count; container = h.container },
       record { nodes_is = one.items; placed_is = two.items; replaced_is = three'.items; nodes_room = one.capacity; placed_room = two.capacity; replaced_room = three'.capacity },
     )

@@ -5,7 +5,7 @@ use Rattle.blocks.proofs.Serve.{Served-then}
 use Rattle.quicklist.specs.declared.node.Node.{Node}
 use Rattle.quicklist.specs.Nodes.{elements_of}
 use Rattle.quicklist.specs.Equal.{IsRebuilt, cleared}
-use Rattle.quicklist.proofs.Rebuilding.{none_rebuilt, node_there, held_there, count_there, start_next, start_small, rebuilt_next, room_open, room_more}
+use Rattle.quicklist.proofs.Rebuilding.{none_rebuilt, kept_of, node_there, held_there, count_there, start_next, start_small, rebuilt_next, room_open, room_more}
 use Rattle.quicklist.proofs.rebuilt.Rebuilt.add_all.Goals as goal
 
 pub loop-k-init : goal.loop-k-init
@@ -41,10 +41,13 @@ left_of-requires-clause-small g c =
     c.requires.chain (omega (arith, n)) c.index-node.ensures c.loop-k.invariant.rebuilt.changes c.bytes-bytes.ensures c.loop-k.start c.loop-k.invariant.start in
     omega (arith, most, c.requires.small)
 
-pub add-requires : goal.add-requires
-add-requires g c =
+pub add-requires-clause-room : goal.add-requires-clause-room
+add-requires-clause-room g c =
     let n : c.len-k-end.result ≡ length c.args.nodes.now.items = search rules in
-    record { room = room_open c.loop-k.self c.loop-k.k (length c.args.nodes.now.items) c.loop-k.invariant.room (omega (arith, n)) }
+    room_open c.loop-k.self c.loop-k.k (length c.args.nodes.now.items) c.loop-k.invariant.room (omega (arith, n))
+
+pub add-requires-clause-left : goal.add-requires-clause-left
+add-requires-clause-left g c = kept_of _ _ c.in_ok-left.left c.in_ok-left.ensures
 
 pub returns-in_err-add-clause-served : goal.returns-in_err-add-clause-served
 returns-in_err-add-clause-served g c = Served-then _ _ _ c.loop-k.invariant.served c.in_err-add.ensures.served
