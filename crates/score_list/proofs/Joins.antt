@@ -141,6 +141,9 @@ module _ (t0 t1 t2 : Towers) (key rank : ℕ) (linked : IsLinked t0) (h : Unthre
   apart_from : Lacks (suc key) (without_at (order t0) rank) × IsDistinct (without_at (order t0) rank)
   apart_from = distinct_without key (take rank (order t0)) (drop (suc rank) (order t0)) (subst IsDistinct is linked.distinct)
 
+  pub left_fresh : Lacks (suc key) (without_at (order t0) rank)
+  left_fresh = apart_from.0
+
   fewer : length (order t0) ≡ suc (length (without_at (order t0) rank))
   fewer =
       let a : length (order t0) ≡ length (take rank (order t0)) + suc (length (drop (suc rank) (order t0))) = ap length is ∙ length-append (take rank (order t0)) (key ∷ drop (suc rank) (order t0)) in

@@ -8,3 +8,4 @@ pub mod Searching
 pub mod Sortings
 pub mod Renaming
 pub mod Walks
+pub mod Taken

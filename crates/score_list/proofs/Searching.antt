@@ -1,11 +1,13 @@
 -- The way down to the first element that a probe doesn't stand above.
 use Rattle.std.proofs.Common.{◌≡◌, ℕ, zero, suc, ◌+◌, ◌-◌, ◌<◌, ◌≤◌, Bool, true, false, List, [], ◌∷◌, ◌++◌, length, take, drop, get_or, map, count_by, cond, refl, sym, append_assoc, drop_of_length-le, ap, ◌∙◌, subst, length-take-le, drop-cons, ltb-true, ltb-false, nat_lt, arith, inl, inr}
-use Rattle.std.proofs.lemmas.List.{take-append-drop, take-map, drop-map}
+use Rattle.std.specs.Prelude.{slice_index_or, slice_set}
+use Rattle.std.proofs.lemmas.List.{take-append-drop, take-map, drop-map, length-set, get_or-set_other, get_or-set_same}
 use Rattle.std.proofs.lemmas.List.Sums.{sum_by-cons}
 use Rattle.score_list.specs.declared.towers.Towers.{Towers}
+use Rattle.score_list.specs.declared.towers.Place.{Place}
 use Rattle.score_list.specs.Rows.{IsRow, Reaches, Stands, AllTall}
 use Rattle.score_list.specs.Rows.Stands.{at_head, at_tower}
-use Rattle.score_list.specs.Linked.{Element, links_at, next_at, span_at, height_at, tall, order, IsLevel, IsLinked, StandsAt, Arrives}
+use Rattle.score_list.specs.Linked.{Element, links_at, next_at, span_at, height_at, tall, order, IsLevel, IsLinked, StandsAt, Arrives, no_place, IsPath}
 use Rattle.score_list.specs.Sorted.{AllAre, IsParted, EachIs}
 use Rattle.score_list.proofs.Moved.{decide, never, ahead, reach_stands, stands_below, all_next}
 use Rattle.score_list.proofs.Threading.{lower, row_reached, reaches_of}
@@ -139,6 +141,30 @@ pub descends : (t : Towers) (rank level owner after : ℕ) → level < 16 → Ar
 descends t rank level owner after lt a =
     let s = reach_stands (tall t level) (take rank (order t)) owner a.0 a.1 in
     record { bound = omega arith; stands = (s.0, s.1, omega (arith, s.2, a.2)); came = λ h. a }
+
+-- the last owners of the levels from one on
+pub record Way (t : Towers) (rank level : ℕ) (path : List Place) : Type 0 where
+  pub long : length path ≡ 16
+  pub came : (j : ℕ) → level ≤ j → j < 16 → Arrives t j rank (slice_index_or path j no_place).owner (slice_index_or path j no_place).rank
+
+-- with that of one level more
+pub way_on : (t : Towers) (rank level : ℕ) (path : List Place) (place : Place) → 0 < level → level - 1 < 16 → Arrives t (level - 1) rank place.owner place.rank → Way t rank level path → Way t rank (level - 1) (slice_set path (level - 1) place)
+way_on t rank level path place lt low a w = record {
+  long = length-set path (level - 1) place ∙ w.long;
+  came = λ j le less. elim (decide (nat_lt (level - 1) j)) [
+    | inl h ↦ (let more : level - 1 < j = ltb-true (level - 1) j h in
+        let same : slice_index_or (slice_set path (level - 1) place) j no_place ≡ slice_index_or path j no_place = get_or-set_other path (level - 1) j place no_place (λ e. absurd (omega (arith, e, more))) in
+        subst (λ (p : Place). Arrives t j rank p.owner p.rank) (sym same) (w.came j (omega (arith, more)) less))
+    | inr h ↦ (let is : level - 1 ≡ j = omega (arith, le, ltb-false (level - 1) j h) in
+        let same : slice_index_or (slice_set path (level - 1) place) (level - 1) no_place ≡ place = get_or-set_same path (level - 1) place no_place (omega (arith, low, w.long)) in
+        subst (λ n. Arrives t n rank (slice_index_or (slice_set path (level - 1) place) n no_place).owner (slice_index_or (slice_set path (level - 1) place) n no_place).rank) is
+        (subst (λ (p : Place). Arrives t (level - 1) rank p.owner p.rank) (sym same) a))
+  ];
+}
+
+-- the last owners of all levels
+pub way_path : (t : Towers) (rank level : ℕ) (path : List Place) → level ≤ 0 → Way t rank level path → IsPath t rank path
+way_path t rank level path le w = λ j lt. w.came j (omega (arith, le)) lt
 
 tall_front : (tall : ℕ → Bool) (rank : ℕ) (ks : List ℕ) → AllTall tall ks → AllTall tall (take rank ks)
 tall_front tall zero ks a = tt

@@ -10,7 +10,7 @@ use Rattle.blocks.specs.Blocks.{Blocks, bytes_at}
 use Rattle.score_list.specs.declared.towers.Towers.{Towers}
 use Rattle.std.proofs.lemmas.List.{get_or-map}
 use Rattle.score_list.specs.Linked.{Element, no_element, with_at, without_at, items, order, element_at, IsAt}
-use Rattle.score_list.specs.Sorted.{Key, key_of, key_cmp, AllBehind, IsSorted, Misses, is_below, place_of, HasAt, AllFrom, IsRising, AllAre, IsParted, EachIs, Located}
+use Rattle.score_list.specs.Sorted.{Key, key_of, key_cmp, AllBehind, IsSorted, Misses, is_below, place_of, HasAt, AllFrom, IsRising, AllAre, IsParted, EachIs, Located, rescored}
 use Rattle.score_list.proofs.Moved.{decide, never}
 use Rattle.score_list.proofs.Searching.{count_yes, count_out, length_of_map}
 
@@ -241,4 +241,36 @@ pub removed_is : (blocks : Blocks) (key : Key) (t : Towers) (old new : List Elem
 removed_is blocks key t old new rank tower l is e = (
   subst (λ xs. HasAt blocks key xs (place_of blocks key xs)) is (subst (λ n. HasAt blocks key (items t) n) l.place l.has),
   e ∙ subst (λ xs. without_at (items t) rank ≡ without_at xs (place_of blocks key xs)) is (ap (λ n. without_at (items t) n) l.place),
+)
+
+-- ---- a pair gets another score
+
+-- a key that a list misses it misses without one of its elements
+misses_without : (blocks : Blocks) (key : Key) (n : ℕ) (xs : List Element) → Misses blocks key xs → Misses blocks key (without_at xs n)
+misses_without blocks key zero [] m = tt
+misses_without blocks key zero (x ∷ xs) m = m.1
+misses_without blocks key (suc n) [] m = tt
+misses_without blocks key (suc n) (x ∷ xs) m = (m.0, misses_without blocks key n xs m.1)
+
+live_in : (blocks : Blocks) (xs : List Element) (n : ℕ) → IsSorted blocks xs → n < length xs → IsSome (blocks (get_or xs n no_element).1)
+live_in blocks [] n s lt = absurd (omega arith)
+live_in blocks (x ∷ xs) zero s lt = s.0
+live_in blocks (x ∷ xs) (suc n) s lt = live_in blocks xs n s.2 (omega arith)
+
+module _ (blocks : Blocks) (member : List ℕ) (was score : ℤ) (xs : List Element) (rank : ℕ) (sorted : IsSorted blocks xs) (has : HasAt blocks (was, member) xs rank) (misses : Misses blocks (score, member) xs) where
+  -- the list with the element at a rank at the place of its new score is sorted
+  pub sorted_moved : IsSorted blocks (with_at (without_at xs rank) (place_of blocks (score, member) (without_at xs rank)) (score, (get_or xs rank no_element).1))
+  sorted_moved =
+      let ref = (get_or xs rank no_element).1 in
+      let is_key : key_of blocks (score, ref) ≡ (score, member) = ap (λ (k : Key). let p : Key = (score, k.1) in p) has.1 in
+      sorted_joined blocks (score, member) ref score (live_in blocks xs rank sorted has.0) is_key (without_at xs rank) (sorted_without blocks rank xs sorted) (misses_without blocks (score, member) rank xs misses)
+
+-- the old list has the located key at its place, and the new one has it with another score
+pub rescored_is : (blocks : Blocks) (member : List ℕ) (was score : ℤ) (t : Towers) (old new : List Element) (rank tower : ℕ) → Located blocks (was, member) t rank tower → items t ≡ old
+    → new ≡ with_at (without_at (items t) rank) (place_of blocks (score, member) (without_at (items t) rank)) (score, (get_or (items t) rank no_element).1)
+    → HasAt blocks (was, member) old (place_of blocks (was, member) old) × (new ≡ rescored blocks (was, member) score old)
+rescored_is blocks member was score t old new rank tower l is e = (
+  subst (λ xs. HasAt blocks (was, member) xs (place_of blocks (was, member) xs)) is (subst (λ n. HasAt blocks (was, member) (items t) n) l.place l.has),
+  e ∙ subst (λ xs. with_at (without_at (items t) rank) (place_of blocks (score, member) (without_at (items t) rank)) (score, (get_or (items t) rank no_element).1) ≡ rescored blocks (was, member) score xs) is
+      (ap (λ n. with_at (without_at (items t) n) (place_of blocks (score, member) (without_at (items t) n)) (score, (get_or (items t) n no_element).1)) l.place),
 )

@@ -52,54 +52,35 @@ reaches_of t l front o rest (at_tower before k e is_o is) lt = subst (λ n. l < 
 
 module _ (t0 : Towers) (ks ks' : List ℕ) (rank : ℕ) where
   -- the levels from one on are edited, and those below it are as they were
-  pub record Editing (t : Towers) (level owner after : ℕ) : Type 0 where
+  pub record Editing (t : Towers) (level : ℕ) : Type 0 where
     pub keeps : Keeps t0 t
     pub bound : level ≤ 16
     pub low : (j : ℕ) → j < level → IsLevel t j ks
     pub high : (j : ℕ) → level ≤ j → j < 16 → IsLevel t j ks'
-    pub rest : List ℕ
-    pub stands : Stands (tall t0 level) (take rank ks) owner rest
-    pub after_is : after + length rest ≡ rank
 
-  pub begun : LinkedAs t0 ks → rank ≤ length ks → Editing t0 16 0 0
-  begun linked le = record {
+  pub begun : LinkedAs t0 ks → Editing t0 16
+  begun linked = record {
     keeps = record { heights = refl; elements = refl; len = refl; head = refl };
     bound = omega arith;
     low = λ j lt. linked.rows j lt;
     high = λ j le lt. absurd (omega arith);
-    rest = take rank ks;
-    stands = at_head refl refl;
-    after_is = omega (arith, length-take-le rank ks le);
   }
 
-  pub some_level : (t : Towers) (level owner after : ℕ) → 0 < level → Editing t level owner after → Editing t (suc (level - 1)) owner after
-  some_level t level owner after lt e = (let is : level ≡ suc (level - 1) = omega arith in subst (λ n. Editing t n owner after) is e)
+  pub some_level : (t : Towers) (level : ℕ) → 0 < level → Editing t level → Editing t (suc (level - 1))
+  some_level t level lt e = (let is : level ≡ suc (level - 1) = omega arith in subst (λ n. Editing t n) is e)
 
-  module _ (t : Towers) (j owner after : ℕ) (linked : LinkedAs t0 ks) (e : Editing t (suc j) owner after) where
-    pub ordered : order t ≡ ks
-    ordered = order_is t ks (all_kept t0 t ks e.keeps.heights linked.based) (e.low 0 (omega arith)) (e.keeps.len ∙ linked.counted)
-
+  module _ (t : Towers) (j : ℕ) (linked : LinkedAs t0 ks) (e : Editing t (suc j)) where
     tall_is : tall t j ≡ tall t0 j
     tall_is = tall_kept t0 t e.keeps.heights j
 
     pub head_is : length t.head ≡ 16
     head_is = e.keeps.head ∙ linked.full_head
 
-    pub this_level : IsLevel t j (order t)
-    this_level = subst (IsLevel t j) (sym ordered) (e.low j (omega arith))
-
-    pub stands_at : StandsAt t j rank owner after
-    stands_at = (
-      e.rest,
-      subst (λ xs. Stands (tall t j) (take rank xs) owner e.rest) (sym ordered)
-          (subst (λ f. Stands f (take rank ks) owner e.rest) (sym tall_is)
-          (stands_below (tall t0 (suc j)) (tall t0 j) (λ k h. lower (height_at t0 k) (suc j) j (omega arith) h) (take rank ks) owner e.rest e.stands)),
-      e.after_is,
-    )
-
-    module _ (last past : ℕ) (a : Arrives t j rank last past) where
+    module _ (last past : ℕ) (a : Arrives t0 j rank last past) where
       pub arrives : Reaches (tall t j) (take rank ks) 0 0 last a.0
-      arrives = subst (λ xs. Reaches (tall t j) (take rank xs) 0 0 last a.0) ordered a.1
+      arrives =
+          subst (λ f. Reaches f (take rank ks) 0 0 last a.0) (sym tall_is)
+          (subst (λ xs. Reaches (tall t0 j) (take rank xs) 0 0 last a.0) (order_is t0 ks linked.based (linked.rows 0 (omega arith)) linked.counted) a.1)
 
       pub left_is : a.0 ≡ rank - past
       left_is = omega (arith, a.2)
@@ -132,17 +113,13 @@ module _ (t0 : Towers) (ks ks' : List ℕ) (rank : ℕ) where
           here (inr h) = (let same : j ≡ l = omega (arith, ltb-false j l h) in subst (λ n. IsLevel t' n ks') same row)
 
       -- one level more is edited
-      pub edited : (t' : Towers) → Keeps t t' → ((l o : ℕ) → l ≢ j → link_at t' l o ≡ link_at t l o) → IsLevel t' j ks' → Editing t' j last past
+      pub edited : (t' : Towers) → Keeps t t' → ((l o : ℕ) → l ≢ j → link_at t' l o ≡ link_at t l o) → IsLevel t' j ks' → Editing t' j
       edited t' k others row =
-          let s = reach_stands (tall t j) (take rank ks) last a.0 arrives in
           record {
             keeps = record { heights = k.heights ∙ e.keeps.heights; elements = k.elements ∙ e.keeps.elements; len = k.len ∙ e.keeps.len; head = k.head ∙ e.keeps.head };
             bound = omega (arith, e.bound);
             low = λ l lt. level_kept t t' l ks k.heights (λ o. others l o (λ q. absurd (omega arith))) (e.low l (omega arith));
             high = λ l le lt. at_level t' k others row l le lt;
-            rest = s.0;
-            stands = subst (λ f. Stands f (take rank ks) last s.0) tall_is s.1;
-            after_is = omega (arith, s.2, a.2);
           }
 
 -- the row that a tower joined

@@ -5,6 +5,7 @@ use Rattle.slab.specs.Slab.{get}
 use Rattle.score_list.specs.declared.towers.Link.{Link}
 use Rattle.score_list.specs.declared.towers.Tower.{Tower}
 use Rattle.score_list.specs.declared.towers.Towers.{Towers}
+use Rattle.score_list.specs.declared.towers.Place.{Place}
 use Rattle.score_list.specs.Rows.{IsRow, Reaches, Stands, Lacks, IsDistinct, AllTall, Hung, Unhung}
 
 -- an element: its score, and the block of its member
@@ -88,6 +89,15 @@ StandsAt t level rank owner after =
 abbrev pub Arrives : Towers → ℕ → ℕ → ℕ → ℕ → Type 0
 Arrives t level rank owner after =
     (left : ℕ) × Reaches (tall t level) (take rank (order t)) 0 0 owner left × (after + left ≡ rank)
+
+abbrev pub no_place : Place
+no_place = record { owner = 0; rank = 0 }
+
+-- for each level its last owner in front of the rank
+abbrev pub IsPath : Towers → ℕ → List Place → Type 0
+IsPath t rank path =
+    (level : ℕ) → level < 16
+    → Arrives t level rank (slice_index_or path level no_place).owner (slice_index_or path level no_place).rank
 
 -- what an edit of links leaves
 pub record Keeps (old new : Towers) : Type 0 where

@@ -7,7 +7,7 @@ use Rattle.std.specs.Cmp.Lexicographic.{slice_cmp}
 use Rattle.blocks.specs.declared.BlockRef.{BlockRef}
 use Rattle.blocks.specs.Blocks.{Blocks, bytes_at}
 use Rattle.score_list.specs.declared.towers.Towers.{Towers}
-use Rattle.score_list.specs.Linked.{Element, no_element, without_at, items, IsAt}
+use Rattle.score_list.specs.Linked.{Element, no_element, with_at, without_at, items, IsAt}
 
 -- a score, and the bytes of a member
 abbrev pub Key : Type 0
@@ -50,6 +50,20 @@ abbrev pub Removes : Blocks → Key → List Element → Bool → List Element �
 Removes blocks key old removed new =
     MatchBool removed
     (HasAt blocks key old (place_of blocks key old) × (new ≡ without_at old (place_of blocks key old)))
+    (Misses blocks key old × (new ≡ old))
+
+-- the list where the element with the key has another score, and its place among the others
+abbrev pub rescored : Blocks → Key → ℤ → List Element → List Element
+rescored blocks key score xs =
+    let rank = place_of blocks key xs in
+    let rest = without_at xs rank in
+    with_at rest (place_of blocks (score, key.1) rest) (score, (slice_index_or xs rank no_element).1)
+
+-- the element with the key has another score, or there was none
+abbrev pub Rescores : Blocks → Key → ℤ → List Element → Bool → List Element → Type 0
+Rescores blocks key score old there new =
+    MatchBool there
+    (HasAt blocks key old (place_of blocks key old) × (new ≡ rescored blocks key score old))
     (Misses blocks key old × (new ≡ old))
 
 -- the second store holds the bytes of the member at the rank under the new reference, and those of the other members as

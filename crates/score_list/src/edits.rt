@@ -1,9 +1,11 @@
 //! Elements join and leave the towers at a rank.
 
-ghost use Rattle.std.specs.Prelude.{◌≡◌, ◌≢◌, ℕ, suc, ◌+◌, ◌<◌, ◌≤◌, ◌^◌, length, get_or, true, List, [], Some, None, IfOk, OnOk, OnErr, slice_set};
-ghost use Rattle.score_list.specs.Linked.{Element, element_at, order, items, IsLinked, Adds, with_at, without_at, renamed_at};
+ghost use Rattle.std.specs.Prelude.{◌≡◌, ◌≢◌, ℕ, suc, ◌+◌, ◌<◌, ◌^◌, length, get_or, true, List, [], Some, None, IfOk, OnOk, OnErr, count_by, slice_set, slice_index_or};
+ghost use Rattle.score_list.specs.Linked.{Element, no_element, element_at, order, items, IsLinked, IsPath, Adds, with_at, without_at, renamed_at};
+ghost use Rattle.score_list.specs.Sorted.{IsParted, EachIs};
 
-use crate::towers::{Link, Tower, Towers};
+use crate::search::Probe;
+use crate::towers::{LEVELS, Link, Place, START, Tower, Towers};
 use blocks::BlockRef;
 use std::alloc::AllocError;
 
@@ -31,19 +33,20 @@ impl Towers {
         Ok(key)
     }
 
-    /// Puts an element at a rank. `AllocError` leaves the elements.
-    pub(crate) fn insert_at(
+    /// Puts an element where a probe stands. `AllocError` leaves the elements.
+    pub(crate) fn insert<P: Probe>(
         &mut self,
-        rank: usize,
+        probe: &P,
         score: i64,
         member: BlockRef,
         height: usize,
     ) -> Result<(), AllocError>
         requires linked { IsLinked self.old }
-        requires rank { rank ≤ length (order self.old) }
+        requires parted { IsParted (P.above probe.now) (items self.old) }
+        requires compares { EachIs (P.compares probe.now) (items self.old) }
         requires height { 0 < height }
         ensures linked { IsLinked self.new }
-        ensures ok { OnOk result (items self.new ≡ with_at (items self.old) rank (score, member)) }
+        ensures ok { OnOk result (items self.new ≡ with_at (items self.old) (count_by (P.above probe.now) (items self.old)) (score, member)) }
         ensures err { OnErr result (items self.new ≡ items self.old) }
     {
         if self.len >= MOST {
@@ -52,25 +55,74 @@ impl Towers {
         match self.add(score, member, height) {
             Err(error) => Err(error),
             Ok(key) => {
-                self.thread(key, rank);
+                let mut path = [START; LEVELS];
+                let (rank, _) = self.find(probe, &mut path);
+                self.thread(key, rank, &path);
                 self.len += 1;
                 Ok(())
             }
         }
     }
 
-    /// Takes the element at a rank out.
-    pub(crate) fn remove_at(&mut self, rank: usize, key: usize)
+    /// Takes the element at a rank out, to which a path leads.
+    pub(crate) fn remove_at(&mut self, rank: usize, key: usize, path: &[Place; LEVELS])
         requires linked { IsLinked self.old }
+        requires path { IsPath self.old rank path.now }
         requires rank { rank < length (order self.old) }
         requires key { get_or (order self.old) rank 0 ≡ key }
         requires fits { key + 1 < 2 ^ 64 }
         ensures linked { IsLinked self.new }
         ensures items { items self.new ≡ without_at (items self.old) rank }
     {
-        self.unthread(key, rank);
+        self.unthread(key, rank, path);
         self.len -= 1;
         self.slab.remove(key);
+    }
+
+    /// The tower at a rank, to which a path leads, leaves it, and stands beside the others with another score.
+    fn take_off(&mut self, rank: usize, key: usize, path: &[Place; LEVELS], score: i64)
+        requires linked { IsLinked self.old }
+        requires path { IsPath self.old rank path.now }
+        requires rank { rank < length (order self.old) }
+        requires key { get_or (order self.old) rank 0 ≡ key }
+        requires fits { key + 1 < 2 ^ 64 }
+        ensures linked { IsLinked self.new }
+        ensures items { items self.new ≡ without_at (items self.old) rank }
+        ensures beside { Adds self.new self.new key (score, (slice_index_or (items self.old) rank no_element).1) }
+        ensures shorter { self.new.len < 2 ^ 62 }
+    {
+        self.unthread(key, rank, path);
+        self.len -= 1;
+        let Some(tower) = self.slab.get_mut(key) else {
+            unreachable!()
+        };
+        tower.score = score;
+    }
+
+    /// Gives the element at a rank, to which a path leads, another score, and the place where a probe stands among the others.
+    pub(crate) fn move_to<P: Probe>(
+        &mut self,
+        rank: usize,
+        key: usize,
+        path: &[Place; LEVELS],
+        probe: &P,
+        score: i64,
+    )
+        requires linked { IsLinked self.old }
+        requires path { IsPath self.old rank path.now }
+        requires rank { rank < length (order self.old) }
+        requires key { get_or (order self.old) rank 0 ≡ key }
+        requires fits { key + 1 < 2 ^ 64 }
+        requires parted { IsParted (P.above probe.now) (without_at (items self.old) rank) }
+        requires compares { EachIs (P.compares probe.now) (without_at (items self.old) rank) }
+        ensures linked { IsLinked self.new }
+        ensures items { items self.new ≡ with_at (without_at (items self.old) rank) (count_by (P.above probe.now) (without_at (items self.old) rank)) (score, (slice_index_or (items self.old) rank no_element).1) }
+    {
+        self.take_off(rank, key, path, score);
+        let mut way = [START; LEVELS];
+        let (to, _) = self.find(probe, &mut way);
+        self.thread(key, to, &way);
+        self.len += 1;
     }
 
     /// Names the member of the element at a rank by another block.

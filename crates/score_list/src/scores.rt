@@ -3,13 +3,13 @@
 ghost use Rattle.std.specs.Prelude.{◌≡◌, ◌≢◌, ℕ, suc, ◌+◌, ◌<◌, ◌≤◌, length, List, [], Some, None, IfSome, IfNone, MatchOption, OnOk, OnErr, int_lt, count_by, slice_get, slice_set, slice_index_or, IsSome};
 ghost use Rattle.blocks.specs.Blocks.{Blocks, bytes_at};
 ghost use Rattle.score_list.specs.Linked.{Element, no_element, with_at, without_at, renamed_at};
-ghost use Rattle.score_list.specs.Sorted.{IsSorted, Misses, place_of, HasAt, Removes, Carries, key_of};
+ghost use Rattle.score_list.specs.Sorted.{IsSorted, Misses, place_of, HasAt, Removes, Rescores, Carries, key_of};
 ghost use Rattle.score_list.specs.Cursor.{IsCursor};
 
 use crate::Memory;
 use crate::cursor::Cursor;
 use crate::probes::{Least, Pair};
-use crate::towers::{LEVELS, Towers};
+use crate::towers::{LEVELS, START, Towers};
 use blocks::{BlockRef, BlockStore};
 use rand_core::Rng;
 use rand_pcg::Pcg32;
@@ -86,9 +86,8 @@ impl Scores {
             score,
             member: bytes,
         };
-        let (rank, _) = self.towers.find(&probe);
         let high = height(&mut self.dice);
-        self.towers.insert_at(rank, score, member, high)
+        self.towers.insert(&probe, score, member, high)
     }
 
     /// Takes a pair out, and answers whether it was there.
@@ -97,10 +96,33 @@ impl Scores {
         ensures removes { Removes (B.blocks store.now) (score, member.now) self.old result self.new }
         ensures sorted { IsSorted (B.blocks store.now) self.new }
     {
-        match self.towers.locate(store, score, member) {
+        let mut path = [START; LEVELS];
+        match self.towers.locate(store, score, member, &mut path) {
             None => false,
             Some((rank, key)) => {
-                self.towers.remove_at(rank, key);
+                self.towers.remove_at(rank, key, &path);
+                true
+            }
+        }
+    }
+
+    /// Gives a pair that is there another score, and its place among the others then, and answers whether it was there. It takes no memory.
+    pub fn rescore<B: BlockStore>(&mut self, store: &B, old: i64, new: i64, member: &[u8]) -> bool
+        requires sorted { IsSorted (B.blocks store.now) self.old }
+        requires fresh { Misses (B.blocks store.now) (new, member.now) self.old }
+        ensures rescores { Rescores (B.blocks store.now) (old, member.now) new self.old result self.new }
+        ensures sorted { IsSorted (B.blocks store.now) self.new }
+    {
+        let mut path = [START; LEVELS];
+        match self.towers.locate(store, old, member, &mut path) {
+            None => false,
+            Some((rank, key)) => {
+                let probe = Pair {
+                    store,
+                    score: new,
+                    member,
+                };
+                self.towers.move_to(rank, key, &path, &probe, new);
                 true
             }
         }
@@ -112,7 +134,10 @@ impl Scores {
         ensures found { IfSome result (λ rank. (rank ≡ place_of (B.blocks store.now) (score, member.now) self.now) × HasAt (B.blocks store.now) (score, member.now) self.now rank) }
         ensures none { IfNone result (Misses (B.blocks store.now) (score, member.now) self.now) }
     {
-        match self.towers.locate(store, score, member) {
+        match self
+            .towers
+            .locate(store, score, member, &mut [START; LEVELS])
+        {
             None => None,
             Some((rank, _)) => Some(rank),
         }
@@ -148,7 +173,7 @@ impl Scores {
     pub fn first_in_range(&self, least: i64) -> usize
         ensures { result ≡ count_by (λ e. int_lt e.0 least) self.now }
     {
-        self.towers.find(&Least(least)).0
+        self.towers.find(&Least(least), &mut [START; LEVELS]).0
     }
 
     /// Names the member at a rank by another block, which has the same bytes. The list is sorted over any store that holds

@@ -1,7 +1,7 @@
 //! Elements by rank, and the rank of the first element that a probe doesn't stand above.
 
 ghost use Rattle.std.specs.Prelude.{◌≡◌, ◌≢◌, ℕ, suc, ◌+◌, ◌<◌, ◌≤◌, ◌^◌, length, get_or, true, Bool, List, [], Option, Some, None, IfSome, IfNone, count_by};
-ghost use Rattle.score_list.specs.Linked.{Element, element_at, order, items, IsLinked, StandsAt, Arrives, IsAt, IsBefore};
+ghost use Rattle.score_list.specs.Linked.{Element, element_at, order, items, IsLinked, StandsAt, Arrives, IsAt, IsBefore, IsPath};
 ghost use Rattle.score_list.specs.Sorted.{IsParted, EachIs, IsSorted, Misses, Located};
 
 use crate::probes::Pair;
@@ -59,20 +59,27 @@ impl Towers {
         }
     }
 
-    /// The rank of the first element that the probe doesn't stand above, and its tower where there is one.
-    pub(crate) fn find<P: Probe>(&self, probe: &P) -> (usize, Option<usize>)
+    /// The rank of the first element that the probe doesn't stand above, its tower where there is one. The path is the way there then.
+    pub(crate) fn find<P: Probe>(
+        &self,
+        probe: &P,
+        path: &mut [Place; LEVELS],
+    ) -> (usize, Option<usize>)
         requires linked { IsLinked self.now }
         requires parted { IsParted (P.above probe.now) (items self.now) }
         requires compares { EachIs (P.compares probe.now) (items self.now) }
         ensures rank { result.0 ≡ count_by (P.above probe.now) (items self.now) }
         ensures tower { IsAt self.now result.0 result.1 }
         ensures fits { IfSome result.1 (λ key. key + 1 < 2 ^ 64) }
+        ensures path { IsPath self.now result.0 path.new }
+        ensures long { length path.new ≡ 16 }
     {
         let mut place = START;
         let mut level = LEVELS;
         while level > 0 {
             level -= 1;
             place = self.pass(level, place, probe);
+            path[level] = place;
         }
         let next = self.link(0, place.owner).next;
         if next == 0 {
@@ -98,16 +105,19 @@ impl Towers {
         self.link(0, place.owner).next - 1
     }
 
-    /// The rank and the tower of a pair. `None` comes exactly where there is none.
+    /// The rank and the tower of a pair, to which the path leads then. `None` comes exactly where there is none.
     pub(crate) fn locate<B: BlockStore>(
         &self,
         store: &B,
         score: i64,
         member: &[u8],
+        path: &mut [Place; LEVELS],
     ) -> Option<(usize, usize)>
         requires linked { IsLinked self.now }
         requires sorted { IsSorted (B.blocks store.now) (items self.now) }
         ensures found { IfSome result (λ at. Located (B.blocks store.now) (score, member.now) self.now at.0 at.1) }
+        ensures path { IfSome result (λ at. IsPath self.now at.0 path.new) }
+        ensures long { length path.new ≡ 16 }
         ensures none { IfNone result (Misses (B.blocks store.now) (score, member.now) (items self.now)) }
     {
         let probe = Pair {
@@ -115,7 +125,7 @@ impl Towers {
             score,
             member,
         };
-        let (rank, found) = self.find(&probe);
+        let (rank, found) = self.find(&probe, path);
         match found {
             None => None,
             Some(key) => {

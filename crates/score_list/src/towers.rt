@@ -2,7 +2,7 @@
 
 ghost use Rattle.std.specs.Prelude.{◌≡◌, ◌≢◌, ℕ, suc, ◌+◌, ◌<◌, ◌≤◌, ◌^◌, length, get_or, true, List, [], Some, None};
 ghost use Rattle.score_list.specs.Rows.{Lacks};
-ghost use Rattle.score_list.specs.Linked.{Element, link_at, links_at, span_at, height_at, tall, order, items, IsLevel, IsLinked, LinkedAs, StandsAt, Arrives, SetsLink, Hangs, Unhangs, Threads, Unthreads};
+ghost use Rattle.score_list.specs.Linked.{Element, link_at, links_at, span_at, height_at, tall, order, items, IsLevel, IsLinked, LinkedAs, StandsAt, Arrives, SetsLink, Hangs, Unhangs, Threads, Unthreads, IsPath};
 
 use blocks::BlockRef;
 use slab::Slab;
@@ -175,38 +175,38 @@ impl Towers {
         }
     }
 
-    /// A tower's links join every level at a rank.
-    pub(crate) fn thread(&mut self, key: usize, rank: usize)
+    /// A tower's links join every level at a rank, where a path leads.
+    pub(crate) fn thread(&mut self, key: usize, rank: usize, path: &[Place; LEVELS])
         requires linked { IsLinked self.old }
+        requires path { IsPath self.old rank path.now }
         requires rank { rank ≤ length (order self.old) }
         requires fresh { Lacks (suc key) (order self.old) }
         requires room { self.old.len < 2 ^ 62 }
         requires fits { key + 1 < 2 ^ 64 }
         ensures { Threads self.old self.new key rank }
     {
-        let mut place = START;
         let mut level = LEVELS;
         while level > 0 {
             level -= 1;
-            place = self.advance(level, place, rank);
+            let place = path[level];
             self.hang(level, place.owner, rank - place.rank, key);
         }
     }
 
-    /// A tower's links leave every level.
-    pub(crate) fn unthread(&mut self, key: usize, rank: usize)
+    /// A tower's links leave every level. A path leads to its rank.
+    pub(crate) fn unthread(&mut self, key: usize, rank: usize, path: &[Place; LEVELS])
         requires linked { IsLinked self.old }
+        requires path { IsPath self.old rank path.now }
         requires rank { rank < length (order self.old) }
         requires key { get_or (order self.old) rank 0 ≡ key }
         requires room { self.old.len < 2 ^ 63 }
         requires fits { key + 1 < 2 ^ 64 }
         ensures { Unthreads self.old self.new key rank }
     {
-        let mut place = START;
         let mut level = LEVELS;
         while level > 0 {
             level -= 1;
-            place = self.advance(level, place, rank);
+            let place = path[level];
             self.unhang(level, place.owner, rank - place.rank, key);
         }
     }
