@@ -163,7 +163,7 @@ module _ (m : Blocks) (xs : List Element) (s : IsSorted m xs) (y : Element) (h :
     still x g ne = without_among xs n x (λ same. ne (ap Some (sym (same ∙ it_is)))) g
 
     -- the list without the element of this key has all others, and nothing in place of that one
-    follows_without : Follows xs (without_at xs n) (Some y) None
+    pub follows_without : Follows xs (without_at xs n) (Some y) None
     follows_without = record {
       onto = λ x g. inr (among_without xs n x g, not_it x g);
       with_new = λ x e. absurd (none_some x e);
@@ -189,15 +189,15 @@ module _ (m : Blocks) (xs : List Element) (s : IsSorted m xs) (y : Element) (h :
   follows_removed true ys r = rw r.1 (follows_without (place_of m (key_of m y) xs) r.0.0 r.0.1)
   follows_removed false ys r = absurd (missed m (key_of m y) xs y r.0 h refl)
 
--- one after the other
-pub follows_both : (xs zs ys : List Element) (p q : Element) → p ≢ q → Follows xs zs None (Some q) → Follows zs ys (Some p) None → Follows xs ys (Some p) (Some q)
-follows_both xs zs ys p q apart f g = record {
+-- one element is gone, and another one joins
+pub follows_moved : (xs zs ys : List Element) (p q : Element) → Follows xs zs (Some p) None → Follows zs ys None (Some q) → Follows xs ys (Some p) (Some q)
+follows_moved xs zs ys p q f g = record {
   onto = λ x h. elim (g.onto x h) [
-    | inl e ↦ absurd (none_some x e)
-    | inr r ↦ elim (f.onto x r.0) [ inl e ↦ inl e | inr o ↦ inr (o.0, r.1) ]
+    | inl e ↦ inl e
+    | inr r ↦ elim (f.onto x r.0) [ inl e ↦ absurd (none_some x e) | inr o ↦ inr o ]
   ];
-  with_new = λ x e. g.with_old x (f.with_new x e) (λ same. apart (some_same p x same ∙ sym (some_same q x e)));
-  with_old = λ x h ne. g.with_old x (f.with_old x h (none_some x)) ne;
+  with_new = λ x e. g.with_new x e;
+  with_old = λ x h ne. g.with_old x (f.with_old x h ne) (none_some x);
 }
 
 -- ---- an insert that is undone

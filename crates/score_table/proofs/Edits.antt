@@ -1,5 +1,5 @@
 -- A table of scores over blocks that change, and what becomes of it where a member is put in, gets another score, or is taken out.
-use Rattle.std.proofs.Common.{◌≡◌, ◌≢◌, inl, inr, ℕ, ◌+◌, ℤ, List, [], ◌∷◌, map, Option, Some, None, IsSome, Bool, false, unwrap_or, flat_map, refl, sym, ap, ◌∙◌, subst, arith}
+use Rattle.std.proofs.Common.{◌≡◌, ◌≢◌, inl, inr, ℕ, ◌+◌, ℤ, List, [], ◌∷◌, map, get_or, Option, Some, None, IsSome, Bool, true, false, unwrap_or, flat_map, refl, sym, ap, ◌∙◌, subst, arith}
 use Rattle.std.specs.FinMap.{get, insert, remove}
 use Rattle.std.proofs.lemmas.Bool.{cond-true}
 use Rattle.blocks.specs.declared.BlockRef.{BlockRef}
@@ -15,13 +15,13 @@ use Rattle.rehash_dict.specs.MapOf.{content, value_of, key_refs, own_of}
 use Rattle.rehash_dict.proofs.Keys.{Keyed-frame, live_bytes}
 use Rattle.rehash_dict.proofs.MapOf.{cases_key, map_of-stands, map_of-frame, map_of-adds, refs_changed, key_refs-owned}
 use Rattle.rehash_dict.proofs.Growing.{Grown-same}
-use Rattle.score_list.specs.Linked.{Element as Scored, with_at}
-use Rattle.score_list.specs.Sorted.{Key, key_of, IsSorted, Misses, Removes as ListRemoves}
+use Rattle.score_list.specs.Linked.{Element as Scored, no_element, with_at, without_at}
+use Rattle.score_list.specs.Sorted.{Key, key_of, place_of, IsSorted, Misses, Rescores, Removes as ListRemoves}
 use Rattle.score_list.proofs.Renaming.{Alike, sorted_alike}
 use Rattle.score_table.specs.declared.table.ScoreTable.{ScoreTable}
 use Rattle.score_table.specs.Scored.{IsScoreTable, IsChanged, IsJoined, scores, ranked, refs, tables, seed_of}
 use Rattle.score_table.proofs.Bytes.{insert_same}
-use Rattle.score_table.proofs.Among.{Among, among_contained, contained_among, misses_all, Follows, follows_with, follows_removed, follows_both}
+use Rattle.score_table.proofs.Among.{Among, among_contained, contained_among, misses_all, missed, it_is, Follows, follows_with, follows_without, follows_removed, follows_moved}
 use Rattle.score_table.proofs.Agreeing.{entry_of, agree_follows}
 
 -- the blocks that a value owns: none
@@ -176,10 +176,6 @@ value_is t at v e found h = some_same e.value v (ap value_of (sym found) ∙ h)
 pub found_score : (m : Blocks) (s : ScoreTable) → IsScoreTable m s → (at : ℕ) (q : List ℕ) (st : Stands m s.table at q) (v : ℤ) → st.element.value ≡ v → get (scores m s) q ≡ Some v
 found_score m s is at q st v value = map_of-stands m (λ (v : ℤ). v) s.table at st.element q is.keyed st.found st.bytes ∙ ap Some value
 
--- the bytes of the block of a member that stands
-pub key_found : (m : Blocks) (t : Table ℤ) (at : ℕ) (q : List ℕ) → Stands m t at q → (key : BlockRef) (v : ℤ) → Holds t at key v → bytes_at m key ≡ q
-key_found m t at q st key v h = ap (λ (e : Element ℤ). bytes_at m e.key) (some_element (item t at) (record { key = key; hash = h.hash; value = v }) st.element h.found st.found) ∙ ap (λ (o : Option (List ℕ)). unwrap_or o []) st.bytes
-
 -- a table that is left as it is has its scores with one put in that the member has already
 pub same_changed : (m : Blocks) (s : ScoreTable) (q : List ℕ) (v : ℤ) → IsScoreTable m s → get (scores m s) q ≡ Some v → IsChanged m m s s (insert (scores m s) q v)
 same_changed m s q v is has = record {
@@ -190,7 +186,7 @@ same_changed m s q v is has = record {
   seed = refl;
 }
 
-module _ (m : Blocks) (old : ScoreTable) (table : Table ℤ) (zs ys : List Scored) (at place : ℕ) (was score : ℤ) (q : List ℕ) (is : IsScoreTable m old) (st : Stands m old.table at q) (swaps : Swaps old.table table at was score) where
+module _ (m : Blocks) (old : ScoreTable) (table : Table ℤ) (ys : List Scored) (at : ℕ) (was score : ℤ) (q : List ℕ) (is : IsScoreTable m old) (st : Stands m old.table at q) (swaps : Swaps old.table table at was score) where
   -- the element that stands for the member is the one whose value changes
   pub its : st.element ≡ record { key = swaps.key; hash = swaps.hash; value = was }
   its = some_element (item old.table at) st.element (record { key = swaps.key; hash = swaps.hash; value = was }) st.found swaps.found
@@ -210,53 +206,49 @@ module _ (m : Blocks) (old : ScoreTable) (table : Table ℤ) (zs ys : List Score
       let here : times r (own_of no_block (item old.table at)) ≡ times r (swaps.key ∷ []) = ap (λ o. times r (own_of no_block o)) swaps.found in
       omega (arith, both, here)
 
+  -- its old score and the bytes of the member are the key of its element
+  old_key : ◌≡◌ {A = Key} (was, q) (key_of m (was, swaps.key))
+  old_key = ap (λ (o : Option (List ℕ)). let k : Key = (was, unwrap_or o []) in k) (sym bytes_are)
+
+  -- the list has the new score of the member in place of the old
+  moved_on : (moved : Bool) → Rescores m (was, q) score old.list moved ys → Follows old.list ys (Some (was, swaps.key)) (Some (score, swaps.key))
+  moved_on false moves = absurd (missed m (was, q) old.list (was, swaps.key) moves.0 there (sym old_key))
+  moved_on true moves =
+      let place = place_of m (was, q) old.list in
+      let rest = without_at old.list place in
+      let to = place_of m (score, q) rest in
+      let key_is = moves.0.1 ∙ old_key in
+      let same : get_or old.list place no_element ≡ (was, swaps.key) = it_is m old.list is.sorted (was, swaps.key) there place moves.0.0 key_is in
+      let list_is : ys ≡ with_at rest to (score, swaps.key) = moves.1 ∙ ap (λ (e : Scored). with_at rest to (score, e.1)) same in
+      subst (λ l. Follows old.list l (Some (was, swaps.key)) (Some (score, swaps.key))) (sym list_is)
+      (follows_moved old.list rest (with_at rest to (score, swaps.key)) (was, swaps.key) (score, swaps.key)
+      (follows_without m old.list is.sorted (was, swaps.key) there place moves.0.0 key_is) (follows_with rest to (score, swaps.key)))
+
   -- where the dictionary and the list have the new score in place of the old, the table has changed to it
-  pub rescored : score ≢ was → zs ≡ with_at old.list place (score, swaps.key) → IsSorted m zs → (removed : Bool) → ListRemoves m (was, q) zs removed ys → IsSorted m ys
+  pub rescored : (moved : Bool) → Rescores m (was, q) score old.list moved ys → IsSorted m ys
       → Keyed m table → key_tables m table ≡ key_tables m old.table → content m table ≡ insert (content m old.table) (key_bytes m (item old.table at)) score
       → IsChanged m m old (record { table = table; list = ys }) (insert (scores m old) q score)
-  rescored apart zs_is zs_sorted removed removes sorted keyed tables_are map_is = record {
+  rescored moved moves sorted keyed tables_are map_is = record {
     sound = record {
       keyed = keyed;
       sorted = sorted;
       agree = agree_follows m old.table table old.list ys at (Some (record { key = swaps.key; hash = swaps.hash; value = score })) is.keyed swaps.updates is.agree
-          (subst (λ o. Follows old.list ys o (Some (score, swaps.key))) (sym (ap entry_of swaps.found))
-          (follows_both old.list zs ys (was, swaps.key) (score, swaps.key) (λ same. apart (sym (ap (λ (x : Scored). x.0) same))) first second));
+          (subst (λ o. Follows old.list ys o (Some (score, swaps.key))) (sym (ap entry_of swaps.found)) (moved_on moved moves));
     };
     scores_are = map_is ∙ ap (λ b. insert (scores m old) b score) (ap (key_bytes m) swaps.found ∙ ap (λ (o : Option (List ℕ)). unwrap_or o []) bytes_are);
     changes = Changes-counted m m (key_refs old.table) (key_refs table) (key_refs-owned m old.table is.keyed) (Counts-same m (key_refs old.table) (key_refs table) same_refs);
     grown = Grown-same (hash_of old.table.seed) _ _ tables_are;
     seed = swaps.seed;
   }
-    where
-      first : Follows old.list zs None (Some (score, swaps.key))
-      first = subst (λ l. Follows old.list l None (Some (score, swaps.key))) (sym zs_is) (follows_with old.list place (score, swaps.key))
 
-      key_is : ◌≡◌ {A = Key} (was, q) (key_of m (was, swaps.key))
-      key_is = ap (λ (o : Option (List ℕ)). let k : Key = (was, unwrap_or o []) in k) (sym bytes_are)
-
-      in_zs : Among zs (was, swaps.key)
-      in_zs = first.with_old (was, swaps.key) there (λ h. none_some h)
-        where
-          none_some : ◌≢◌ {A = Option Scored} None (Some (was, swaps.key))
-          none_some h = cc
-
-      second : Follows zs ys (Some (was, swaps.key)) None
-      second = follows_removed m zs zs_sorted (was, swaps.key) in_zs removed ys (subst (λ k. ListRemoves m k zs removed ys) key_is removes)
-
-  -- the same, where block and old score were read off the dictionary
-  pub rescored_as : (block : BlockRef) (v shown : ℤ) → Holds old.table at block shown → value_of (item old.table at) ≡ Some v → score ≢ v → zs ≡ with_at old.list place (score, block) → IsSorted m zs → (removed : Bool) → ListRemoves m (v, q) zs removed ys → IsSorted m ys
+  -- the same, where the old score was read off the dictionary
+  pub rescored_as : (v : ℤ) → value_of (item old.table at) ≡ Some v → (moved : Bool) → Rescores m (v, q) score old.list moved ys → IsSorted m ys
       → Keyed m table → key_tables m table ≡ key_tables m old.table → content m table ≡ insert (content m old.table) (key_bytes m (item old.table at)) score
       → IsChanged m m old (record { table = table; list = ys }) (insert (scores m old) q score)
-  rescored_as block v shown holds value apart zs_is zs_sorted removed removes = rescored (λ same. apart (same ∙ sym same_value)) (zs_is ∙ ap (λ (r : BlockRef). with_at old.list place (score, r)) same_key) zs_sorted removed (subst (λ w. ListRemoves m (w, q) zs removed ys) same_value removes)
+  rescored_as v value moved moves = rescored moved (subst (λ w. Rescores m (w, q) score old.list moved ys) same_value moves)
     where
-      was_element : Element ℤ
-      was_element = record { key = swaps.key; hash = swaps.hash; value = was }
-
-      same_key : block ≡ swaps.key
-      same_key = ap (λ (e : Element ℤ). e.key) (some_element (item old.table at) (record { key = block; hash = holds.hash; value = shown }) was_element holds.found swaps.found)
-
       same_value : v ≡ was
-      same_value = sym (value_is old.table at v was_element swaps.found value)
+      same_value = sym (value_is old.table at v (record { key = swaps.key; hash = swaps.hash; value = was }) swaps.found value)
 
 -- ---- a member is taken out, and its block given back
 

@@ -61,27 +61,18 @@ impl ScoreTable {
         }
     }
 
-    // Gives the member of an item number another score. `Memory` leaves all.
-    fn rescore<B: BlockStore>(
-        &mut self,
-        store: &B,
-        item: usize,
-        score: i64,
-        member: &[u8],
-    ) -> Result<(), Memory>
+    // Gives the member of an item number another score. It takes no memory.
+    fn rescore<B: BlockStore>(&mut self, store: &B, item: usize, score: i64, member: &[u8])
         requires sound { IsScoreTable (B.blocks store.now) self.old }
         requires stands { Stands (B.blocks store.now) self.old.table item member.now }
-        ensures changed { OnOk result (IsChanged (B.blocks store.now) (B.blocks store.now) self.old self.new (insert (scores (B.blocks store.now) self.old) member.now score)) }
-        ensures err { OnErr result (self.new ≡ self.old) }
+        ensures changed { IsChanged (B.blocks store.now) (B.blocks store.now) self.old self.new (insert (scores (B.blocks store.now) self.old) member.now score) }
     {
         let old = self.score_at(item);
         if old == score {
-            return Ok(());
+            return;
         }
-        self.list.insert(store, score, self.table.entry(item).0)?;
-        let _there = self.list.remove(store, old, member);
+        let _there = self.list.rescore(store, old, score, member);
         let _old = self.table.swap_value(item, score);
-        Ok(())
     }
 
     /// Puts in a member that isn't there, with a score. `Memory` leaves all members and all blocks.
@@ -121,7 +112,7 @@ impl ScoreTable {
         let hash = self.table.hash(member);
         match self.table.find_hashed(store, hash, member) {
             Some(at) => {
-                self.rescore(store, at, score, member)?;
+                self.rescore(store, at, score, member);
                 Ok(false)
             }
             None => {
