@@ -39,10 +39,10 @@ among_passing : (test : List ℕ → Bool) (q : List ℕ) (xs : List (List ℕ))
 among_passing test q [] = refl
 among_passing test q (x ∷ xs) = passing_one test q x xs (among_passing test q xs)
 
-has_passing : (test : List ℕ → Bool) (xs : List (List ℕ)) (q : List ℕ) → has (set_of (filter test xs)) q ≡ (has (set_of xs) q && test q)
+pub has_passing : (test : List ℕ → Bool) (xs : List (List ℕ)) (q : List ℕ) → has (set_of (filter test xs)) q ≡ (has (set_of xs) q && test q)
 has_passing test xs q = has_among (filter test xs) q ∙ among_passing test q xs ∙ ap (λ b. b && test q) (sym (has_among xs q))
 
-once_passing : (test : List ℕ → Bool) (xs : List (List ℕ)) → IsOnce xs → IsOnce (filter test xs)
+pub once_passing : (test : List ℕ → Bool) (xs : List (List ℕ)) → IsOnce xs → IsOnce (filter test xs)
 once_passing test [] once = once
 once_passing test (x ∷ xs) once =
     let parts = once_parts x xs once in

@@ -2,7 +2,6 @@
 use Rattle.std.proofs.Common.{◌≡◌, ◌<◌, ℕ, zero, suc, Bool, true, false, not, List, [], ◌∷◌, length, get_or, Option, None, Some, is_some, Result, Ok, Err, IfOk, pos, refl, sym, ap, subst, ◌∙◌, arith}
 use Rattle.std.specs.Prelude.{◌&&◌, ◌||◌}
 use Rattle.std.specs.FinMap.{empty, len}
-use Rattle.std.specs.declared.vec.Vec.{Vec}
 use Rattle.std.proofs.lemmas.Bool.{and_parts}
 use Rattle.blocks.specs.Blocks.{Blocks}
 use Rattle.set_object.specs.declared.members.Members as object
@@ -24,7 +23,7 @@ use Rattle.keyspace.specs.declared.value.Value.{Value}
 use Rattle.keyspace.specs.Databases.{Bases}
 use Rattle.keyspace.specs.Forms as forms
 use Rattle.cmd_sets.specs.Found.{FoundSet, FoundOther}
-use Rattle.cmd_sets.specs.Joined.{strings, sets_here, IsCounted}
+use Rattle.cmd_sets.specs.Joined.{sets_here, IsCounted}
 use Rattle.cmd_sets.proofs.Gathered.{or_false, and_not_false}
 
 -- ---- the sets at keys
@@ -76,11 +75,17 @@ pub found_at : (world : World) (m : Blocks) (key : List ℕ) (set : object.Membe
 found_at world m key set found = ap forms.set_of found.stands
 
 -- its names
-pub no_names : {Z : Type 0} (set : Members) (names : List (Vec ℕ Z)) → set ≡ empty → names ≡ [] → set_of (strings names) ≡ set
-no_names set names is none = ap (λ (ks : List (Vec ℕ _)). set_of (strings ks)) none ∙ set_nil ∙ sym is
+pub no_names : (set : Members) (names : List (List ℕ)) → set ≡ empty → names ≡ [] → set_of names ≡ set
+no_names set names is none = ap set_of none ∙ set_nil ∙ sym is
 
-pub all_names : {Z : Type 0} (world : World) (m : Blocks) (key : List ℕ) (set : object.Members) (names : List (Vec ℕ Z)) → FoundSet world m key set → strings names ≡ object_of.listed m set → set_of (strings names) ≡ set_at world key
+pub all_names : (world : World) (m : Blocks) (key : List ℕ) (set : object.Members) (names : List (List ℕ)) → FoundSet world m key set → names ≡ object_of.listed m set → set_of names ≡ set_at world key
 all_names world m key set names found is = ap set_of is ∙ (arranged m set found.sound).listed_are ∙ sym (found_at world m key set found)
+
+pub no_once : (names : List (List ℕ)) → names ≡ [] → IsOnce names
+no_once names none = subst IsOnce (sym none) once_nil
+
+pub has_none : (q : List ℕ) (names : List (List ℕ)) → names ≡ [] → has (set_of names) q ≡ false
+has_none q names none = ap (λ (l : List (List ℕ)). has (set_of l) q) none ∙ ap (λ (s : Members). has s q) set_nil ∙ has_empty q
 
 -- ---- one key more
 
@@ -105,7 +110,7 @@ each_has world [] i key q inside is all = absurd (omega (arith, inside))
 each_has world (k ∷ keys) zero key q inside is all = ap (λ x. has (set_at world x) q) is ∙ (and_parts (has (set_at world k) q) (in_all (sets_here world keys) q) all).0
 each_has world (k ∷ keys) (suc i) key q inside is all = each_has world keys i key q (omega (arith, inside)) is (and_parts (has (set_at world k) q) (in_all (sets_here world keys) q) all).1
 
-within : (a b : Bool) → (b ≡ true → a ≡ true) → (a && b) ≡ b
+pub within : (a b : Bool) → (b ≡ true → a ≡ true) → (a && b) ≡ b
 within true true so = refl
 within true false so = refl
 within false true so = let e : false ≡ true = so refl in cc
@@ -115,6 +120,10 @@ pub inter_is : (world : World) (keys : List (List ℕ)) (i : ℕ) (key : List �
 inter_is world [] i key names m inside is same h q = absurd (omega (arith, inside))
 inter_is world (k ∷ keys) i key names m inside is same h q =
     h q ∙ within (has names q) (in_all (sets_here world (k ∷ keys)) q) (λ all. ap (λ (s : Members). has s q) same ∙ each_has world (k ∷ keys) i key q inside is all)
+
+pub inter_of : (world : World) (keys : List (List ℕ)) (m : Members) → 0 < length keys → ((q : List ℕ) → has m q ≡ in_all (sets_here world keys) q) → IsJoin Inter (sets_here world keys) m
+inter_of world [] m some h = absurd (omega (arith, some))
+inter_of world (k ∷ keys) m some h = λ q. h q
 
 pub none_join : (how : SetJoin) (m : Members) → ((q : List ℕ) → has m q ≡ false) → IsJoin how [] m
 none_join how m h q = h q
@@ -172,19 +181,6 @@ pub stored_refused : {E : Type 0} (seed : ℕ) (old : World) (how : SetJoin) (to
 stored_refused seed old how to keys (Ok reply) other is = subst (λ (o : Option (List Members)). may_do_of old o (StoresJoin old to how) reply old) (sym (none_of (sets_at old keys) other)) (is, refl)
 stored_refused seed old how to keys (Err x) other is = tt
 
-pub no_once : {Z : Type 0} (names : List (Vec ℕ Z)) → names ≡ [] → IsOnce (strings names)
-no_once names none = subst (λ (ks : List (Vec ℕ _)). IsOnce (strings ks)) (sym none) once_nil
-
-pub names_once : {Z Y E : Type 0} (world : World) (m : Blocks) (key : List ℕ) (set : object.Members) (result : Result (Vec (Vec ℕ Z) Y) E) → FoundSet world m key set → IfOk result (λ names. strings names.items ≡ object_of.listed m set)
-    → IfOk result (λ names. IsOnce (strings names.items))
-names_once world m key set (Ok names) found is = subst IsOnce (sym is) (arranged m set found.sound).once
-names_once world m key set (Err x) found is = tt
-
-pub names_told : {Z Y E : Type 0} (world : World) (m : Blocks) (key : List ℕ) (set : object.Members) (result : Result (Vec (Vec ℕ Z) Y) E) → FoundSet world m key set → IfOk result (λ names. strings names.items ≡ object_of.listed m set)
-    → IfOk result (λ names. set_of (strings names.items) ≡ set_at world key)
-names_told world m key set (Ok names) found is = all_names world m key set names.items found is
-names_told world m key set (Err x) found is = tt
-
 -- ---- steps over keys
 
 pub added_key : (world : World) (list others : List (List ℕ)) (key : List ℕ) (old new set : Members) → list ≡ key ∷ others → set ≡ set_at world key → ((q : List ℕ) → has new q ≡ (has old q || has set q))
@@ -229,11 +225,11 @@ pub none_joined : (how : SetJoin) (world : World) (keys : List (List ℕ)) (m : 
 none_joined how world [] m none h = none_join how m h
 none_joined how world (k ∷ keys) m none h = absurd (omega (arith, none))
 
-pub diff_of : (world : World) (keys others : List (List ℕ)) (key : List ℕ) (names mid m : Members) → keys ≡ key ∷ others → names ≡ set_at world key → ((q : List ℕ) → has mid q ≡ has names q) → ((q : List ℕ) → has m q ≡ (has mid q && not (in_any (sets_here world others) q)))
+pub diff_of : (world : World) (keys others : List (List ℕ)) (key : List ℕ) (names m : Members) → keys ≡ key ∷ others → names ≡ set_at world key → ((q : List ℕ) → has m q ≡ (has names q && not (in_any (sets_here world others) q)))
     → IsJoin Diff (sets_here world keys) m
-diff_of world keys others key names mid m is same k h =
+diff_of world keys others key names m is same h =
     subst (λ (l : List (List ℕ)). IsJoin Diff (sets_here world l) m) (sym is)
-    (diff_is (set_at world key) (sets_here world others) m (λ q. h q ∙ ap (λ b. b && not (in_any (sets_here world others) q)) (k q ∙ ap (λ (s : Members). has s q) same)))
+    (diff_is (set_at world key) (sets_here world others) m (λ q. h q ∙ ap (λ (s : Members). has s q && not (in_any (sets_here world others) q)) same))
 
 -- a set that has just the members of a join is encoded as one
 pub stored_form : (world : World) (how : SetJoin) (keys : List (List ℕ)) (joined : Members) (old : Bases) (value : Value) → is_some (sets_at world keys) ≡ true → IsJoin how (sets_here world keys) joined → forms.IsNewSet (has joined) old value

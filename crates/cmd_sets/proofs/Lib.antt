@@ -7,6 +7,7 @@ pub mod Listed
 pub mod Paged
 pub mod Gathered
 pub mod Joined
+pub mod Sifted
 pub mod Put
 pub mod Counted
 pub mod Picking

@@ -93,7 +93,7 @@ least_all limits from form set [] least rises = subst (IsLeast (FitsMembers limi
 least_all limits from form set (x ∷ words) least rises = least_all limits rises.0 form (insert set x tt) words (least_one limits set x (has set x) from rises.0 refl least rises.1) rises.2
 
 -- members that are put into a set without a member
-filled_has : (list : List (List ℕ)) (set : Members) (q : List ℕ) → has (add_all set list) q ≡ cond (among q list) true (has set q)
+pub filled_has : (list : List (List ℕ)) (set : Members) (q : List ℕ) → has (add_all set list) q ≡ cond (among q list) true (has set q)
 filled_has [] set q = refl
 filled_has (x ∷ list) set q = filled_has list (insert set x tt) q ∙ ap (cond (among q list) true) (has_put set x q) ∙ swap (among q list) (tied q x) (has set q)
   where

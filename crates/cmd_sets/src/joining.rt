@@ -1,22 +1,25 @@
 //! Commands that join sets.
 
-ghost use Rattle.std.specs.Prelude.{◌≡◌, ◌&&◌, ◌||◌, ◌<◌, ◌++◌, ℕ, List, Some, map, not, length, is_some, IfOk, OnOk};
+ghost use Rattle.std.specs.Prelude.{◌≡◌, ◌&&◌, ◌||◌, ◌<◌, ℕ, List, not, length, is_some, IfOk, OnOk};
 ghost use Rattle.std.specs.List.{filter};
-ghost use Rattle.set_object.specs.Strings.{set_of};
-ghost use Rattle.plain_model.specs.SetSteps.{AreMembers, IsJoin, at_most, has, in_all, in_any, may_sets, sets_at};
+ghost use Rattle.set_object.specs.Members.{IsMembers, members};
+ghost use Rattle.set_object.specs.Strings.{set_of, IsOnce};
+ghost use Rattle.plain_model.specs.SetSteps.{IsJoin, at_most, has, in_all, in_any, may_sets, sets_at};
 ghost use Rattle.plain_model.specs.declared.set_command.SetCommand.TheVariants as sets;
 ghost use Rattle.plain_model.specs.declared.set_command.SetJoin.TheVariants as joins;
-ghost use Rattle.plain_world.specs.declared.reply.Part.TheVariants as replies;
 ghost use Rattle.keyspace.specs.Forms as forms;
 ghost use Rattle.keyspace.specs.Commands.{Ready, sight};
-ghost use Rattle.cmd_sets.specs.Joined.{strings, gathered, sets_here, IsCounted};
+ghost use Rattle.cmd_sets.specs.Joined.{sets_here, IsCounted};
 
-use crate::gathering::{Names, add_names, drop_names, names_at};
+use crate::gathering::{names_at, names_of};
+use crate::hashing::{add_members, never_packed};
 use crate::look::set_at;
-use blocks::BlockStore;
+use crate::random::names_reply;
+use crate::sifting::sift_at;
+use blocks::{BlockStore, PlainStore};
 use keyspace::{Keyspace, Look, count_reply};
-use plain_model::{Bytes, Ctx, Memory, Part, Parts, Refusal, Reply, SetJoin, Word};
-use std::alloc::Global;
+use plain_model::{Bytes, Ctx, Memory, Refusal, Reply, SetJoin, Word};
+use set_object::Members;
 
 /// Whether no key has a value of another type.
 pub fn are_sets<B: BlockStore>(keyspace: &Keyspace<B>, at: &Ctx, keys: &[Word<'_>]) -> bool
@@ -33,38 +36,62 @@ pub fn are_sets<B: BlockStore>(keyspace: &Keyspace<B>, at: &Ctx, keys: &[Word<'_
     true
 }
 
-// Adds the members of the sets at keys to others. Each is met once.
-fn add_each<B: BlockStore>(
+// Adds the members of the set at a key to a set over a store of its own.
+fn add_at<B: BlockStore, C: BlockStore>(
+    keyspace: &Keyspace<B>,
+    at: &Ctx,
+    key: &[u8],
+    own: &mut C,
+    all: &mut Members,
+) -> Result<(), Memory>
+    requires ready { Ready B.blocks keyspace.now at.now }
+    requires all { IsMembers (C.blocks own.old) all.old }
+    ensures sound { OnOk result (IsMembers (C.blocks own.new) all.new) }
+    ensures members { OnOk result ((name : List ℕ) → has (members (C.blocks own.new) all.new) name ≡ (has (members (C.blocks own.old) all.old) name || has (forms.set_at (sight B.blocks keyspace.now at.now) key.now) name)) }
+{
+    match set_at(keyspace, at, key) {
+        Look::Missing => Ok(()),
+        Look::Other => Ok(()),
+        Look::There(set) => add_members(keyspace.alloc(), &keyspace.store, set, own, all),
+    }
+}
+
+// The same of the sets at keys.
+fn add_each<B: BlockStore, C: BlockStore>(
     keyspace: &Keyspace<B>,
     at: &Ctx,
     keys: &[Word<'_>],
-    all: &mut Names,
+    own: &mut C,
+    all: &mut Members,
 ) -> Result<(), Memory>
     requires ready { Ready B.blocks keyspace.now at.now }
-    ensures { OnOk result ((name : List ℕ) → has (gathered all.new) name ≡ (has (gathered all.old) name || in_any (sets_here (sight B.blocks keyspace.now at.now) keys.now) name)) }
+    requires all { IsMembers (C.blocks own.old) all.old }
+    ensures sound { OnOk result (IsMembers (C.blocks own.new) all.new) }
+    ensures members { OnOk result ((name : List ℕ) → has (members (C.blocks own.new) all.new) name ≡ (has (members (C.blocks own.old) all.old) name || in_any (sets_here (sight B.blocks keyspace.now at.now) keys.now) name)) }
 {
     for key in keys {
-        let names = names_at(keyspace, at, key.as_slice())?;
-        add_names(names, all)?;
+        add_at(keyspace, at, key.as_slice(), own, all)?;
     }
     Ok(())
 }
 
-// Takes the members of the sets at keys out of others. Each is met once.
+// Those of the names that none of the sets at keys has.
 fn drop_each<B: BlockStore>(
     keyspace: &Keyspace<B>,
     at: &Ctx,
     keys: &[Word<'_>],
-    all: &mut Names,
-) -> Result<(), Memory>
+    names: Vec<Bytes>,
+) -> Result<Vec<Bytes>, Memory>
     requires ready { Ready B.blocks keyspace.now at.now }
-    ensures { OnOk result ((name : List ℕ) → has (gathered all.new) name ≡ (has (gathered all.old) name && not (in_any (sets_here (sight B.blocks keyspace.now at.now) keys.now) name))) }
+    requires once { IsOnce names.items }
+    ensures left { IfOk result (λ kept. (name : List ℕ) → has (set_of kept.items) name ≡ (has (set_of names.items) name && not (in_any (sets_here (sight B.blocks keyspace.now at.now) keys.now) name))) }
+    ensures once { IfOk result (λ kept. IsOnce kept.items) }
 {
+    let mut kept = names;
     for key in keys {
-        let names = names_at(keyspace, at, key.as_slice())?;
-        drop_names(names, all);
+        kept = sift_at(keyspace, at, key.as_slice(), kept, false)?;
     }
-    Ok(())
+    Ok(kept)
 }
 
 // Whether the set at a key has a member.
@@ -121,113 +148,97 @@ fn smallest<B: BlockStore>(keyspace: &Keyspace<B>, at: &Ctx, keys: &[Word<'_>]) 
     least
 }
 
-// Adds those of the names that the sets at all keys have.
-fn add_shared<B: BlockStore>(
+// The members of the set at one of the keys that the sets at the others have too.
+fn share_names<B: BlockStore>(
     keyspace: &Keyspace<B>,
     at: &Ctx,
     keys: &[Word<'_>],
-    names: Vec<Vec<u8>>,
-    all: &mut Names,
-) -> Result<(), Memory>
+    one: usize,
+) -> Result<Vec<Bytes>, Memory>
     requires ready { Ready B.blocks keyspace.now at.now }
-    ensures { OnOk result ((name : List ℕ) → has (gathered all.new) name ≡ (has (gathered all.old) name || (has (set_of (strings names.items)) name && in_all (sets_here (sight B.blocks keyspace.now at.now) keys.now) name))) }
+    requires inside { one < length keys.now }
+    ensures shared { IfOk result (λ kept. (name : List ℕ) → has (set_of kept.items) name ≡ in_all (sets_here (sight B.blocks keyspace.now at.now) keys.now) name) }
+    ensures once { IfOk result (λ kept. IsOnce kept.items) }
 {
-    let mut rest = names;
-    'names: while let Some(name) = rest.pop() {
-        if in_each(keyspace, at, keys, name.as_slice()) {
-            all.insert(name)?;
+    let mut kept = names_at(keyspace, at, keys[one].as_slice())?;
+    for index in 0..keys.len() {
+        if index == one {
+            continue;
         }
+        kept = sift_at(keyspace, at, keys[index].as_slice(), kept, true)?;
     }
-    Ok(())
+    Ok(kept)
 }
 
-// The members that the sets at all keys have. Those of the smallest set are met, and the others are asked for each.
+// The members that the sets at all keys have. Those of the smallest set are met, and the others are asked for them.
 fn inter<B: BlockStore>(
     keyspace: &Keyspace<B>,
     at: &Ctx,
     keys: &[Word<'_>],
-) -> Result<Names, Memory>
+) -> Result<Vec<Bytes>, Memory>
     requires ready { Ready B.blocks keyspace.now at.now }
-    ensures { IfOk result (λ names. IsJoin joins.Inter (sets_here (sight B.blocks keyspace.now at.now) keys.now) (gathered names)) }
+    ensures join { IfOk result (λ names. IsJoin joins.Inter (sets_here (sight B.blocks keyspace.now at.now) keys.now) (set_of names.items)) }
+    ensures once { IfOk result (λ names. IsOnce names.items) }
 {
-    let mut all = Names::new(keyspace.alloc());
     if keys.is_empty() {
-        return Ok(all);
+        return Ok(Vec::new(keyspace.alloc()));
     }
     let least = smallest(keyspace, at, keys);
-    let names = names_at(keyspace, at, keys[least].as_slice())?;
-    add_shared(keyspace, at, keys, names, &mut all)?;
-    Ok(all)
+    share_names(keyspace, at, keys, least)
 }
 
-// The members that the set at any key has.
+// The members that the set at any key has. They are gathered in a set that is never packed.
 fn union<B: BlockStore>(
     keyspace: &Keyspace<B>,
     at: &Ctx,
     keys: &[Word<'_>],
-) -> Result<Names, Memory>
+) -> Result<Vec<Bytes>, Memory>
     requires ready { Ready B.blocks keyspace.now at.now }
-    ensures { IfOk result (λ names. IsJoin joins.Union (sets_here (sight B.blocks keyspace.now at.now) keys.now) (gathered names)) }
+    ensures join { IfOk result (λ names. IsJoin joins.Union (sets_here (sight B.blocks keyspace.now at.now) keys.now) (set_of names.items)) }
+    ensures once { IfOk result (λ names. IsOnce names.items) }
 {
-    let mut all = Names::new(keyspace.alloc());
-    add_each(keyspace, at, keys, &mut all)?;
-    Ok(all)
+    let alloc = keyspace.alloc();
+    let mut own = PlainStore::new(alloc);
+    let mut all = Members::new(alloc, never_packed(), keyspace.seed());
+    add_each(keyspace, at, keys, &mut own, &mut all)?;
+    names_of(alloc, &own, &all)
 }
 
-// The members of the set at the first key that none of the others has.
-fn diff<B: BlockStore>(keyspace: &Keyspace<B>, at: &Ctx, keys: &[Word<'_>]) -> Result<Names, Memory>
+// The members of the set at the first key that none of the others has, each of which is asked for them.
+fn diff<B: BlockStore>(
+    keyspace: &Keyspace<B>,
+    at: &Ctx,
+    keys: &[Word<'_>],
+) -> Result<Vec<Bytes>, Memory>
     requires ready { Ready B.blocks keyspace.now at.now }
-    ensures { IfOk result (λ names. IsJoin joins.Diff (sets_here (sight B.blocks keyspace.now at.now) keys.now) (gathered names)) }
+    ensures join { IfOk result (λ names. IsJoin joins.Diff (sets_here (sight B.blocks keyspace.now at.now) keys.now) (set_of names.items)) }
+    ensures once { IfOk result (λ names. IsOnce names.items) }
 {
-    let mut all = Names::new(keyspace.alloc());
     match keys.split_first() {
-        None => Ok(all),
+        None => Ok(Vec::new(keyspace.alloc())),
         Some((first, others)) => {
             let names = names_at(keyspace, at, first.as_slice())?;
-            add_names(names, &mut all)?;
-            drop_each(keyspace, at, others, &mut all)?;
-            Ok(all)
+            drop_each(keyspace, at, others, names)
         }
     }
 }
 
-/// The join of the sets at keys. A key without a set counts as one without a member.
+/// The members of the join of the sets at keys, each once. A key without a set counts as one without a member.
 pub fn join<B: BlockStore>(
     keyspace: &Keyspace<B>,
     at: &Ctx,
     how: SetJoin,
     keys: &[Word<'_>],
-) -> Result<Names, Memory>
+) -> Result<Vec<Bytes>, Memory>
     requires ready { Ready B.blocks keyspace.now at.now }
-    ensures { IfOk result (λ names. IsJoin how (sets_here (sight B.blocks keyspace.now at.now) keys.now) (gathered names)) }
+    ensures join { IfOk result (λ names. IsJoin how (sets_here (sight B.blocks keyspace.now at.now) keys.now) (set_of names.items)) }
+    ensures once { IfOk result (λ names. IsOnce names.items) }
 {
     match how {
         SetJoin::Inter => inter(keyspace, at, keys),
         SetJoin::Union => union(keyspace, at, keys),
         SetJoin::Diff => diff(keyspace, at, keys),
     }
-}
-
-// Adds each name.
-fn push_names(alloc: Global, names: Names, parts: &mut Parts) -> Result<(), Memory>
-    ensures { OnOk result (parts.new ≡ parts.old ++ map replies.Bulk (strings names.keys)) }
-{
-    let mut rest = names;
-    'names: while let Some(name) = rest.pop_first() {
-        let bytes = Bytes::new(alloc, name.as_slice())?;
-        parts.push(Part::Bulk(bytes))?;
-    }
-    Ok(())
-}
-
-// All names, as an array.
-fn names_reply(alloc: Global, names: Names) -> Result<Reply, Memory>
-    ensures { IfOk result (λ reply. AreMembers (Some (gathered names)) reply) }
-{
-    let mut parts = Parts::new(alloc);
-    parts.push(Part::Array(names.len() as u64))?;
-    push_names(alloc, names, &mut parts)?;
-    Ok(parts.into_reply())
 }
 
 /// `SINTER key..`, `SUNION` and `SDIFF`: an array of the members of the join, each once, in any order. A missing key counts as a
@@ -254,11 +265,11 @@ fn count_shared<B: BlockStore>(
     keyspace: &Keyspace<B>,
     at: &Ctx,
     keys: &[Word<'_>],
-    names: Vec<Vec<u8>>,
+    names: Vec<Bytes>,
     limit: u64,
 ) -> usize
     requires ready { Ready B.blocks keyspace.now at.now }
-    ensures { result ≡ at_most limit (length (filter (in_all (sets_here (sight B.blocks keyspace.now at.now) keys.now)) (strings names.items))) }
+    ensures { result ≡ at_most limit (length (filter (in_all (sets_here (sight B.blocks keyspace.now at.now) keys.now)) names.items)) }
 {
     let mut count = 0;
     let mut rest = names;

@@ -10,6 +10,7 @@ mod changing;
 mod dispatch;
 mod edits;
 mod gathering;
+mod hashing;
 mod joining;
 mod listing;
 mod look;
@@ -18,6 +19,7 @@ mod paging;
 mod random;
 mod reading;
 mod removing;
+mod sifting;
 mod storing;
 
 pub use adding::sadd;

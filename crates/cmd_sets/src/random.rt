@@ -58,8 +58,8 @@ fn push_names(parts: &mut Parts, names: Vec<Bytes>) -> Result<(), Memory>
     Ok(())
 }
 
-// An array of members, told.
-fn names_reply(alloc: Global, names: Vec<Bytes>) -> Result<Reply, Memory>
+/// An array of members, told.
+pub fn names_reply(alloc: Global, names: Vec<Bytes>) -> Result<Reply, Memory>
     ensures { IfOk result (λ reply. reply ≡ scans.listed names.items) }
 {
     let mut parts = Parts::new(alloc);
@@ -121,8 +121,8 @@ pub fn srandmember<B: BlockStore>(
     }
 }
 
-// Members as words.
-fn words_of<'a>(alloc: Global, names: &'a [Bytes]) -> Result<Vec<Word<'a>>, Memory>
+/// Members as words.
+pub fn words_of<'a>(alloc: Global, names: &'a [Bytes]) -> Result<Vec<Word<'a>>, Memory>
     ensures { IfOk result (λ words. words.items ≡ names.now) }
 {
     let mut words = Vec::with_capacity(alloc, names.len())?;

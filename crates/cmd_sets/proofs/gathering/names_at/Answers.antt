@@ -1,6 +1,10 @@
+use Rattle.std.proofs.Common.{sym, subst}
+use Rattle.set_object.specs.Strings.{IsOnce}
+use Rattle.set_object.proofs.Listed.{arranged}
 use Rattle.keyspace.specs.Forms.{set_at}
 use Rattle.keyspace.specs.Commands.{sight}
-use Rattle.cmd_sets.proofs.Joined.{missing_at, other_at, no_names, no_once, names_told, names_once}
+use Rattle.cmd_sets.proofs.Gathered.{if_as}
+use Rattle.cmd_sets.proofs.Joined.{missing_at, other_at, no_names, no_once, all_names}
 use Rattle.cmd_sets.proofs.gathering.names_at.Goals as goal
 
 pub returns-in-Missing-clause-members : goal.returns-in-Missing-clause-members
@@ -16,7 +20,8 @@ returns-in-Other-clause-members g c =
 pub returns-in-There-clause-members : goal.returns-in-There-clause-members
 returns-in-There-clause-members g c =
     let world = sight g.B.BlockStore.blocks c.args.keyspace.now c.args.at.now in
-    names_told world (g.B.BlockStore.blocks c.args.keyspace.now.store) c.args.key.now _ c.names_of.result c.in-There.ensures c.names_of.ensures
+    let m = g.B.BlockStore.blocks c.args.keyspace.now.store in
+    if_as c.names_of.result (λ names is. all_names world m c.args.key.now _ names.items c.in-There.ensures is) c.names_of.ensures
 
 pub returns-in-Missing-clause-once : goal.returns-in-Missing-clause-once
 returns-in-Missing-clause-once g c = no_once c.new.result.items c.new.ensures.items
@@ -26,4 +31,5 @@ returns-in-Other-clause-once g c = no_once c.new-in-Other.result.items c.new-in-
 
 pub returns-in-There-clause-once : goal.returns-in-There-clause-once
 returns-in-There-clause-once g c =
-    names_once (sight g.B.BlockStore.blocks c.args.keyspace.now c.args.at.now) (g.B.BlockStore.blocks c.args.keyspace.now.store) c.args.key.now _ c.names_of.result c.in-There.ensures c.names_of.ensures
+    let m = g.B.BlockStore.blocks c.args.keyspace.now.store in
+    if_as c.names_of.result (λ names is. subst IsOnce (sym is) (arranged m _ c.in-There.ensures.sound).once) c.names_of.ensures

@@ -2,7 +2,7 @@ use Rattle.std.proofs.Common.{◌<◌, ◌≤◌, ◌∙◌, ap, [], length, get
 use Rattle.std.proofs.lemmas.List.{take_all}
 use Rattle.set_object.specs.Members.{listed}
 use Rattle.cmd_sets.proofs.Listed.{match_as, count_is}
-use Rattle.cmd_sets.proofs.Gathered.{one_string}
+use Rattle.cmd_sets.proofs.Gathered.{one_name}
 use Rattle.cmd_sets.proofs.gathering.names_of.Goals as goal
 
 pub loop-index-preserved : goal.loop-index-preserved
@@ -14,7 +14,7 @@ loop-index-preserved g c =
     let inside : k < length list = omega (arith, c.loop-index-test.true, count_is m c.args.set.now c.requires.sound c.len-count.result (c.len-count.ensures m c.requires.sound)) in
     record {
       next = match_as c.next-place.result (λ h. omega (arith, h, place.1)) (λ cursor h. (h.0, omega (arith, h.1, place.1))) c.next-place.ensures;
-      so_far = one_string list k c.loop-index.names.items c.push.new.self.items c.in_ok-name-in-Some.name inside c.loop-index.invariant.so_far
+      so_far = one_name list k c.loop-index.names.items c.push.new.self.items _ inside c.loop-index.invariant.so_far
           (c.in_ok-name-in-Some.ensures ∙ c.element.ensures ∙ ap (λ i. get_or list i []) place.1) c.in_ok-push-in-Some.ensures.items;
     }
 

@@ -1,7 +1,9 @@
 use Rattle.std.proofs.Common.{sym}
+use Rattle.set_object.specs.Strings.{set_of}
 use Rattle.keyspace.specs.Commands.{sight}
-use Rattle.cmd_sets.specs.Joined.{gathered}
+use Rattle.cmd_sets.proofs.Gathered.{if_as}
 use Rattle.cmd_sets.proofs.Joined.{join_told, join_refused}
+use Rattle.cmd_sets.proofs.Listed.{lists_set}
 use Rattle.cmd_sets.proofs.joining.sjoin.Goals as goal
 
 pub returns-then-not-are_sets : goal.returns-then-not-are_sets
@@ -10,4 +12,8 @@ returns-then-not-are_sets g c =
 
 pub returns : goal.returns
 returns g c =
-    record { gives = join_told c.args.keyspace.now.bases.seed (sight g.B.BlockStore.blocks c.args.keyspace.now c.args.at.now) c.args.how c.args.keys.now (gathered c.in_ok-names.names) c.names_reply.result (sym c.if-not-are_sets.ensures) c.in_ok-names.ensures c.names_reply.ensures }
+    let names = c.in_ok-names.names.items in
+    record {
+      gives = join_told c.args.keyspace.now.bases.seed (sight g.B.BlockStore.blocks c.args.keyspace.now c.args.at.now) c.args.how c.args.keys.now (set_of names) c.names_reply.result (sym c.if-not-are_sets.ensures) c.in_ok-names.ensures.join
+          (if_as c.names_reply.result (λ reply is. (names, lists_set names c.in_ok-names.ensures.once, is)) c.names_reply.ensures);
+    }
