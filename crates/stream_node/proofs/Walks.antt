@@ -1,5 +1,5 @@
 -- Walks over entries.
-use Rattle.std.proofs.Common.{◌≡◌, ℕ, zero, suc, ◌-◌, ◌<◌, List, [], ◌∷◌, length, refl, ap, subst, ◌∙◌, arith}
+use Rattle.std.proofs.Common.{◌≡◌, ℕ, zero, suc, ◌+◌, ◌-◌, ◌<◌, List, [], ◌∷◌, length, refl, ap, subst, ◌∙◌, arith}
 use Rattle.std.specs.Prelude.{Option, Some, None}
 use Rattle.stream_node.specs.declared.id.Id.{Id}
 use Rattle.stream_node.specs.declared.head.Head.{Head}
@@ -7,7 +7,7 @@ use Rattle.stream_node.specs.declared.rest.Rest.{Rest}
 use Rattle.stream_node.specs.declared.fault.NodeFault.{NodeFault}
 use Rattle.stream_node.specs.declared.fault.NodeFault.TheVariants as faults
 use Rattle.stream_node.specs.Entry.{Stored, IsEntry}
-use Rattle.stream_node.specs.Node.{Begins}
+use Rattle.stream_node.specs.Node.{IsHead, Begins, Node}
 use Rattle.stream_node.specs.Next.{IsEntryFault}
 use Rattle.stream_node.specs.Entries.{entries_from, behind_entry}
 use Rattle.stream_node.specs.Rest.{rest_of}
@@ -16,6 +16,7 @@ use Rattle.stream_node.specs.Walk.{IsWalk}
 use Rattle.stream_node.proofs.Lists.{Texts}
 use Rattle.stream_node.proofs.Same.{one_entry}
 use Rattle.stream_node.proofs.ReadBack.{reads_first}
+use Rattle.stream_node.proofs.OneNode.{one_head}
 
 pub length-entries_from : (key : Id) (master : Texts) (n : ℕ) (list : Texts) → length (entries_from key master n list) ≡ n
 unfolding entries_from
@@ -59,3 +60,15 @@ pub walk_on : (key : Id) (head : Head) (left : ℕ) (rest behind : Rest) (e : St
 walk_on key head left rest behind e some is w =
     let more = begins_behind key (master_of head) (rest_of rest) w.before w.entries e (rest_of behind) w.begins (omega (arith, some, w.count)) is in
     record { before = Some e.id; entries = more.0; begins = more.1; count = omega (arith, w.count, more.2) }
+
+-- the walk over all entries of a node, behind the head that was read
+pub node_walk : (key : Id) (list : Texts) (head : Head) (first : Rest) (es : List Stored) → Node key list es → IsHead list head.live head.deleted (master_of head) (rest_of first) → IsWalk key head (head.live + head.deleted) first
+node_walk key list head first es n h =
+    let same = one_head list n.live n.deleted head.live head.deleted n.master n.behind (master_of head) (rest_of first) n.head h in
+    let here = subst (λ (x : Texts). Begins key x None n.behind es []) same.master_same n.all_entries in
+    record {
+      before = None;
+      entries = es;
+      begins = subst (λ (x : Texts). Begins key (master_of head) None x es []) same.rest_same here;
+      count = omega (arith, n.count, same.live_same, same.deleted_same);
+    }

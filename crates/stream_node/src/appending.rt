@@ -1,6 +1,6 @@
 // Entries put behind all others.
 
-ghost use Rattle.std.specs.Prelude.{◌≡◌, ◌↔◌, ◌<◌, ◌^◌, ◌++◌, ◌∷◌, [], IsTrue, OnOk, OnErr, IfSome, IfNone, length, map, take, drop, true, slice_set};
+ghost use Rattle.std.specs.Prelude.{◌≡◌, ◌↔◌, ◌<◌, ◌^◌, ◌++◌, ◌∷◌, [], IsTrue, IfOk, OnOk, OnErr, IfSome, IfNone, length, map, take, drop, true, slice_set};
 ghost use Rattle.listpack.specs.Element.{element_text};
 ghost use Rattle.listpack.specs.Pack.{IsPack, texts, spellings_of};
 ghost use Rattle.listpack.specs.Writing.{spelling};
@@ -18,6 +18,10 @@ use crate::put::{put_entry, put_head};
 use crate::rest::Rest;
 use itoa::Buffer;
 use listpack::{Element, Memory, insert, known, remove};
+use std::alloc::Global;
+
+/// As many bytes as a copy has room for behind its own, so that most entries are written without another copy.
+const ROOM: usize = 192;
 
 // Whether an element has this text.
 fn is_text(element: &Element, text: &[u8]) -> bool
@@ -127,6 +131,37 @@ fn put_last(pack: &mut Vec<u8>, key: Id, id: Id, pairs: &Pairs) -> Result<(), Me
     }
 }
 
+// A copy of bytes, with some room behind them.
+fn roomy(alloc: Global, bytes: &[u8]) -> Result<Vec<u8>, Memory>
+    ensures { IfOk result (λ copy. copy.items ≡ bytes.now) }
+{
+    let mut copy = Vec::with_capacity(alloc, bytes.len() + ROOM)?;
+    copy.extend_from_slice(bytes)?;
+    Ok(copy)
+}
+
+/// A copy of a listpack with an entry behind all others: of an empty one a stream node of that key with its first entry.
+///
+/// An entry whose fields are the node's is written without them. No entry of the node is read.
+pub fn with_entry(
+    alloc: Global,
+    pack: &[u8],
+    key: Id,
+    id: Id,
+    pairs: &Pairs,
+) -> Result<Vec<u8>, Memory>
+    requires packed { IsPack pack.now }
+    requires node { IsOpen key (texts pack.now) }
+    requires above { IsAfter (last_id None (held key (texts pack.now))) id }
+    requires some { 0 < length pairs.now }
+    requires room { pack_len (appended key pack.now id pairs.now) < 2 ^ 32 }
+    ensures { IfOk result (λ copy. IsAppended key pack.now copy.items id pairs.now) }
+{
+    let mut copy = roomy(alloc, pack)?;
+    put_last(&mut copy, key, id, pairs)?;
+    Ok(copy)
+}
+
 /// Puts an entry behind all others: an empty listpack becomes a stream node of that key by its first entry.
 ///
 /// An entry whose fields are the node's is written without them. `Memory` leaves all as before.
@@ -139,8 +174,6 @@ pub fn append(pack: &mut Vec<u8>, key: Id, id: Id, pairs: &Pairs) -> Result<(), 
     ensures appended { OnOk result (IsAppended key pack.old.items pack.new.items id pairs.now) }
     ensures memory { OnErr result (pack.new.items ≡ pack.old.items) }
 {
-    let mut copy = Vec::from_slice(*pack.allocator(), pack)?;
-    put_last(&mut copy, key, id, pairs)?;
-    *pack = copy;
+    *pack = with_entry(*pack.allocator(), pack, key, id, pairs)?;
     Ok(())
 }

@@ -18,7 +18,7 @@ mod rest;
 mod room;
 mod start;
 
-pub use appending::append;
+pub use appending::{append, with_entry};
 pub use entries::Entries;
 pub use entry::Entry;
 pub use entry_pairs::EntryPairs;
@@ -27,6 +27,6 @@ pub use id::Id;
 pub use laws::{at_most_one, entries_are_read, ids_are_ordered, rows};
 pub use listpack::Memory;
 pub use marking::mark_deleted;
-pub use node::{Node, check};
+pub use node::{Node, check, opened};
 pub use pairs::Pairs;
 pub use room::{has_room, room_is_enough};

@@ -57,15 +57,26 @@ pub fn check<'a>(key: Id, pack: &Pack<'a>) -> Result<Node<'a>, NodeFault>
         return Err(NodeFault::Shape);
     };
     match check_entries(key, &head, &first) {
-        Ok(()) => Ok(Node {
+        Ok(()) => Ok(opened(key, pack)),
+        Err(fault) => Err(fault),
+    }
+}
+
+/// Takes a listpack that is known to be the stream node of a key. It reads the counts and the fields, and no entry.
+pub fn opened<'a>(key: Id, pack: &Pack<'a>) -> Node<'a>
+    requires { IsNode key (list_of pack.now) }
+    ensures { entries result ≡ entries_of key (list_of pack.now) }
+{
+    match Head::read(&Rest::all(pack)) {
+        Some((head, first)) => Node {
             walk: Entries {
                 key,
                 head,
                 left: head.live + head.deleted,
                 rest: first,
             },
-        }),
-        Err(fault) => Err(fault),
+        },
+        None => unreachable!(),
     }
 }
 

@@ -1,22 +1,24 @@
-use Rattle.std.proofs.Common.{sym, subst}
+use Rattle.std.proofs.Common.{refl, subst}
 use Rattle.stream_node.specs.Node.{IsHead}
 use Rattle.stream_node.specs.Rest.{rest_of}
 use Rattle.stream_node.specs.Reading.{master_of}
 use Rattle.listpack.specs.View.{list_of}
 use Rattle.stream_node.proofs.Lists.{Texts}
-use Rattle.stream_node.proofs.ReadBack.{reads_head}
 use Rattle.stream_node.proofs.OneNode.{not_both}
 use Rattle.stream_node.specs.Entries.{entries_of}
 use Rattle.stream_node.proofs.node.check.Goals as goal
 
-pub invariant_of-result : goal.invariant_of-result
-invariant_of-result c = record { whole = ∣ c.in-Ok.ensures.walk ∣₁ }
-
-pub returns-in-Ok-clause-entries : goal.returns-in-Ok-clause-entries
-returns-in-Ok-clause-entries c =
+pub opened-requires : goal.opened-requires
+opened-requires c =
     let head = c.in-Some.head in
-    sym (reads_head c.args.key (list_of c.args.pack.now) head.live head.deleted (master_of head) (rest_of c.in-Some.first)
-    (subst (λ (x : Texts). IsHead x head.live head.deleted (master_of head) (rest_of c.in-Some.first)) c.all.ensures c.in-Some.ensures.some))
+    c.in-Ok.ensures.ok (list_of c.args.pack.now) (subst (λ (x : Texts). IsHead x head.live head.deleted (master_of head) (rest_of c.in-Some.first)) c.all.ensures c.in-Some.ensures.some)
+
+pub returns-in-Ok-clause-ok : goal.returns-in-Ok-clause-ok
+returns-in-Ok-clause-ok c =
+    let head = c.in-Some.head in (
+      λ _. c.in-Ok.ensures.ok (list_of c.args.pack.now) (subst (λ (x : Texts). IsHead x head.live head.deleted (master_of head) (rest_of c.in-Some.first)) c.all.ensures c.in-Some.ensures.some),
+      λ _. refl,
+    )
 
 pub returns-in-Err-clause-fault : goal.returns-in-Err-clause-fault
 returns-in-Err-clause-fault c =
