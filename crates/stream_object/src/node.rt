@@ -16,7 +16,7 @@ ghost use Rattle.stream_object.specs.Node.{IsGrown, IsAt, IsLive, Lacks, Marks};
 use crate::Memory;
 use listpack::{empty, known};
 use std::alloc::Global;
-use stream_node::{Entries, Entry, Id, Pairs, append, check, mark_deleted};
+use stream_node::{Entries, Entry, Id, Pairs, append, mark_deleted, opened, with_entry};
 
 /// The most entries of a node.
 const MOST_ENTRIES: usize = 100;
@@ -29,10 +29,7 @@ pub(crate) fn entries<'a>(key: Id, bytes: &'a [u8]) -> Entries<'a>
     requires { IsNodeOf key bytes.now }
     ensures { left_of result ≡ entries_of key (texts bytes.now) }
 {
-    match check(key, &known(bytes)) {
-        Ok(node) => node.entries(),
-        Err(_) => unreachable!(),
-    }
+    opened(key, &known(bytes)).entries()
 }
 
 /// A node of one entry, whose id is its key.
@@ -66,8 +63,7 @@ pub(crate) fn joined(
     if entries(key, bytes).len() >= MOST_ENTRIES {
         return Ok(None);
     }
-    let mut pack = Vec::from_slice(alloc, bytes)?;
-    append(&mut pack, key, id, pairs)?;
+    let pack = with_entry(alloc, bytes, key, id, pairs)?;
     if pack.len() > MOST_BYTES {
         return Ok(None);
     }
