@@ -4,7 +4,7 @@ use Rattle.std.specs.Prelude.{not, ◌&&◌, if◌then◌else◌}
 use Rattle.std.specs.List.{filter}
 use Rattle.std.specs.Ordering.{nat_cmp, ordering_then, is_lt}
 use Rattle.std.proofs.lemmas.Bool.{cases_lt, cond-false}
-use Rattle.std.proofs.lemmas.List.{append_assoc, map-append, take_at, take_all, take_more, take-append-drop, length-map, length-reverse}
+use Rattle.std.proofs.lemmas.List.{append-nil, append_assoc, map-append, take_at, take_all, take_more, take-append-drop, length-map, length-reverse}
 use Rattle.std.proofs.lemmas.List.Elements.{filter-append}
 use Rattle.stream_groups.specs.Groups.{id_cmp}
 use Rattle.stream_node.specs.declared.id.Id.{Id}
@@ -117,3 +117,36 @@ one_more_taken back picked before found now o e index place is more same at turn
     ∙ (λ i. is i ++ (same ∙ ap seen at ∙ sym (seen_at picked place e) ∙ sym turn) i ∷ [])
     ∙ append_assoc before (take index all) (get_or all index (seen e) ∷ [])
     ∙ ap (λ es. before ++ es) (sym (take_more all index (seen e) within))
+
+-- taken in their order, of the entries that a walk has passed
+module _ (from to : Id) (xs : List Entry) (old now : List StreamEntry) (is : now ≡ old ++ picked_of from to xs) where
+  -- with one more
+  pub forth_more : (found more : List Owned) (o : Owned) (x : Entry) (b : Bool) → map taken found ≡ now → more ≡ found ++ o ∷ [] → taken o ≡ seen x → b ≡ (is_live (stored x) && is_between from to (seen x)) → b ≡ true
+      → map taken more ≡ old ++ picked_of from to (xs ++ x ∷ [])
+  forth_more found more o x b here one same test holds =
+      ap (map taken) one ∙ map-append taken found (o ∷ [])
+      ∙ (λ i. (here ∙ is) i ++ same i ∷ [])
+      ∙ append_assoc old (picked_of from to xs) (seen x ∷ [])
+      ∙ ap (λ es. old ++ es) (sym (picked_more from to xs x b test ∙ ap (λ t. picked_of from to xs ++ (if t then seen x ∷ [] else [])) holds))
+
+  -- one that isn't picked
+  pub forth_same : (x : Entry) (b : Bool) → b ≡ (is_live (stored x) && is_between from to (seen x)) → b ≡ false → now ≡ old ++ picked_of from to (xs ++ x ∷ [])
+  forth_same x b test fails =
+      is ∙ ap (λ es. old ++ es) (sym (picked_more from to xs x b test ∙ ap (λ t. picked_of from to xs ++ (if t then seen x ∷ [] else [])) fails ∙ append-nil (picked_of from to xs)))
+
+  -- there are enough
+  pub forth_full : (left all : List Stored) (limit : ℕ) → map stored xs ++ left ≡ all → length now ≡ limit → now ≡ take limit (old ++ filter (is_between from to) (live_of all))
+  forth_full left all limit joined full =
+      let more = filter (is_between from to) (live_of left) in
+      let split : filter (is_between from to) (live_of all) ≡ picked_of from to xs ++ more =
+      ap (λ es. filter (is_between from to) (live_of es)) (sym joined) ∙ ap (filter (is_between from to)) (live-append (map stored xs) left) ∙ filter-append (is_between from to) (live_of (map stored xs)) (live_of left) in
+      sym (ap (λ es. take limit (old ++ es)) split
+      ∙ ap (take limit) (sym (append_assoc old (picked_of from to xs) more))
+      ∙ take_at (old ++ picked_of from to xs) more limit (ap length (sym is) ∙ full)
+      ∙ sym is)
+
+  -- all are passed
+  pub forth_all : (all : List Stored) (limit : ℕ) → map stored xs ≡ all → length now ≤ limit → now ≡ take limit (old ++ filter (is_between from to) (live_of all))
+  forth_all all limit passed within =
+      let whole : now ≡ old ++ filter (is_between from to) (live_of all) = is ∙ ap (λ es. old ++ filter (is_between from to) (live_of es)) passed in
+      whole ∙ sym (take_all limit (old ++ filter (is_between from to) (live_of all)) (omega (arith, ap length whole, within)))

@@ -8,7 +8,7 @@ ghost use Rattle.stream_object.specs.Streams.{IsStream, stream_of};
 use crate::Memory;
 use crate::nodes::near;
 use crate::owned::Owned;
-use crate::picking::{picked, take_up};
+use crate::picking::take_wanted;
 use crate::spot::Spot;
 use crate::stream::Stream;
 use crate::wanted::Wanted;
@@ -67,8 +67,7 @@ fn step<B: BlockStore>(
         return Ok(None);
     };
     let Spot { key, bytes, .. } = spot;
-    let picked = picked(alloc, key, bytes, wanted.from, wanted.to)?;
-    take_up(alloc, &picked, wanted, found)?;
+    take_wanted(alloc, key, bytes, wanted, found)?;
     if found.len() as u64 >= wanted.limit {
         return Ok(None);
     }

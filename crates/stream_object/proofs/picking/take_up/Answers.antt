@@ -1,8 +1,5 @@
-use Rattle.std.proofs.Common.{◌∷◌, List, [], length, map, sym, ap, arith}
+use Rattle.std.proofs.Common.{◌∷◌, [], length, map, sym, ap, arith}
 use Rattle.std.proofs.lemmas.List.{append-nil, length-append, length-map}
-use Rattle.stream_node.specs.declared.id.Id.{Id}
-use Rattle.stream_node.specs.Entry.{Pair}
-use Rattle.stream_object.specs.declared.owned.Owned.{Owned}
 use Rattle.stream_object.specs.Ranges.{seen, taken, turned}
 use Rattle.stream_object.proofs.Picks.{taken_early, taken_all, one_more_taken, length-turned}
 use Rattle.stream_object.proofs.picking.take_up.Goals as goal
@@ -10,17 +7,13 @@ use Rattle.stream_object.proofs.picking.take_up.Goals as goal
 pub loop-index-init : goal.loop-index-init
 loop-index-init c = record { found = sym (append-nil (map taken c.args.found.now.items)); within = c.requires }
 
-abbrev one : Id → List Pair → Owned
-one id pairs = record { id = id; pairs = pairs }
-
 pub loop-index-preserved : goal.loop-index-preserved
 loop-index-preserved c = record {
-  found = one_more_taken c.args.wanted.back c.args.picked.now (map taken c.args.found.now.items) c.loop-index.found.items c.push.new.self.items (one c.id-id.result c.in_ok-pairs.pairs) c.index-picked-place_of.result c.loop-index.index c.place_of.result
-      c.loop-index.invariant.found c.in_ok-push.ensures.items
-      (λ i. record { id = (let j : Id = c.id-id.ensures i in (j.ms, j.seq)); pairs = c.in_ok-pairs.ensures i })
+  found = one_more_taken c.args.wanted.back c.args.picked.now (map taken c.args.found.now.items) c.loop-index.found.items c.push.new.self.items c.in_ok-one.one c.index-picked-place_of.result c.loop-index.index c.place_of.result
+      c.loop-index.invariant.found c.in_ok-push.ensures.items c.in_ok-one.ensures
       c.index-picked-place_of.is
       (c.place_of.ensures.place (map seen c.args.picked.now) (seen c.index-picked-place_of.result) (length-map c.args.picked.now seen)) c.loop-index-test.true;
-  within = omega (arith, ap length c.in_ok-push.ensures.items, length-append c.loop-index.found.items (one c.id-id.result c.in_ok-pairs.pairs ∷ []), c.if-len-wanted.false, c.len.ensures);
+  within = omega (arith, ap length c.in_ok-push.ensures.items, length-append c.loop-index.found.items (c.in_ok-one.one ∷ []), c.if-len-wanted.false, c.len.ensures);
 }
 
 pub returns-then-len-wanted-clause-found : goal.returns-then-len-wanted-clause-found

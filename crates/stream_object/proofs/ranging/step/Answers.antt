@@ -1,7 +1,6 @@
-use Rattle.std.proofs.Common.{◌∙◌, ◌++◌, map, take, ap, arith}
+use Rattle.std.proofs.Common.{arith}
 use Rattle.stream_node.specs.Ids.{IsId}
 use Rattle.stream_object.specs.Parts.{part, parts_of}
-use Rattle.stream_object.specs.Ranges.{seen, taken, turned}
 use Rattle.stream_object.proofs.Grows.{near_part}
 use Rattle.stream_object.proofs.Walks.{goes_nowhere, goes_full, goes_next}
 use Rattle.stream_object.proofs.ranging.step.Goals as goal
@@ -14,8 +13,8 @@ returns-in_default g c =
     let ft : IsId w.to = record { ms = omega arith; seq = omega arith } in
     goes_nowhere m w.from w.to w.limit ff ft (parts_of m c.args.tree.now) c.requires.parts.each c.requires.parts.rising c.args.at w.back c.args.found.now.items c.requires.within c.in_default.ensures.none
 
-pub picked-requires : goal.picked-requires
-picked-requires g c =
+pub take_wanted-requires-clause-is_node : goal.take_wanted-requires-clause-is_node
+take_wanted-requires-clause-is_node g c =
     let m = g.B.BlockStore.blocks c.args.store.now in
     let n = c.in-Some.ensures.some in
     let spot = c.in-Some.spot in
@@ -29,9 +28,8 @@ returns-then-len-wanted g c =
     let ft : IsId w.to = record { ms = omega arith; seq = omega arith } in
     let spot = c.in-Some.spot in
     goes_full m w.from w.to w.limit ff ft (parts_of m c.args.tree.now) c.requires.parts.each c.requires.parts.rising c.args.at (part spot.key spot.at spot.bytes.now) w.back c.in-Some.ensures.some
-    c.args.found.now.items c.take_up.new.found.items
-    (c.in_ok-take_up.ensures.found ∙ ap (λ es. take w.limit (map taken c.args.found.now.items ++ turned w.back es)) (ap (map seen) c.deref.ensures.value ∙ c.in_ok-picked.ensures))
-    c.in_ok-take_up.ensures.within (omega (arith, c.if-len-wanted.true, c.len.ensures))
+    c.args.found.now.items c.take_wanted.new.found.items c.in_ok-take_wanted.ensures.found
+    c.in_ok-take_wanted.ensures.within (omega (arith, c.if-len-wanted.true, c.len.ensures))
 
 pub returns : goal.returns
 returns g c =
@@ -41,6 +39,5 @@ returns g c =
     let ft : IsId w.to = record { ms = omega arith; seq = omega arith } in
     let spot = c.in-Some.spot in
     goes_next m w.from w.to w.limit ff ft (parts_of m c.args.tree.now) c.requires.parts.each c.requires.parts.rising c.args.at (part spot.key spot.at spot.bytes.now) w.back c.in-Some.ensures.some
-    c.args.found.now.items c.take_up.new.found.items
-    (c.in_ok-take_up.ensures.found ∙ ap (λ es. take w.limit (map taken c.args.found.now.items ++ turned w.back es)) (ap (map seen) c.deref.ensures.value ∙ c.in_ok-picked.ensures))
-    c.in_ok-take_up.ensures.within c.beyond.result c.beyond.ensures.some c.beyond.ensures.none
+    c.args.found.now.items c.take_wanted.new.found.items c.in_ok-take_wanted.ensures.found
+    c.in_ok-take_wanted.ensures.within c.beyond.result c.beyond.ensures.some c.beyond.ensures.none
