@@ -19,21 +19,21 @@ abbrev Read : Type 0 → Type 0
 Read A = Result (A × List ℕ) Fault
 
 -- where two steps give an answer the first gave one, and the second this one from it
-bind_ok : {A B : Type 0} (r : Result A Fault) (f : A → Result B Fault) (y : B) → (r >>= f) ≡ Ok y → (x : A) × (r ≡ Ok x) × (f x ≡ Ok y)
+pub bind_ok : {A B : Type 0} (r : Result A Fault) (f : A → Result B Fault) (y : B) → (r >>= f) ≡ Ok y → (x : A) × (r ≡ Ok x) × (f x ≡ Ok y)
 bind_ok (Ok x) f y e = (x, refl, e)
 bind_ok (Err d) f y e = absurd cc
 
 -- where two steps end in a fault it is the first one's, or the second's after an answer of the first
-bind_err : {A B : Type 0} (r : Result A Fault) (f : A → Result B Fault) (d : Fault) → (r >>= f) ≡ Err d → (r ≡ Err d) ⊎ ((x : A) × (r ≡ Ok x) × (f x ≡ Err d))
+pub bind_err : {A B : Type 0} (r : Result A Fault) (f : A → Result B Fault) (d : Fault) → (r >>= f) ≡ Err d → (r ≡ Err d) ⊎ ((x : A) × (r ≡ Ok x) × (f x ≡ Err d))
 bind_err (Ok x) f d e = inr (x, refl, e)
 bind_err (Err c) f d e = inl cc
 
 -- where a step's answer is known
-bind_is : {A B : Type 0} (r : Result A Fault) (x : A) (f : A → Result B Fault) → r ≡ Ok x → (r >>= f) ≡ f x
+pub bind_is : {A B : Type 0} (r : Result A Fault) (x : A) (f : A → Result B Fault) → r ≡ Ok x → (r >>= f) ≡ f x
 bind_is {A = A} r x f e = ap (λ (q : Result A Fault). q >>= f) e
 
 -- where the first of two steps ends in a fault both do
-bind_fault : {A B : Type 0} (r : Result A Fault) (d : Fault) (f : A → Result B Fault) → r ≡ Err d → (r >>= f) ≡ Err d
+pub bind_fault : {A B : Type 0} (r : Result A Fault) (d : Fault) (f : A → Result B Fault) → r ≡ Err d → (r >>= f) ≡ Err d
 bind_fault {A = A} r d f e = ap (λ (q : Result A Fault). q >>= f) e
 
 -- an answer, and no fault

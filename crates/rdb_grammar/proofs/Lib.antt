@@ -1,4 +1,5 @@
 pub mod Exactly
+pub mod PayloadsExact
 pub mod PartsExact
 pub mod Standing
 pub mod Partly

@@ -13,6 +13,16 @@ abbrev pub ◌>>=◌ : {A B : Type 0} → Result A Fault → (A → Result B Fau
 (Ok x) >>= f = f x
 (Err e) >>= f = Err e
 
+-- the second step, where the first gave an answer
+abbrev pub next_found : {A B : Type 0} → Result A LoadKind → (A → Result B LoadKind) → Result B LoadKind
+next_found (Ok x) f = f x
+next_found (Err kind) f = Err kind
+
+-- an answer with the bytes behind it, or a fault with so many bytes left
+abbrev pub placed : {A : Type 0} → Result A LoadKind → ℕ → List ℕ → Result (A × List ℕ) Fault
+placed (Ok x) left rest = Ok (x, rest)
+placed (Err kind) left rest = Err (kind, left)
+
 pub record Format (A : Type 0) : Type 1 where
   pub read : List ℕ → Result (A × List ℕ) Fault
   -- these bytes, all of them, spell the value
@@ -104,4 +114,39 @@ by_first by = record {
   Spells = λ x word. (b : ℕ) × (rest : List ℕ) × (word ≡ b ∷ rest) × BranchSpells (by b) x rest;
   Faulty = λ bytes kind left. ((bytes ≡ []) × IsEnded kind left)
       ⊎ ((b : ℕ) × (rest : List ℕ) × (bytes ≡ b ∷ rest) × BranchFaulty (by b) rest kind left);
+}
+
+-- ---- what stands packed inside a part
+
+-- What something is as a payload, as a string's text: what it means, or why it means nothing.
+pub record Payload (T A : Type 0) : Type 1 where
+  pub found : T → Result A LoadKind
+  pub Means : T → A → Type 0
+  -- the first fault of what means nothing
+  pub Breaks : T → LoadKind → Type 0
+
+-- what a function tells
+abbrev pub told : {T A : Type 0} → (T → Result A LoadKind) → Payload T A
+told {T = T} {A = A} by = record {
+  found = by;
+  Means = λ t x. by t ≡ Ok x;
+  Breaks = λ t kind. by t ≡ Err kind;
+}
+
+-- one payload, and what its meaning is as another: the faults of the one come first
+abbrev pub refined : {T A B : Type 0} → Payload T A → Payload A B → Payload T B
+refined {A = A} one other = record {
+  found = λ t. next_found (one.found t) other.found;
+  Means = λ t y. (x : A) × one.Means t x × other.Means x y;
+  Breaks = λ t kind. one.Breaks t kind ⊎ ((x : A) × one.Means t x × other.Breaks x kind);
+}
+
+-- a payload inside a part: any fault of it stands at the part's first byte
+abbrev pub inside : {T A : Type 0} → Format T → Payload T A → Format A
+inside {T = T} one payload = record {
+  read = λ bytes. one.read bytes >>= λ x. placed (payload.found x.0) (length bytes) x.1;
+  Spells = λ y word. (t : T) × one.Spells t word × payload.Means t y;
+  Faulty = λ bytes kind left. one.Faulty bytes kind left
+      ⊎ ((t : T) × (front : List ℕ) × (back : List ℕ) × (bytes ≡ front ++ back) × one.Spells t front
+      × payload.Breaks t kind × (left ≡ length bytes));
 }
