@@ -1,5 +1,6 @@
 pub mod Exactly
 pub mod PayloadsExact
+pub mod PackedExact
 pub mod PartsExact
 pub mod Standing
 pub mod Partly

@@ -1,7 +1,7 @@
 -- Payloads are one of both that they may be, and exact inside their parts.
 use Rattle.std.proofs.Common.{◌≡◌, ◌⊎◌, inl, inr, ℕ, List, ◌++◌, length, Result, Ok, Err, refl, sym, ap, ◌∙◌, arith}
 use Rattle.rdb_grammar.specs.declared.fault.LoadKind.{LoadKind}
-use Rattle.rdb_grammar.specs.Format.{Fault, ◌>>=◌, next_found, placed, Format, Payload, told, refined, inside}
+use Rattle.rdb_grammar.specs.Format.{next_found, placed, Format, Payload, told, refined, inside}
 use Rattle.rdb_grammar.proofs.Exactly.{Exact, ok_parts, fault_parts, bind_ok, bind_err, bind_is, bind_fault}
 
 -- a payload is decided: it has just the meaning that is found, or just the fault
@@ -16,7 +16,7 @@ pub told-decided : {T A : Type 0} (by : T → Result A LoadKind) → Decided (to
 told-decided by = record { means = λ t x e. e; again = λ t x e. e; breaks = λ t kind e. e; first = λ t kind e. e }
 
 -- where two steps give an answer, the first gave one, and the second this one from it
-next_ok : {A B : Type 0} (r : Result A LoadKind) (f : A → Result B LoadKind) (y : B) → next_found r f ≡ Ok y → (x : A) × (r ≡ Ok x) × (f x ≡ Ok y)
+pub next_ok : {A B : Type 0} (r : Result A LoadKind) (f : A → Result B LoadKind) (y : B) → next_found r f ≡ Ok y → (x : A) × (r ≡ Ok x) × (f x ≡ Ok y)
 next_ok (Ok x) f y e = (x, refl, e)
 next_ok (Err kind) f y e = absurd cc
 

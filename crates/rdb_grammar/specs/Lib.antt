@@ -4,6 +4,7 @@ pub mod Lengths
 pub mod Strings
 pub mod Scores
 pub mod Elements
+pub mod Payloads
 pub mod Values
 pub mod Items
 pub mod Places
