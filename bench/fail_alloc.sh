@@ -1,7 +1,7 @@
 #!/usr/bin/env bash
-# Refuses memory in a run of twenty commands on strings: each call of malloc or realloc in turn, one a run. Each run must end
-# with all replies, or with status 8 behind a whole reply and with its line. Prints how each ended, and fails at the first
-# that ended otherwise.
+# Refuses memory in two runs, one of commands on strings and one of commands of each family behind a file with a value of each
+# type that is taken: each call of malloc or realloc in turn, one a run. Each must end with all replies, or with status 8
+# behind a whole reply and with its line. Prints how each ended, and fails at the first that ended otherwise.
 # usage: bench/fail_alloc.sh, behind (cd crates/top_rows && rt run < stdin); it wants a compiler of C
 set -euo pipefail
 cd "$(dirname "$0")/.."
@@ -39,24 +39,28 @@ void *realloc(void *place, size_t size) {
     return refuses() ? NULL : real(place, size);
 }
 C
-# the rows of the case that has values in blocks
-awk '/^case / { on = /^case all kinds of commands/ } on' crates/top_rows/stdin > "$room/rows"
-number=0
-while true; do
-  number=$((number + 1))
-  status=0
-  timeout 60 env FAIL_ALLOC="$number" LD_PRELOAD="$room/refuse.so" \
-    "$program" < "$room/rows" > "$room/out" 2> "$room/notes" || status=$?
-  said=$(grep '^run = ' "$room/out" || true)
-  case "$said" in
-    'run = 0 [] as wanted') ;;
-    'run = 8 [redis-core: out of memory\n] as wanted') ;;
-    'run = 8 [redis-core: out of memory\n] '[0-9]*' of 20 replies') ;;
-    # it wants for the program's own bytes, and nothing was served
-    '') [ "$status" -eq 1 ] || { echo "$number: the program ended with $status"; exit 1; } ;;
-    *) echo "$number: $said"; exit 1 ;;
-  esac
-  grep -q '^refused$' "$room/notes" || break
-  echo "$number: ${said:-nothing was served}"
-done
-echo "all $((number - 1)) allocations were refused in turn; with none refused: $said"
+# refuses each allocation of the case whose first words are given
+refuse_each() {
+  awk -v words="case $1" '/^case / { on = index($0, words) == 1 } on' crates/top_rows/stdin > "$room/rows"
+  number=0
+  while true; do
+    number=$((number + 1))
+    status=0
+    timeout 60 env FAIL_ALLOC="$number" LD_PRELOAD="$room/refuse.so" \
+      "$program" < "$room/rows" > "$room/out" 2> "$room/notes" || status=$?
+    said=$(grep '^run = ' "$room/out" || true)
+    case "$said" in
+      'run = 0 [] as wanted') ;;
+      'run = 8 [redis-core: out of memory\n] as wanted') ;;
+      'run = 8 [redis-core: out of memory\n] '[0-9]*' of '[0-9]*' replies') ;;
+      # it wants for the program's own bytes, and nothing was served
+      '') [ "$status" -eq 1 ] || { echo "$number: the program ended with $status"; exit 1; } ;;
+      *) echo "$number: $said"; exit 1 ;;
+    esac
+    grep -q '^refused$' "$room/notes" || break
+    echo "$number: ${said:-nothing was served}"
+  done
+  echo "$1: all $((number - 1)) allocations were refused in turn; with none refused: $said"
+}
+refuse_each 'all kinds of commands'
+refuse_each 'some commands of each family'
