@@ -1,0 +1,4 @@
+pub mod Requests
+pub mod Commands
+pub mod Generated
+pub mod Lines
