@@ -1,3 +1,4 @@
+pub mod Exact
 pub mod Given
 pub mod Short
 pub mod Ways
