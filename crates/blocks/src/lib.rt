@@ -5,8 +5,6 @@ mod laws;
 mod plain;
 mod put;
 mod store;
-#[cfg(test)]
-mod tests;
 
 pub use laws::{
     changes_laws, finish_sweep, placed_anew, served_laws, settle, start_sweep, written_is_read,

@@ -1,10 +1,11 @@
 //! Lines of a dictionary whose elements have the hashes that the lines give. Their item numbers are 0 and on.
 
-use blocks::{PlainStore, put_block};
+use crate::words::{at, nth};
+use blocks::{BlockRef, PlainStore, put_block};
 use rehash_dict::{Dict, Memory};
 use rev_cursor::BucketScan;
 use row_words::{done, number, shown, told, unknown};
-use scan_cursor::page;
+use scan_cursor::{ScanPage, page};
 use std::alloc::Global;
 
 /// A dictionary of bare hashes.
@@ -21,16 +22,21 @@ impl Bare {
     }
 }
 
-// A dictionary of elements with these hashes.
-fn of_hashes(alloc: Global, hashes: &[&str]) -> Result<Dict<u64>, Memory> {
+// Puts an element of a hash in, whose value is the hash.
+fn insert(dict: &mut Dict<u64>, hash: u64, key: BlockRef) -> Result<(), Memory> {
+    match dict.insert_hashed(hash, key, hash) {
+        Ok(_) => Ok(()),
+        Err((_, error)) => Err(error),
+    }
+}
+
+// A dictionary of elements with the hashes that stand behind the first two words.
+fn of_hashes(alloc: Global, words: &[&str]) -> Result<Dict<u64>, Memory> {
     let mut store = PlainStore::new(alloc);
     let key = put_block(&mut store, b"key")?;
     let mut dict = Dict::new(alloc, 7);
-    for hash in hashes {
-        let hash = number(hash);
-        if let Err((_, error)) = dict.insert_hashed(hash, key, hash) {
-            return Err(error);
-        }
+    for index in 2..words.len() {
+        insert(&mut dict, number(words[index]), key)?;
     }
     Ok(dict)
 }
@@ -64,43 +70,53 @@ fn moved(alloc: Global, dict: &Dict<u64>, cursor: u64) -> Result<String, Memory>
     format!(in alloc; "{found:?} {next}, {end} {first:?} {second:?}")
 }
 
-// A page's items and the next cursor.
-fn paged(alloc: Global, dict: &Dict<u64>, cursor: u64, count: u64) -> Result<String, Memory> {
-    if count == 0 {
-        return unknown(alloc);
-    }
-    let given = page(alloc, dict, cursor, count)?;
+// The items of a page that has some, as text, or how many these are, and the next cursor.
+fn page_shown(alloc: Global, given: ScanPage, whole: bool) -> Result<String, Memory> {
     let (items, next) = (given.items, given.next);
-    format!(in alloc; "{items:?} {next}")
+    if whole {
+        format!(in alloc; "{items:?} {next}")
+    } else {
+        let many = items.len();
+        format!(in alloc; "{many} {next}")
+    }
 }
 
-// How many items a page has, and the next cursor.
-fn page_len(alloc: Global, dict: &Dict<u64>, cursor: u64, count: u64) -> Result<String, Memory> {
+// A page of so many items from a cursor on.
+fn paged(
+    alloc: Global,
+    dict: &Dict<u64>,
+    cursor: u64,
+    count: u64,
+    whole: bool,
+) -> Result<String, Memory> {
     if count == 0 {
         return unknown(alloc);
     }
     let given = page(alloc, dict, cursor, count)?;
-    let (many, next) = (given.items.len(), given.next);
-    format!(in alloc; "{many} {next}")
+    page_shown(alloc, given, whole)
+}
+
+// Makes so many rehash steps, and answers whether no rehash goes on then.
+fn ends(dict: &mut Dict<u64>, count: u64) -> bool {
+    steps(dict, count);
+    !dict.rehash_step()
 }
 
 /// What a line of these words answers.
 pub fn answer(bare: &mut Bare, alloc: Global, words: &[&str]) -> Result<String, Memory> {
-    match words {
-        ["hashes", hashes @ ..] => {
-            bare.dict = of_hashes(alloc, hashes)?;
+    let (one, two) = (nth(words, 2), nth(words, 3));
+    match at(words, 1) {
+        "hashes" => {
+            bare.dict = of_hashes(alloc, words)?;
             done(alloc)
         }
-        ["steps", count] => shown(alloc, Some(steps(&mut bare.dict, number(count)))),
-        ["ends", count] => {
-            steps(&mut bare.dict, number(count));
-            told(alloc, !bare.dict.rehash_step())
-        }
-        ["move", cursor] => moved(alloc, &bare.dict, number(cursor)),
-        ["page", cursor, count] => paged(alloc, &bare.dict, number(cursor), number(count)),
-        ["page_len", cursor, count] => page_len(alloc, &bare.dict, number(cursor), number(count)),
-        ["len"] => shown(alloc, Some(bare.dict.len() as u64)),
-        ["top"] => shown(alloc, Some(bare.dict.top() as u64)),
+        "steps" => shown(alloc, Some(steps(&mut bare.dict, one))),
+        "ends" => told(alloc, ends(&mut bare.dict, one)),
+        "move" => moved(alloc, &bare.dict, one),
+        "page" => paged(alloc, &bare.dict, one, two, true),
+        "page_len" => paged(alloc, &bare.dict, one, two, false),
+        "len" => shown(alloc, Some(bare.dict.len() as u64)),
+        "top" => shown(alloc, Some(bare.dict.top() as u64)),
         _ => unknown(alloc),
     }
 }

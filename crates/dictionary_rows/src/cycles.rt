@@ -1,12 +1,12 @@
-//! Longer runs of deadlines: cycles that go round, and edits beside a sorted map.
+//! Longer runs of deadlines: cycles that go round, and edits beside a plain table.
 
+use crate::plain::Plain;
 use crate::timed::Timed;
 use expiry::{Gone, Memory};
 use rand_core::Rng;
 use rand_pcg::Pcg32;
 use rev_cursor::BucketScan;
 use std::alloc::Global;
-use std::collections::BTreeMap;
 
 /// So many keys, the numbers from `from` on, get one deadline.
 pub fn fill(timed: &mut Timed, from: u64, count: u64, deadline: u64) -> Result<(), Memory> {
@@ -39,6 +39,22 @@ pub fn expire(timed: &mut Timed, moment: u64, cycles: u64, found: &mut Gone) -> 
     (dropped, most)
 }
 
+// Whether the key found at an index is that of an element.
+fn is_found(timed: &Timed, found: &Gone, index: usize, at: usize) -> bool {
+    let table = timed.deadlines.table();
+    table.is_entry(at) && index < found.len() && found.at(index) == table.entry(at).0
+}
+
+// Whether the keys found are those of these elements.
+fn are_found(timed: &Timed, found: &Gone, items: &[usize]) -> bool {
+    for index in 0..items.len() {
+        if !is_found(timed, found, index, items[index]) {
+            return false;
+        }
+    }
+    found.len() == items.len()
+}
+
 // Makes a cycle at which all are gone. The answer is the cursor behind the move, and how many it gave; none where the cycle didn't
 // find just these.
 fn finds_move(
@@ -50,16 +66,11 @@ fn finds_move(
     let next = timed.deadlines.table().scan_at(cursor, &mut items)?;
     let mut found = Gone::new();
     timed.cycle(6, &mut found);
-    if found.len() != items.len() {
-        return Ok(None);
+    if are_found(timed, &found, items.as_slice()) {
+        Ok(Some((next, found.len())))
+    } else {
+        Ok(None)
     }
-    for (index, at) in items.iter().enumerate() {
-        let table = timed.deadlines.table();
-        if !table.is_entry(*at) || index >= found.len() || found.at(index) != table.entry(*at).0 {
-            return Ok(None);
-        }
-    }
-    Ok(Some((next, found.len())))
 }
 
 // How many keys the cycles of one round find; none where one differs from its move, or where the round doesn't end.
@@ -82,33 +93,32 @@ fn round(alloc: Global, timed: &mut Timed) -> Result<Option<usize>, Memory> {
 }
 
 /// How many keys each of two rounds finds, where so many are gone.
-pub fn rounds(alloc: Global, count: u64) -> Result<[Option<usize>; 2], Memory> {
+pub fn rounds(alloc: Global, count: u64) -> Result<Option<(usize, usize)>, Memory> {
     let mut timed = Timed::new(alloc);
     fill(&mut timed, 0, count, 5)?;
-    let first = round(alloc, &mut timed)?;
-    let second = round(alloc, &mut timed)?;
-    Ok([first, second])
+    match round(alloc, &mut timed)? {
+        Some(first) => match round(alloc, &mut timed)? {
+            Some(second) => Ok(Some((first, second))),
+            None => Ok(None),
+        },
+        None => Ok(None),
+    }
 }
 
-// Some call beside a sorted map, and whether both answer the same.
-fn edit(
-    timed: &mut Timed,
-    map: &mut BTreeMap<u64, u64>,
-    n: u64,
-    choice: u32,
-) -> Result<bool, Memory> {
+// Some call beside a plain table, and whether both answer the same.
+fn edit(timed: &mut Timed, plain: &mut Plain, n: u64, choice: u32) -> Result<bool, Memory> {
     let key = n.to_le_bytes();
     match choice {
         0..5 => {
             let deadline = n % 13 + u64::from(choice);
             timed.set(&key, deadline)?;
-            map.insert(n, deadline)?;
+            plain.put(n, Some(deadline));
             Ok(true)
         }
-        5..8 => Ok(timed.clear(&key) == map.remove(&n).is_some()),
+        5..8 => Ok(timed.clear(&key) == plain.put(n, None).is_some()),
         8 => {
             let named = timed.rename(&key)?;
-            Ok(named == map.contains_key(&n))
+            Ok(named == plain.get(n).is_some())
         }
         9 => {
             timed.rehash_step();
@@ -121,41 +131,41 @@ fn edit(
     }
 }
 
-// Whether all deadlines of the map stand, and no others.
-fn same(timed: &Timed, map: &BTreeMap<u64, u64>) -> bool {
-    for (key, deadline) in map {
-        if timed.get(&key.to_le_bytes()) != Some(*deadline) {
+// Whether the deadlines of the plain table stand, and no others.
+fn same(timed: &Timed, plain: &Plain) -> bool {
+    for n in 0..1024u64 {
+        if timed.get(&n.to_le_bytes()) != plain.get(n) {
             return false;
         }
     }
-    timed.len() == map.len()
+    timed.len() == plain.count(1024)
 }
 
 // Whether just those are left that are not gone at a moment.
-fn drops(timed: &mut Timed, map: &mut BTreeMap<u64, u64>, moment: u64) -> bool {
+fn drops(timed: &mut Timed, plain: &mut Plain, moment: u64) -> bool {
     let mut found = Gone::new();
     expire(timed, moment, 2048, &mut found);
-    map.retain(|_, deadline| *deadline >= moment);
-    same(timed, map)
+    plain.keep_from(moment);
+    same(timed, plain)
 }
 
-/// Whether so many edits answer as a sorted map does.
+/// Whether so many edits answer as a plain table does.
 pub fn agree(alloc: Global, count: u64) -> Result<bool, Memory> {
     let mut rng = Pcg32::new(7, 54);
     let mut timed = Timed::new(alloc);
-    let mut map = BTreeMap::new(alloc);
+    let mut plain = Plain::new();
     for round in 0..count {
-        let n = u64::from(rng.next_u32()) % (1 + round / 10);
+        let n = u64::from(rng.next_u32()) % (1 + round / 10) % 1024;
         let choice = rng.next_u32() % 11;
-        if !edit(&mut timed, &mut map, n, choice)?
-            || timed.get(&n.to_le_bytes()) != map.get(&n).copied()
-            || timed.len() != map.len()
+        if !edit(&mut timed, &mut plain, n, choice)?
+            || timed.get(&n.to_le_bytes()) != plain.get(n)
+            || timed.len() != plain.count(1024)
         {
             return Ok(false);
         }
         if round % 300 == 299 {
             let moment = u64::from(rng.next_u32() % 18);
-            if !drops(&mut timed, &mut map, moment) {
+            if !drops(&mut timed, &mut plain, moment) {
                 return Ok(false);
             }
         }

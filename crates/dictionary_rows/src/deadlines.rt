@@ -2,9 +2,10 @@
 
 use crate::cycles::{agree, clear_range, expire, fill, rounds};
 use crate::timed::Timed;
+use crate::words::{at, nth};
 use blocks::BlockRef;
 use expiry::{Gone, Memory};
-use row_words::{bytes_of, done, number, shown, told, unknown};
+use row_words::{bytes_of, done, shown, told, unknown};
 use std::alloc::Global;
 
 /// Deadlines, and the keys that the last cycle found gone.
@@ -73,19 +74,11 @@ fn ends(timed: &mut Timed, count: u64) -> bool {
     !timed.rehash_step()
 }
 
-// A line on one key.
-fn on_key(timed: &mut Timed, alloc: Global, name: &str, key: &[u8]) -> Result<String, Memory> {
-    match name {
-        "get" => shown(alloc, timed.get(key)),
-        "clear" => {
-            let had = timed.clear(key);
-            told(alloc, had)
-        }
-        "rename" => {
-            let had = timed.rename(key)?;
-            told(alloc, had)
-        }
-        _ => unknown(alloc),
+// How many keys each of two rounds finds, where so many are gone.
+fn rounds_shown(alloc: Global, count: u64) -> Result<String, Memory> {
+    match rounds(alloc, count)? {
+        Some((first, second)) => format!(in alloc; "[Some({first}), Some({second})]"),
+        None => unknown(alloc),
     }
 }
 
@@ -96,18 +89,9 @@ fn counted(found: &mut Found, alloc: Global, name: &str, count: u64) -> Result<S
             found.timed.cycle(count, &mut found.gone);
             shown(alloc, Some(found.gone.len() as u64))
         }
-        "again" => {
-            let same = again(found, count);
-            told(alloc, same)
-        }
-        "ends" => {
-            let ended = ends(&mut found.timed, count);
-            told(alloc, ended)
-        }
-        "rounds" => {
-            let met = rounds(alloc, count)?;
-            format!(in alloc; "{met:?}")
-        }
+        "again" => told(alloc, again(found, count)),
+        "ends" => told(alloc, ends(&mut found.timed, count)),
+        "rounds" => rounds_shown(alloc, count),
         "agree" => {
             let agrees = agree(alloc, count)?;
             told(alloc, agrees)
@@ -116,72 +100,55 @@ fn counted(found: &mut Found, alloc: Global, name: &str, count: u64) -> Result<S
     }
 }
 
-// A line of one word.
-fn plain(found: &mut Found, alloc: Global, name: &str) -> Result<String, Memory> {
+// A line with two numbers or three.
+fn paired(found: &mut Found, alloc: Global, name: &str, words: &[&str]) -> Result<String, Memory> {
+    let (one, two) = (nth(words, 2), nth(words, 3));
     match name {
+        "lives" => lives(alloc, one, two),
+        "clears" => shown(alloc, Some(clear_range(&mut found.timed, one, two))),
+        "expire" => {
+            let (dropped, _) = expire(&mut found.timed, one, two, &mut found.gone);
+            shown(alloc, Some(dropped as u64))
+        }
+        "fill" => {
+            fill(&mut found.timed, one, two, nth(words, 4))?;
+            done(alloc)
+        }
+        _ => counted(found, alloc, name, one),
+    }
+}
+
+// A line on one key, or with numbers.
+fn on_key(found: &mut Found, alloc: Global, words: &[&str], key: &[u8]) -> Result<String, Memory> {
+    match at(words, 1) {
+        "get" => shown(alloc, found.timed.get(key)),
+        "set" => set(&mut found.timed, alloc, key, nth(words, 3)),
+        "clear" => told(alloc, found.timed.clear(key)),
+        "rename" => {
+            let had = found.timed.rename(key)?;
+            told(alloc, had)
+        }
+        name => paired(found, alloc, name, words),
+    }
+}
+
+/// What a line of these words answers.
+pub fn answer(found: &mut Found, alloc: Global, words: &[&str]) -> Result<String, Memory> {
+    match at(words, 1) {
         "new" => {
             *found = Found::new(alloc);
             done(alloc)
         }
         "len" => shown(alloc, Some(found.timed.len() as u64)),
         "found" => shown(alloc, Some(found.gone.len() as u64)),
-        "step" => {
-            let made = found.timed.rehash_step();
-            told(alloc, made)
-        }
+        "step" => told(alloc, found.timed.rehash_step()),
         "shrink" => {
             let began = found.timed.shrink()?;
             told(alloc, began)
         }
-        _ => unknown(alloc),
-    }
-}
-
-// A line with two numbers.
-fn paired(
-    found: &mut Found,
-    alloc: Global,
-    name: &str,
-    one: u64,
-    two: u64,
-) -> Result<String, Memory> {
-    match name {
-        "lives" => lives(alloc, one, two),
-        "clears" => {
-            let had = clear_range(&mut found.timed, one, two);
-            shown(alloc, Some(had))
+        _ => {
+            let key = bytes_of(alloc, at(words, 2))?;
+            on_key(found, alloc, words, key.as_slice())
         }
-        "expire" => {
-            let (dropped, _) = expire(&mut found.timed, one, two, &mut found.gone);
-            shown(alloc, Some(dropped as u64))
-        }
-        _ => unknown(alloc),
-    }
-}
-
-/// What a line of these words answers.
-pub fn answer(found: &mut Found, alloc: Global, words: &[&str]) -> Result<String, Memory> {
-    match words {
-        ["set", word, deadline] => {
-            let key = bytes_of(alloc, word)?;
-            set(&mut found.timed, alloc, key.as_slice(), number(deadline))
-        }
-        ["fill", from, count, deadline] => {
-            fill(
-                &mut found.timed,
-                number(from),
-                number(count),
-                number(deadline),
-            )?;
-            done(alloc)
-        }
-        [name, word] if matches!(*name, "get" | "clear" | "rename") => {
-            let key = bytes_of(alloc, word)?;
-            on_key(&mut found.timed, alloc, name, key.as_slice())
-        }
-        [name, one, two] => paired(found, alloc, name, number(one), number(two)),
-        [name, count] => counted(found, alloc, name, number(count)),
-        [name] => plain(found, alloc, name),
-        _ => unknown(alloc),
     }
 }

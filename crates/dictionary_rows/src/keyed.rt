@@ -4,8 +4,9 @@ use crate::agreeing::agree;
 use crate::held::Held;
 use crate::refusals::spares;
 use crate::scanning::meets;
+use crate::words::{at, nth};
 use rehash_dict::Memory;
-use row_words::{bytes_of, done, number, shown, told, unknown};
+use row_words::{bytes_of, done, shown, told};
 use std::alloc::Global;
 
 // The keys `k0`, `k1` and on, and how many of them were new.
@@ -31,74 +32,75 @@ pub fn steps(held: &mut Held, count: u64) -> u64 {
     made
 }
 
-// A line on one key.
-fn on_key(held: &mut Held, alloc: Global, name: &str, key: &[u8]) -> Result<String, Memory> {
+// A longer run with a count, and whether all went as it should.
+fn run(alloc: Global, name: &str, count: u64) -> Result<bool, Memory> {
     match name {
-        "get" => shown(alloc, held.get(key)),
-        "remove" => shown(alloc, held.remove(key)),
-        "rename" => {
-            let there = held.rename(key)?;
-            told(alloc, there)
-        }
-        _ => unknown(alloc),
+        "agree" => agree(alloc, count),
+        "meets" => meets(alloc, count),
+        "spares" => spares(alloc, count),
+        _ => Ok(false),
     }
 }
 
 // A line with a count.
-fn counted(held: &mut Held, alloc: Global, name: &str, count: u64) -> Result<String, Memory> {
+fn counted(held: &mut Held, alloc: Global, name: &str, words: &[&str]) -> Result<String, Memory> {
+    let count = nth(words, 2);
     match name {
         "names" => {
             let new = put_names(alloc, held, count)?;
             shown(alloc, Some(new))
         }
-        "steps" => shown(alloc, Some(steps(held, count))),
-        "agree" => {
-            let agrees = agree(alloc, count)?;
-            told(alloc, agrees)
-        }
-        "meets" => {
-            let all = meets(alloc, count)?;
+        "steps" => steps_told(held, alloc, count, words),
+        _ => {
+            let all = run(alloc, name, count)?;
             told(alloc, all)
         }
-        "spares" => {
-            let all = spares(alloc, count)?;
-            told(alloc, all)
-        }
-        _ => unknown(alloc),
     }
 }
 
-// A line of one word.
-fn plain(held: &mut Held, alloc: Global, name: &str) -> Result<String, Memory> {
-    match name {
-        "new" => {
-            *held = Held::new(alloc);
-            done(alloc)
+// A line with the number of rehash steps, behind which the most may stand that find a rehash going on.
+fn steps_told(
+    held: &mut Held,
+    alloc: Global,
+    count: u64,
+    words: &[&str],
+) -> Result<String, Memory> {
+    let made = steps(held, count);
+    if words.len() > 3 {
+        told(alloc, made <= nth(words, 3))
+    } else {
+        shown(alloc, Some(made))
+    }
+}
+
+// A line on one key, or with a count.
+fn on_key(held: &mut Held, alloc: Global, words: &[&str], key: &[u8]) -> Result<String, Memory> {
+    match at(words, 1) {
+        "get" => shown(alloc, held.get(key)),
+        "put" => {
+            let old = held.put(key, nth(words, 3))?;
+            shown(alloc, old)
         }
-        "len" => shown(alloc, Some(held.dict.len() as u64)),
-        "shrink" => {
-            let began = held.shrink()?;
-            told(alloc, began)
+        "remove" => shown(alloc, held.remove(key)),
+        "rename" => {
+            let there = held.rename(key)?;
+            told(alloc, there)
         }
-        _ => unknown(alloc),
+        name => counted(held, alloc, name, words),
     }
 }
 
 /// What a line of these words answers.
 pub fn answer(held: &mut Held, alloc: Global, words: &[&str]) -> Result<String, Memory> {
-    match words {
-        ["put", word, value] => {
-            let key = bytes_of(alloc, word)?;
-            let old = held.put(key.as_slice(), number(value))?;
-            shown(alloc, old)
+    match at(words, 1) {
+        "new" => {
+            *held = Held::new(alloc);
+            done(alloc)
         }
-        ["steps", count, most] => told(alloc, steps(held, number(count)) <= number(most)),
-        [name, word] if matches!(*name, "get" | "remove" | "rename") => {
-            let key = bytes_of(alloc, word)?;
-            on_key(held, alloc, name, key.as_slice())
+        "len" => shown(alloc, Some(held.dict.len() as u64)),
+        _ => {
+            let key = bytes_of(alloc, at(words, 2))?;
+            on_key(held, alloc, words, key.as_slice())
         }
-        [name, count] => counted(held, alloc, name, number(count)),
-        [name] => plain(held, alloc, name),
-        _ => unknown(alloc),
     }
 }

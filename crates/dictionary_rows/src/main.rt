@@ -8,13 +8,16 @@ mod cycles;
 mod deadlines;
 mod held;
 mod keyed;
+mod plain;
 mod refusals;
 mod scanning;
 mod timed;
+mod words;
 
 use crate::bare::Bare;
 use crate::deadlines::Found;
 use crate::held::Held;
+use crate::words::at;
 use row_words::unknown;
 use std::alloc::{AllocError, Global};
 use std::io;
@@ -30,10 +33,11 @@ struct State {
 // What a line answers.
 fn answer(state: &mut State, alloc: Global, line: &str) -> Result<String, AllocError> {
     let words: Vec<&str> = line.split(' ').collect(alloc)?;
-    match words.as_slice() {
-        ["keyed", words @ ..] => keyed::answer(&mut state.held, alloc, words),
-        ["bare", words @ ..] => bare::answer(&mut state.bare, alloc, words),
-        ["deadlines", words @ ..] => deadlines::answer(&mut state.found, alloc, words),
+    let words = words.as_slice();
+    match at(words, 0) {
+        "keyed" => keyed::answer(&mut state.held, alloc, words),
+        "bare" => bare::answer(&mut state.bare, alloc, words),
+        "deadlines" => deadlines::answer(&mut state.found, alloc, words),
         _ => unknown(alloc),
     }
 }

@@ -1,25 +1,25 @@
 //! Scans of a dictionary that changes.
 
 use crate::held::{Held, value_at};
+use crate::plain::Plain;
 use rand_core::Rng;
 use rand_pcg::Pcg32;
 use rehash_dict::{Dict, Memory};
 use rev_cursor::BucketScan;
 use std::alloc::Global;
-use std::collections::BTreeMap;
 
 // The values that a move gives are met. The answer is the next cursor.
 fn meet(
     dict: &Dict<u64>,
     cursor: u64,
-    met: &mut BTreeMap<u64, ()>,
+    met: &mut Plain,
     found: &mut Vec<usize>,
 ) -> Result<u64, Memory> {
     found.clear();
     let next = dict.scan_at(cursor, found)?;
     for at in found.iter() {
         if let Some(value) = value_at(dict, *at) {
-            met.insert(value, ())?;
+            met.put(value, Some(value));
         }
     }
     Ok(next)
@@ -39,34 +39,19 @@ fn stir(held: &mut Held, rng: &mut Pcg32, grows: bool) -> Result<(), Memory> {
     Ok(())
 }
 
-// What a scan met of a dictionary that changes between its moves; none where it doesn't end.
-fn scanned(
-    alloc: Global,
-    held: &mut Held,
-    rng: &mut Pcg32,
-    grows: bool,
-) -> Result<Option<BTreeMap<u64, ()>>, Memory> {
-    let mut met = BTreeMap::new(alloc);
+// Whether a scan of a dictionary that changes between its moves ends, and meets the first 40 numbers.
+fn scans(alloc: Global, held: &mut Held, rng: &mut Pcg32, grows: bool) -> Result<bool, Memory> {
+    let mut met = Plain::new();
     let mut found = Vec::new(alloc);
     let mut cursor = 0;
     for _ in 0..4000 {
         cursor = meet(&held.dict, cursor, &mut met, &mut found)?;
         if cursor == 0 {
-            return Ok(Some(met));
+            return Ok(met.count(40) == 40);
         }
         stir(held, rng, grows)?;
     }
-    Ok(None)
-}
-
-// Whether the first 40 numbers are met.
-fn has_first(met: &BTreeMap<u64, ()>) -> bool {
-    for n in 0..40u64 {
-        if !met.contains_key(&n) {
-            return false;
-        }
-    }
-    true
+    Ok(false)
 }
 
 // A dictionary of the first 40 numbers.
@@ -83,13 +68,8 @@ pub fn meets(alloc: Global, rounds: u64) -> Result<bool, Memory> {
     let mut rng = Pcg32::new(7, 54);
     let mut held = of_first(alloc)?;
     for round in 0..rounds {
-        match scanned(alloc, &mut held, &mut rng, round / 4 % 2 == 0)? {
-            Some(met) => {
-                if !has_first(&met) {
-                    return Ok(false);
-                }
-            }
-            None => return Ok(false),
+        if !scans(alloc, &mut held, &mut rng, round / 4 % 2 == 0)? {
+            return Ok(false);
         }
     }
     Ok(true)

@@ -9,9 +9,6 @@ mod tables;
 
 use tables::TABLES;
 
-#[cfg(test)]
-mod tests;
-
 /// What the table has for the lowest byte of the state with a byte of the text.
 fn entry(table: &[u64], state: u64, byte: u8) -> u64
     requires { length table.now ≡ 256 }

@@ -114,6 +114,3 @@ pub fn sip(c: u32, d: u32, k0: u64, k1: u64, bytes: &[u8]) -> u64
     let last = last_bytes(&bytes[8 * words..], bytes.len());
     state.absorb(c, LittleEndian::read_u64(&last)).finish(d)
 }
-
-#[cfg(test)]
-mod tests;

@@ -3,8 +3,6 @@
 
 mod class;
 mod piece;
-#[cfg(test)]
-mod tests;
 mod walk;
 
 pub use walk::matches;

@@ -9,8 +9,6 @@ mod digits;
 mod exponent;
 mod laws;
 mod score;
-#[cfg(test)]
-mod tests;
 mod value;
 
 pub use decimal::{Memory, print, read_i64, read_u64};

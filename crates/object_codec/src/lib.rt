@@ -5,8 +5,6 @@ mod form;
 mod laws;
 mod limits;
 mod name;
-#[cfg(test)]
-mod tests;
 
 pub use form::{Form, hash_form, list_form, set_form, zset_form};
 pub use laws::{forms_are_one, forms_rise};

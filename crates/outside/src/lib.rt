@@ -10,8 +10,6 @@ mod memory;
 mod pacing;
 mod standard;
 mod streams;
-#[cfg(test)]
-mod tests;
 mod time;
 
 pub use faults::{HostFault, ReadFault, WriteFault};

@@ -4,8 +4,6 @@
 mod cursor;
 mod laws;
 mod scan;
-#[cfg(test)]
-mod tests;
 
 pub use cursor::{next, place};
 pub use laws::{covering_law, one_table_law};

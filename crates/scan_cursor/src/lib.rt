@@ -5,9 +5,6 @@ ghost use Rattle.std.specs.Prelude.{◌≡◌, ◌<◌, ℕ, Option, IfOk};
 ghost use Rattle.rev_cursor.specs.Span.{Span};
 ghost use Rattle.scan_cursor.specs.Page.{scan_list};
 
-#[cfg(test)]
-mod tests;
-
 use rev_cursor::BucketScan;
 pub use rev_cursor::Memory;
 use std::alloc::Global;

@@ -1,6 +1,7 @@
 //! Lines of consumer groups.
 
-use row_words::{bytes_of, done, number, shown, told, unknown};
+use crate::words::{at, nth};
+use row_words::{bytes_of, done, shown, told, unknown};
 use std::alloc::Global;
 use stream_groups::{Bytes, Groups, Id, Memory, Waiting, WaitingEntry};
 
@@ -20,17 +21,17 @@ impl Grouped {
     }
 }
 
-// The id of two words.
-fn id(ms: &str, seq: &str) -> Id {
-    (number(ms), number(seq))
+// The id that the words at an index and behind it are.
+fn id(words: &[&str], index: usize) -> Id {
+    (nth(words, index), nth(words, index.wrapping_add(1)))
 }
 
-// The ids of several words, two for each.
-fn ids_of(alloc: Global, words: &[&str]) -> Result<Vec<Id>, Memory> {
+// The ids of the words from an index on, two for each.
+fn ids_of(alloc: Global, words: &[&str], from: usize) -> Result<Vec<Id>, Memory> {
     let mut ids = Vec::new(alloc);
-    for pair in words.chunks(2) {
-        if let [ms, seq] = pair {
-            ids.push(id(ms, seq))?;
+    for index in from..words.len() {
+        if index % 2 != from % 2 {
+            ids.push(id(words, index.wrapping_sub(1)))?;
         }
     }
     Ok(ids)
@@ -88,29 +89,77 @@ fn set(
     Ok((added, there.is_some()))
 }
 
+// The last id that a group has delivered.
+fn last_shown(alloc: Global, last: Option<Id>) -> Result<String, Memory> {
+    format!(in alloc; "{last:?}")
+}
+
+// A name, and `None` for none.
+fn name_shown(alloc: Global, name: Option<&[u8]>) -> Result<String, Memory> {
+    format!(in alloc; "{name:?}")
+}
+
+// The bytes that a name keeps.
+fn bytes_shown(alloc: Global, name: &[u8]) -> Result<String, Memory> {
+    let made = Bytes::new(alloc, name)?;
+    let bytes = made.as_slice();
+    format!(in alloc; "{bytes:?}")
+}
+
 // A line on a group.
 fn on_group(state: &mut Grouped, alloc: Global, call: &str, name: &[u8]) -> Result<String, Memory> {
     match call {
         "destroy" => told(alloc, state.groups.destroy(name)),
-        "last" => {
-            let last = state.groups.last(name);
-            format!(in alloc; "{last:?}")
-        }
-        "kept" => {
-            let last = state.kept.last(name);
-            format!(in alloc; "{last:?}")
-        }
+        "last" => last_shown(alloc, state.groups.last(name)),
+        "kept" => last_shown(alloc, state.kept.last(name)),
         "pending" => {
             let pending = state.groups.pending(name)?;
             pending_shown(alloc, pending)
         }
-        "bytes" => {
-            let made = Bytes::new(alloc, name)?;
-            let bytes = made.as_slice();
-            format!(in alloc; "{bytes:?}")
-        }
+        "bytes" => bytes_shown(alloc, name),
         _ => unknown(alloc),
     }
+}
+
+// Delivers the ids from the seventh word on to a consumer at a moment, and tells whether the group is there.
+fn deliver(
+    groups: &mut Groups,
+    alloc: Global,
+    name: &[u8],
+    words: &[&str],
+) -> Result<bool, Memory> {
+    let ids = ids_of(alloc, words, 6)?;
+    let there = groups.deliver(name, at(words, 4).as_bytes(), &ids, nth(words, 5))?;
+    Ok(there.is_some())
+}
+
+// The ids that are pending for a consumer above one.
+fn pending_of(
+    groups: &Groups,
+    alloc: Global,
+    name: &[u8],
+    words: &[&str],
+) -> Result<String, Memory> {
+    let listed = groups.pending_of(name, at(words, 4).as_bytes(), id(words, 5), nth(words, 7))?;
+    format!(in alloc; "{listed:?}")
+}
+
+// Adds a consumer.
+fn consumer(groups: &mut Groups, alloc: Global, name: &[u8], word: &str) -> Result<String, Memory> {
+    let added = groups.add_consumer(name, word.as_bytes())?;
+    format!(in alloc; "{added:?}")
+}
+
+// Sets an entry for a consumer that is added.
+fn set_shown(
+    groups: &mut Groups,
+    alloc: Global,
+    name: &[u8],
+    words: &[&str],
+) -> Result<String, Memory> {
+    let handed = (nth(words, 7), nth(words, 8));
+    let outcome = set(groups, name, at(words, 4).as_bytes(), id(words, 5), handed)?;
+    format!(in alloc; "{outcome:?}")
 }
 
 // A line on a group and more words.
@@ -120,76 +169,62 @@ fn with_words(
     name: &[u8],
     words: &[&str],
 ) -> Result<String, Memory> {
-    match words {
-        ["create", ms, seq] => {
-            let is_new = groups.create(name, id(ms, seq))?;
+    match at(words, 3) {
+        "create" => {
+            let is_new = groups.create(name, id(words, 4))?;
             told(alloc, is_new)
         }
-        ["consumer", consumer] => {
-            let added = groups.add_consumer(name, consumer.as_bytes())?;
-            format!(in alloc; "{added:?}")
+        "consumer" => consumer(groups, alloc, name, at(words, 4)),
+        "deliver" => {
+            let there = deliver(groups, alloc, name, words)?;
+            told(alloc, there)
         }
-        ["deliver", consumer, moment, ids @ ..] => {
-            let ids = ids_of(alloc, ids)?;
-            let there = groups.deliver(name, consumer.as_bytes(), &ids, number(moment))?;
-            told(alloc, there.is_some())
-        }
-        ["pending_of", consumer, ms, seq, limit] => {
-            let listed = groups.pending_of(name, consumer.as_bytes(), id(ms, seq), number(limit))?;
-            format!(in alloc; "{listed:?}")
-        }
-        ["ack", ms, seq] => told(alloc, groups.ack(name, id(ms, seq))),
-        ["again", ms, seq, moment] => told(alloc, groups.again(name, id(ms, seq), number(moment))),
-        ["set", consumer, ms, seq, moment, count] => {
-            let handed = (number(moment), number(count));
-            let outcome = set(groups, name, consumer.as_bytes(), id(ms, seq), handed)?;
-            format!(in alloc; "{outcome:?}")
-        }
+        "pending_of" => pending_of(groups, alloc, name, words),
+        "ack" => told(alloc, groups.ack(name, id(words, 4))),
+        "again" => told(alloc, groups.again(name, id(words, 4), nth(words, 6))),
+        "set" => set_shown(groups, alloc, name, words),
         _ => unknown(alloc),
     }
 }
 
 // A line on what stands at places.
 fn at_place(groups: &Groups, alloc: Global, words: &[&str]) -> Result<String, Memory> {
-    match words {
-        ["group", index] => {
-            let name = groups.group_name(number(index) as usize);
-            format!(in alloc; "{name:?}")
-        }
-        ["consumer", group, index] => {
-            let name = groups.consumer_name(number(group) as usize, number(index) as usize);
-            format!(in alloc; "{name:?}")
-        }
-        ["first", group] => entry_shown(alloc, groups.pending_after(number(group) as usize, None)),
-        ["after", group, ms, seq] => {
-            let above = Some(id(ms, seq));
-            entry_shown(alloc, groups.pending_after(number(group) as usize, above))
-        }
-        _ => unknown(alloc),
+    let place = nth(words, 3) as usize;
+    match at(words, 2) {
+        "group" => name_shown(alloc, groups.group_name(place)),
+        "consumer" => name_shown(alloc, groups.consumer_name(place, nth(words, 4) as usize)),
+        "first" => entry_shown(alloc, groups.pending_after(place, None)),
+        _ => entry_shown(alloc, groups.pending_after(place, Some(id(words, 4)))),
+    }
+}
+
+// A line that only does something.
+fn act(state: &mut Grouped, alloc: Global, name: &str) -> Result<(), Memory> {
+    match name {
+        "new" => state.groups = Groups::new(alloc),
+        _ => state.kept = state.groups.copy()?,
+    }
+    Ok(())
+}
+
+// A line that begins with a group's name.
+fn named(state: &mut Grouped, alloc: Global, words: &[&str]) -> Result<String, Memory> {
+    let name = bytes_of(alloc, at(words, 2))?;
+    match at(words, 1) {
+        "of" => with_words(&mut state.groups, alloc, name.as_slice(), words),
+        call => on_group(state, alloc, call, name.as_slice()),
     }
 }
 
 /// What a line of these words answers.
 pub fn answer(state: &mut Grouped, alloc: Global, words: &[&str]) -> Result<String, Memory> {
-    match words {
-        ["new"] => {
-            state.groups = Groups::new(alloc);
+    match at(words, 1) {
+        "new" | "keep" => {
+            act(state, alloc, at(words, 1))?;
             done(alloc)
         }
-        ["keep"] => {
-            state.kept = state.groups.copy()?;
-            done(alloc)
-        }
-        ["count"] => shown(alloc, Some(state.groups.groups() as u64)),
-        ["place", words @ ..] => at_place(&state.groups, alloc, words),
-        [call, name] => {
-            let name = bytes_of(alloc, name)?;
-            on_group(state, alloc, call, name.as_slice())
-        }
-        ["of", name, words @ ..] => {
-            let name = bytes_of(alloc, name)?;
-            with_words(&mut state.groups, alloc, name.as_slice(), words)
-        }
-        _ => unknown(alloc),
+        "count" => shown(alloc, Some(state.groups.groups() as u64)),
+        "place" => at_place(&state.groups, alloc, words),
+        _ => named(state, alloc, words),
     }
 }

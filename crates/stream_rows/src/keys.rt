@@ -1,24 +1,19 @@
-//! Keys of sixteen bytes, and a sorted list of them.
+//! Keys of sixteen bytes, and a plain table of them.
 
 use row_words::number;
-use std::alloc::{AllocError, Global};
 
 pub type Key = [u8; 16];
 
 /// The key of the id `ms-1`: both numbers in eight bytes, the highest first.
 pub fn id(ms: u32) -> Key {
-    let mut key = [0; 16];
-    key[4..8].copy_from_slice(&ms.to_be_bytes());
-    key[15] = 1;
-    key
+    let [a, b, c, d] = ms.to_be_bytes();
+    [0, 0, 0, 0, a, b, c, d, 0, 0, 0, 0, 0, 0, 0, 1]
 }
 
 // The key that is 1 at a place, and 0 at all others.
 fn one_at(place: usize) -> Key {
     let mut key = [0; 16];
-    if let Some(byte) = key.get_mut(place) {
-        *byte = 1;
-    }
+    key[place % 16] = 1;
     key
 }
 
@@ -32,72 +27,61 @@ pub fn named(kind: &str, word: &str) -> Key {
     }
 }
 
-/// A key of ninety-six, which share long beginnings.
-pub fn key_of(word: u32) -> Key {
+/// How many keys a table has.
+pub const KEYS: usize = 96;
+
+/// The key of a rank among ninety-six, which share long beginnings.
+pub fn key_of(rank: usize) -> Key {
     let mut key = [7; 16];
-    key[2] = (word % 3) as u8;
-    key[7] = (word / 3 % 4 * 80) as u8;
-    key[15] = (word / 12 % 8 * 36) as u8;
+    key[2] = (rank / 32 % 3) as u8;
+    key[7] = (rank / 8 % 4 * 80) as u8;
+    key[15] = (rank % 8 * 36) as u8;
     key
 }
 
-/// Keys in their order, each with its value.
+/// Values of the ninety-six keys, by their ranks.
 #[derive(Drop)]
-pub struct Sorted {
-    pub list: Vec<(Key, u32)>,
+pub struct Table {
+    values: [Option<u32>; KEYS],
 }
 
-impl Sorted {
-    pub fn new(alloc: Global) -> Sorted {
-        Sorted {
-            list: Vec::new(alloc),
+impl Table {
+    pub fn new() -> Table {
+        Table {
+            values: [None; KEYS],
         }
-    }
-
-    // How many keys come before a key.
-    fn place_of(&self, key: &Key) -> usize {
-        self.list.iter().filter(|entry| entry.0 < *key).count()
     }
 
     /// The value of a key.
-    pub fn find(&self, key: &Key) -> Option<u32> {
-        match self.list.get(self.place_of(key)) {
-            Some(entry) if entry.0 == *key => Some(entry.1),
-            _ => None,
-        }
+    pub fn find(&self, rank: usize) -> Option<u32> {
+        self.values[rank % KEYS]
+    }
+
+    /// Puts a value at a key, or takes the key out, and answers the value that stood there.
+    pub fn put(&mut self, rank: usize, value: Option<u32>) -> Option<u32> {
+        let old = self.values[rank % KEYS];
+        self.values[rank % KEYS] = value;
+        old
     }
 
     /// The first key that is this one or behind it.
-    pub fn after(&self, key: &Key) -> Option<Key> {
-        self.list.get(self.place_of(key)).map(|entry| entry.0)
+    pub fn after(&self, rank: usize) -> Option<Key> {
+        for other in rank..KEYS {
+            if self.values[other].is_some() {
+                return Some(key_of(other));
+            }
+        }
+        None
     }
 
     /// The last key that is this one or before it.
-    pub fn before(&self, key: &Key) -> Option<Key> {
-        if self.find(key).is_some() {
-            return Some(*key);
+    pub fn before(&self, rank: usize) -> Option<Key> {
+        let mut found = None;
+        for other in 0..KEYS {
+            if other <= rank && self.values[other].is_some() {
+                found = Some(key_of(other));
+            }
         }
-        let place = self.place_of(key);
-        if place == 0 {
-            None
-        } else {
-            self.list.get(place - 1).map(|entry| entry.0)
-        }
-    }
-
-    /// Takes a key out.
-    pub fn remove(&mut self, key: &Key) {
-        let place = self.place_of(key);
-        if place < self.list.len() && self.list[place].0 == *key {
-            self.list.remove(place);
-        }
-    }
-
-    /// Puts a value at a key.
-    pub fn insert(&mut self, key: Key, value: u32) -> Result<(), AllocError> {
-        self.remove(&key);
-        let place = self.place_of(&key).min(self.list.len());
-        self.list.insert(place, (key, value))?;
-        Ok(())
+        found
     }
 }

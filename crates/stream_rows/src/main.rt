@@ -8,11 +8,11 @@ mod grouped;
 mod keys;
 mod nodes;
 mod packed;
-mod rising;
+mod words;
 
 use crate::grouped::Grouped;
 use crate::packed::Held;
-use rax_tree::Tree;
+use crate::words::at;
 use row_words::unknown;
 use std::alloc::{AllocError, Global};
 use std::io;
@@ -21,18 +21,17 @@ use std::io;
 #[derive(Drop)]
 struct State {
     packed: Held,
-    tree: Tree<u32>,
     grouped: Grouped,
 }
 
 // What a line answers.
 fn answer(state: &mut State, alloc: Global, line: &str) -> Result<String, AllocError> {
     let words: Vec<&str> = line.split(' ').collect(alloc)?;
-    match words.as_slice() {
-        ["packed", words @ ..] => packed::answer(&mut state.packed, alloc, words),
-        ["tree", words @ ..] => rising::answer(&mut state.tree, alloc, words),
-        ["node", words @ ..] => nodes::answer(alloc, words),
-        ["groups", words @ ..] => grouped::answer(&mut state.grouped, alloc, words),
+    let words = words.as_slice();
+    match at(words, 0) {
+        "packed" => packed::answer(&mut state.packed, alloc, words),
+        "node" => nodes::answer(alloc, words),
+        "groups" => grouped::answer(&mut state.grouped, alloc, words),
         _ => unknown(alloc),
     }
 }
@@ -41,7 +40,6 @@ fn main(rt: HostRuntime) -> io::Result<()> {
     let text = io::read_to_string(rt.alloc(), rt.stdin())?;
     let mut state = State {
         packed: Held::new(rt.alloc()),
-        tree: Tree::new(rt.alloc()),
         grouped: Grouped::new(rt.alloc()),
     };
     for line in text.lines() {

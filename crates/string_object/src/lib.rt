@@ -4,8 +4,6 @@
 mod laws;
 mod print;
 mod relocate;
-#[cfg(test)]
-mod tests;
 mod text;
 
 pub use laws::text_laws;

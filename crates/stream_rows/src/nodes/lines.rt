@@ -2,9 +2,10 @@
 
 use super::reading::{fault_of, first_of, pack_of, pairs_of};
 use super::writing::{KEY, counted, mark_first, written};
-use row_words::{number, shown, told, unknown};
+use crate::words::{at, from, nth};
+use row_words::{shown, told, unknown};
 use std::alloc::Global;
-use stream_node::{Id, Memory, Node, NodeFault, check};
+use stream_node::{Entry, Id, Memory, Node, NodeFault, check};
 
 // The entries of a node: the id of each, whether it is marked deleted, and how many fields it has.
 fn listed(alloc: Global, node: &Node) -> Result<Vec<(u64, u64, bool, usize)>, Memory> {
@@ -16,39 +17,59 @@ fn listed(alloc: Global, node: &Node) -> Result<Vec<(u64, u64, bool, usize)>, Me
     Ok(found)
 }
 
+// All fields and values of an entry.
+fn pairs_shown(alloc: Global, entry: &Entry) -> Result<String, Memory> {
+    let pairs = pairs_of(alloc, entry)?;
+    format!(in alloc; "{pairs:?}")
+}
+
+// The first field of an entry and its value.
+fn pair_shown(alloc: Global, entry: &Entry) -> Result<String, Memory> {
+    let pair = first_of(alloc, entry)?;
+    format!(in alloc; "{pair:?}")
+}
+
 // A line on the entry at an index of a node.
-fn on_entry(alloc: Global, node: &Node, call: &str, index: usize) -> Result<String, Memory> {
-    let Some(entry) = node.entries().nth(index) else {
-        return unknown(alloc);
-    };
-    match call {
-        "pairs" => {
-            let pairs = pairs_of(alloc, &entry)?;
-            format!(in alloc; "{pairs:?}")
-        }
-        "pair" => {
-            let pair = first_of(alloc, &entry)?;
-            format!(in alloc; "{pair:?}")
-        }
-        _ => unknown(alloc),
+fn on_entry(alloc: Global, node: &Node, words: &[&str]) -> Result<String, Memory> {
+    match node.entries().nth(nth(words, 2) as usize) {
+        Some(entry) => match at(words, 1) {
+            "pairs" => pairs_shown(alloc, &entry),
+            _ => pair_shown(alloc, &entry),
+        },
+        None => unknown(alloc),
+    }
+}
+
+// All entries of a node.
+fn entries_shown(alloc: Global, node: &Node) -> Result<String, Memory> {
+    let found = listed(alloc, node)?;
+    format!(in alloc; "{found:?}")
+}
+
+// A line on a node.
+fn with_node(alloc: Global, node: &Node, words: &[&str]) -> Result<String, Memory> {
+    match at(words, 1) {
+        "entries" => entries_shown(alloc, node),
+        _ => on_entry(alloc, node, words),
     }
 }
 
 // A line on the node that a listpack is.
-fn on_node(alloc: Global, pack: &[u8], call: &str, index: Option<usize>) -> Result<String, Memory> {
+fn on_node(alloc: Global, pack: &[u8], words: &[&str]) -> Result<String, Memory> {
     match listpack::check(pack) {
-        Ok(words) => match check(KEY, &words) {
-            Ok(node) => match index {
-                Some(index) => on_entry(alloc, &node, call, index),
-                None => {
-                    let found = listed(alloc, &node)?;
-                    format!(in alloc; "{found:?}")
-                }
-            },
+        Ok(listed) => match check(KEY, &listed) {
+            Ok(node) => with_node(alloc, &node, words),
             Err(_) => unknown(alloc),
         },
         Err(_) => unknown(alloc),
     }
+}
+
+// The fault of the listpack that these words are.
+fn fault_shown(alloc: Global, words: &[&str]) -> Result<String, Memory> {
+    let pack = pack_of(alloc, words)?;
+    let fault = fault_of(&pack);
+    format!(in alloc; "{fault:?}")
 }
 
 // The bytes of a node that is written, and marked where that is asked for.
@@ -60,43 +81,33 @@ fn bytes_written(alloc: Global, marks: bool, words: &[&str]) -> Result<String, M
     format!(in alloc; "{pack:?}")
 }
 
-// Whether one id is below another.
-fn below(words: [&str; 4]) -> bool {
-    let [ms, seq, other_ms, other_seq] = words;
-    let id = Id {
-        ms: number(ms),
-        seq: number(seq),
-    };
-    id.is_below(Id {
-        ms: number(other_ms),
-        seq: number(other_seq),
-    })
+// The id of two words.
+fn id(words: &[&str], index: usize) -> Id {
+    Id {
+        ms: nth(words, index),
+        seq: nth(words, index.wrapping_add(1)),
+    }
+}
+
+// The node that the words from an index on are.
+fn of_pack(alloc: Global, words: &[&str], index: usize) -> Result<String, Memory> {
+    let pack = pack_of(alloc, from(words, index))?;
+    on_node(alloc, &pack, words)
 }
 
 /// What a line of these words answers.
 pub fn answer(alloc: Global, words: &[&str]) -> Result<String, Memory> {
-    match words {
-        ["order"] => shown(alloc, Some(u64::from(NodeFault::Order.number()))),
-        ["below", a, b, c, d] => told(alloc, below([*a, *b, *c, *d])),
-        ["fields", words @ ..] => {
-            let count = counted(alloc, words)?;
+    match at(words, 1) {
+        "order" => shown(alloc, Some(u64::from(NodeFault::Order.number()))),
+        "below" => told(alloc, id(words, 2).is_below(id(words, 4))),
+        "fields" => {
+            let count = counted(alloc, from(words, 2))?;
             shown(alloc, Some(count as u64))
         }
-        ["write", words @ ..] => bytes_written(alloc, false, words),
-        ["mark", words @ ..] => bytes_written(alloc, true, words),
-        ["check", words @ ..] => {
-            let pack = pack_of(alloc, words)?;
-            let fault = fault_of(&pack);
-            format!(in alloc; "{fault:?}")
-        }
-        ["entries", words @ ..] => {
-            let pack = pack_of(alloc, words)?;
-            on_node(alloc, &pack, "entries", None)
-        }
-        [call, index, words @ ..] => {
-            let pack = pack_of(alloc, words)?;
-            on_node(alloc, &pack, call, Some(number(index) as usize))
-        }
-        _ => unknown(alloc),
+        "write" => bytes_written(alloc, false, from(words, 2)),
+        "mark" => bytes_written(alloc, true, from(words, 2)),
+        "check" => fault_shown(alloc, from(words, 2)),
+        "entries" => of_pack(alloc, words, 2),
+        _ => of_pack(alloc, words, 3),
     }
 }

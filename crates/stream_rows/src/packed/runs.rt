@@ -1,66 +1,67 @@
-//! Longer runs: edits beside a sorted list, and passes that pack all nodes.
+//! Longer runs: edits beside a plain table, and passes that pack all nodes.
 
 use super::held::{Held, used, value_of};
-use crate::keys::{Key, Sorted, id, key_of};
+use crate::keys::{KEYS, Table, id, key_of};
 use blocks::BlockStore;
 use rand_core::Rng;
 use rand_pcg::Pcg32;
 use rax_packed::Memory;
 use std::alloc::Global;
 
-// Whether every answer about a key is that of the sorted list.
-fn same(held: &Held, sorted: &Sorted, key: &Key) -> bool {
-    held.find(key) == sorted.find(key).map(value_of)
-        && held.after(key) == sorted.after(key)
-        && held.before(key) == sorted.before(key)
+// Whether every answer about a key is that of the table.
+fn same(held: &Held, table: &Table, rank: usize) -> bool {
+    let key = key_of(rank);
+    held.find(&key) == table.find(rank).map(value_of)
+        && held.after(&key) == table.after(rank)
+        && held.before(&key) == table.before(rank)
 }
 
 // Puts a value at a key of both, or takes the key out of both, and tells whether both had the same there.
-fn edit(held: &mut Held, sorted: &mut Sorted, key: Key, put: Option<u32>) -> Result<bool, Memory> {
-    let stood = sorted.find(&key).map(value_of);
+fn edit(held: &mut Held, table: &mut Table, rank: usize, put: Option<u32>) -> Result<bool, Memory> {
+    let key = key_of(rank);
+    let stood = table.put(rank, put).map(value_of);
     match put {
-        Some(value) => {
-            sorted.insert(key, value)?;
-            Ok(held.insert(&key, value_of(value))? == stood)
-        }
-        None => {
-            sorted.remove(&key);
-            Ok(held.remove(&key) == stood)
-        }
+        Some(value) => Ok(held.insert(&key, value_of(value))? == stood),
+        None => Ok(held.remove(&key) == stood),
     }
 }
 
 // The nodes of all keys together.
-fn nodes_of_all(held: &Held, sorted: &Sorted) -> usize {
+fn nodes_of_all(held: &Held) -> usize {
     let mut sum: usize = 0;
-    for entry in &sorted.list {
-        sum = sum.wrapping_add(held.nodes(&entry.0));
+    for rank in 0..KEYS {
+        sum = sum.wrapping_add(held.nodes(&key_of(rank)));
     }
     sum
 }
 
 // Goes on with a copy, and tells whether each block is a node of one key.
-fn copies(held: &mut Held, sorted: &Sorted) -> Result<bool, Memory> {
+fn copies(held: &mut Held) -> Result<bool, Memory> {
     held.copy()?;
-    Ok(nodes_of_all(held, sorted) == used(&held.store))
+    Ok(nodes_of_all(held) == used(&held.store))
 }
 
-/// Whether so many edits answer as a sorted list does. The map grows, shrinks and grows again.
+// The rank of a key that is drawn.
+fn drawn(rng: &mut Pcg32) -> usize {
+    rng.next_u32() as usize % KEYS
+}
+
+/// Whether so many edits answer as a plain table does. The map grows, shrinks and grows again.
 pub fn agree(alloc: Global, rounds: u32) -> Result<bool, Memory> {
     let mut rng = Pcg32::new(11, 54);
     let mut held = Held::new(alloc);
-    let mut sorted = Sorted::new(alloc);
+    let mut table = Table::new();
     for round in 0..rounds {
-        let key = key_of(rng.next_u32());
+        let rank = drawn(&mut rng);
         let puts = rng.next_u32() % 8 < 2 + round / 1000 % 2 * 4;
         let put = if puts { Some(round) } else { None };
-        if !edit(&mut held, &mut sorted, key, put)?
-            || !same(&held, &sorted, &key)
-            || !same(&held, &sorted, &key_of(rng.next_u32()))
+        if !edit(&mut held, &mut table, rank, put)?
+            || !same(&held, &table, rank)
+            || !same(&held, &table, drawn(&mut rng))
         {
             return Ok(false);
         }
-        if round % 97 == 0 && !copies(&mut held, &sorted)? {
+        if round % 97 == 0 && !copies(&mut held)? {
             return Ok(false);
         }
     }
@@ -68,7 +69,7 @@ pub fn agree(alloc: Global, rounds: u32) -> Result<bool, Memory> {
 }
 
 // How many keys the table of a pass has.
-const KEYS: usize = 6000;
+const MANY: usize = 6000;
 
 // Whether each class has as few slabs as its blocks need.
 fn is_packed(held: &Held) -> bool {
@@ -139,7 +140,7 @@ fn passes(held: &mut Held, stands: &[bool], many: bool) -> bool {
 pub fn packs(alloc: Global, rounds: u32) -> Result<bool, Memory> {
     let mut rng = Pcg32::new(7, 9);
     let mut held = Held::new(alloc);
-    let mut stands = [false; KEYS];
+    let mut stands = [false; MANY];
     for round in 0..rounds {
         stir(&mut held, &mut stands, &mut rng, round % 3 < 2)?;
         if round % 2 == 1 {

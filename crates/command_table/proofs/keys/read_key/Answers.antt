@@ -1,9 +1,9 @@
-use Rattle.std.proofs.Common.{[], ◌∷◌, Ok, refl, rules}
-use Rattle.plain_model.specs.Shapes.{Plain, Database}
-use Rattle.plain_model.specs.KeyWords.{copy_options, no_copy_options}
+use Rattle.std.proofs.Common.{[], ◌∷◌, drop, Ok, refl, rules}
+use Rattle.plain_model.specs.Shapes.{Plain, Database, Cursor, fixed, by_second, with_options}
+use Rattle.plain_model.specs.KeyWords.{copy_options, no_copy_options, scan_options, no_scan_options, object_rows}
 use Rattle.plain_model.specs.declared.command.Command.TheVariants.{Keys}
 use Rattle.plain_model.specs.declared.keys.KeyCommand.TheVariants as keys
-use Rattle.command_table.proofs.Arms.{fixed_made, options_made, expire_made}
+use Rattle.command_table.proofs.Arms.{fixed_made, gathered, lifted, options_made, expire_made}
 use Rattle.command_table.proofs.keys.read_key.Goals as goal
 
 pub returns-in-Expire : goal.returns-in-Expire
@@ -48,3 +48,27 @@ returns-in-MoveKey c = rw c.in-MoveKey.is (fixed_made Keys (Plain ∷ Database �
 pub returns-in-CopyKey : goal.returns-in-CopyKey
 returns-in-CopyKey c =
     rw c.in-CopyKey.is (options_made Keys (Plain ∷ Plain ∷ []) copy_options no_copy_options (λ a. ((a.0, (a.1, tt)), a.2)) (λ a options. Ok (keys.Copy a.0 a.1.0 options)) (λ a. keys.Copy a.0 a.1 a.2) (λ a. refl) c.args.request.now c.two_and_options.result _ (rw c.no_copy_options.ensures at c.two_and_options.ensures) (search rules))
+
+pub returns-in-Del : goal.returns-in-Del
+returns-in-Del c = rw c.in-Del.is (gathered Keys 1 (λ w. w) keys.Del (λ list. refl) c.args.request.now c.words.result _ c.words.ensures (search rules))
+
+pub returns-in-Unlink : goal.returns-in-Unlink
+returns-in-Unlink c = rw c.in-Unlink.is (gathered Keys 1 (λ w. w) keys.Unlink (λ list. refl) c.args.request.now c.words-in-Unlink.result _ c.words-in-Unlink.ensures (search rules))
+
+pub returns-in-Exists : goal.returns-in-Exists
+returns-in-Exists c = rw c.in-Exists.is (gathered Keys 1 (λ w. w) keys.Exists (λ list. refl) c.args.request.now c.words-in-Exists.result _ c.words-in-Exists.ensures (search rules))
+
+pub returns-in-Touch : goal.returns-in-Touch
+returns-in-Touch c = rw c.in-Touch.is (gathered Keys 1 (λ w. w) keys.Touch (λ list. refl) c.args.request.now c.words-in-Touch.result _ c.words-in-Touch.ensures (search rules))
+
+pub returns-in-TypeOf : goal.returns-in-TypeOf
+returns-in-TypeOf c = rw c.in-TypeOf.is (fixed_made Keys (Plain ∷ []) (λ a. (a, tt)) (λ a. Ok (keys.TypeOf a.0)) keys.TypeOf (λ a. refl) c.args.request.now c.one.result _ c.one.ensures (search rules))
+
+pub returns-in-Object : goal.returns-in-Object
+returns-in-Object c = rw c.in-Object.is (lifted Keys (by_second 2 object_rows (drop 1 c.args.request.now)) c.object.result c.object.ensures)
+
+pub returns-in-RandomKey : goal.returns-in-RandomKey
+returns-in-RandomKey c = rw c.in-RandomKey.is (lifted Keys (fixed [] (λ a. Ok keys.RandomKey) (drop 1 c.args.request.now)) c.alone.result c.alone.ensures)
+
+pub returns-in-Scan : goal.returns-in-Scan
+returns-in-Scan c = rw c.in-Scan.is (lifted Keys (with_options (Cursor ∷ []) scan_options no_scan_options (λ a options. Ok (keys.Scan a.0 options)) (drop 1 c.args.request.now)) c.scan.result c.scan.ensures)
