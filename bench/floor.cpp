@@ -284,6 +284,8 @@ static void execute_of_stream(const Words &words) {
     auto first = stream.entries.lower_bound(id(words[2])), behind = first;
     for (size_t left = place(words[5]); left > 0 && behind != stream.entries.end(); left--) ++behind;
     tell(first, behind);
+  } else if (name == "XDEL") {
+    number(stream.entries.erase(id(words[2])));
   } else if (name == "XACK") {
     Group &group = stream.groups[std::string(words[2])];
     long long gone = 0;

@@ -7,7 +7,7 @@ usage: workloads.py set|get|incr|setex|expire|mset|mget|append|del|mix KEYS REQU
        workloads.py zadd|zrescore|zrank|zrange|zbyscore|zincrby|zaddpop KEYS REQUESTS BYTES PREPARED MEASURED MEMBERS
        workloads.py sadd|sismember|spop|sinter KEYS REQUESTS BYTES PREPARED MEASURED MEMBERS
        workloads.py hset|hreset|hget|hgetall|hincrby KEYS REQUESTS BYTES PREPARED MEASURED FIELDS
-       workloads.py xadd|xrange|xreadgroup KEYS REQUESTS BYTES PREPARED MEASURED ENTRIES
+       workloads.py xadd|xrange|xdel|xreadgroup KEYS REQUESTS BYTES PREPARED MEASURED ENTRIES
 
 A key has 16 bytes, and a value as many as BYTES says; for INCR a value is a number. MSET and MGET name 10 keys. The mix is of 80
 percent GET, 15 SET and 5 EXPIRE, with few keys that are named often. All keys are there before, but for those that DEL named.
@@ -27,7 +27,7 @@ Each key of the fifth line is a hash of so many fields, which have as many bytes
 adds a new field, or gives one that is there another value.
 
 Each key of the last line is a stream of so many entries of two fields, whose values have as many bytes. XRANGE tells ten entries from
-any on. A group reads the next ten and then acknowledges them by two requests; ask for half of all entries at most, lest a stream ends.
+any on, and XDEL takes out one after the other in any order. A group reads the next ten and then acknowledges them by two requests; ask for half of all entries at most, lest a stream ends.
 """
 import collections
 import random
@@ -47,14 +47,17 @@ LISTS = ("lpush", "pushpop", "lrange", "lindex", "lpos")
 ZSETS = ("zadd", "zrescore", "zrank", "zrange", "zbyscore", "zincrby", "zaddpop")
 SETS = ("sadd", "sismember", "spop", "sinter")
 HASHES = ("hset", "hreset", "hget", "hgetall", "hincrby")
-STREAMS = ("xadd", "xrange", "xreadgroup")
+STREAMS = ("xadd", "xrange", "xdel", "xreadgroup")
 PUSHED = 100
 SCORES = 1_000_003
 RANGE = 10
 TOLD = 100
-# the set that SINTER joins each other with, and how many entries of each stream the group has read
+# the set that SINTER joins each other with, how many entries of each stream the group has read, and how many XDEL has taken out
 OTHER = b"other"
 read = collections.Counter()
+taken = collections.Counter()
+# XDEL goes round the entries by steps of this prime, and so meets each once
+STEP = 7_919
 
 
 def name(number):
@@ -194,6 +197,9 @@ def of_stream(kind, i, key, dice, entries, length):
     if kind == "xrange":
         first = dice.randrange(max(entries - RANGE, 0) + 1)
         return [request(b"XRANGE", key, entry_id(first), b"+", b"COUNT", b"%d" % RANGE)]
+    if kind == "xdel":
+        taken[key] += STEP
+        return [request(b"XDEL", key, entry_id(taken[key] % entries))]
     ids = [entry_id(j) for j in range(read[key], read[key] + RANGE)]
     read[key] += RANGE
     return [request(b"XREADGROUP", b"GROUP", b"group", b"consumer", b"COUNT", b"%d" % RANGE, b"STREAMS", key, b">"),

@@ -26,7 +26,7 @@ case $kinds in
   zsets) kinds=$(all_of "zadd zrescore zrank zrange zbyscore zincrby zaddpop" "100 10000 1000000" 32) ;;
   sets) kinds=$(all_of "sadd sismember spop sinter" "100 10000" 32) ;;
   hashes) kinds=$(all_of "hset hreset hget hgetall hincrby" "10 1000" 32) ;;
-  streams) kinds=$(all_of "xadd xrange xreadgroup" "1000 1000000" 8) ;;
+  streams) kinds=$(all_of "xadd xrange xdel xreadgroup" "1000 1000000" 8) ;;
 esac
 gcc -O2 -o "$room/client" bench/client.c
 g++ -O2 -std=c++17 -o "$room/floor" bench/floor.cpp
@@ -57,7 +57,8 @@ for kind in $kinds; do
     # so that few sets of 100 outgrow the 128 members that are packed
     sadd) of_kind=$((of_kind / 5)) ;;
     sinter | hgetall) of_kind=$of_keys ;;
-    # half of the entries, since some streams are read more often than others
+    # half of the entries, since some streams are asked more often than others
+    xdel) of_kind=$(((of_kind + 1) / 2)) ;;
     xreadgroup) of_kind=$(((of_kind + 19) / 20)) ;;
   esac
   # a member is popped at random, and the fields of a hash that isn't packed come in any order
