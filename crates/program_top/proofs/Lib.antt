@@ -1,5 +1,6 @@
 pub mod Lines
 pub mod Starts
+pub mod Generations
 pub mod Worlds
 pub mod Counted
 pub mod Whole

@@ -17,12 +17,14 @@ use Rattle.serving.specs.declared.ending.Ended.{Ended}
 use Rattle.serving.proofs.Said.{ends_exactly, completes}
 use Rattle.serving.proofs.Wholes as wholes
 use Rattle.serving.proofs.Wholes.{NoWriteFault, EndsWhole}
-use Rattle.program_top.specs.Given.{Options, Given, Wrong, Run, Outside, LeavesAll}
+use Rattle.program_top.specs.Generating as generating
+use Rattle.program_top.specs.Generating.{may_generate, Writes, WritesLines}
+use Rattle.program_top.specs.Given.{Options, Given, Wrong, Run, Generate, Outside, LeavesAll}
 use Rattle.program_top.specs.Notes.{Notes, refused_line, line_of}
 use Rattle.program_top.specs.Running.{Fails, RunsOptions, begun, not_begun, RunsOf, RunsWords, read, unread}
 use Rattle.program_top.specs.Starting.{Standing, IsLoaded, BeginsWith, Begins, NotLoaded, NotBegun, UsesHost, is_host}
 use Rattle.program_top.specs.Statuses.{status_of, ending_of}
-use Rattle.program_top.specs.Headline.{may_answer, standing_clock, Concludes, NoHostFault, NoOutputFault, CountsFaults, NotesStatus, IsTold, IsAbsent, AtFirst, CanBegin, Excused, HostStops, IsRefused, Exactly, Completes}
+use Rattle.program_top.specs.Headline.{may_answer, standing_clock, Concludes, NoHostFault, NoOutputFault, CountsFaults, NotesStatus, IsTold, IsAbsent, AtFirst, CanBegin, Excused, HostStops, IsRefused, Exactly, NoLinesFault, Completes, RoseAt}
 use Rattle.program_top.specs.Stepped.{StepsStatus}
 use Rattle.program_top.specs.TopAnswers.{TopAnswers}
 use Rattle.program_top.specs.declared.ending.Ending.{Ending}
@@ -129,15 +131,39 @@ module _ (before after : Outside) (ending : Ending) (line : Notes before.notes a
 
   -- a run with what was given ended so, which may be wrong words
   abbrev RanOf : Given → Type 0
-  RanOf given = RunsOf Begins may_answer may_answer standing_clock given before after ending
+  RanOf given = RunsOf Begins may_answer may_answer standing_clock may_generate given before after ending
 
   -- a run with what was given ended so, where memory may have wanted before the words were read
   abbrev ReadOf : Given → Type 0
-  ReadOf given = RunsWords Begins may_answer may_answer standing_clock given before after ending
+  ReadOf given = RunsWords Begins may_answer may_answer standing_clock may_generate given before after ending
 
   -- the options are these
   ran_as : (given : Given) (options : Options) → RanOf given → given ≡ Run options → Ran options
   ran_as given options r e = let P : Given → Type 0 = RanOf in subst P e r
+
+  -- the lines of so many generated commands were written
+  abbrev Wrote : ℕ → Options → Type 0
+  Wrote n options = WritesLines (may_generate options n before.pacers) before after ending
+
+  -- the options and the number of commands are these
+  wrote_as : (given : Given) (n : ℕ) (options : Options) → RanOf given → given ≡ Generate n options → Wrote n options
+  wrote_as given n options r e = let P : Given → Type 0 = RanOf in subst P e r
+
+  -- generated commands have status 0, 5 or 8
+  lines_status : (n : ℕ) (options : Options) → Wrote n options → (status_of ending ≡ 0) ⊎ ((status_of ending ≡ 5) ⊎ (status_of ending ≡ 8))
+  lines_status n options w = elim w.wrote [
+    | generating.all lines l put is ↦ inl (ap status_of is)
+    | generating.front lines l put is ↦ inr (inl (ap status_of is))
+    | generating.none same is ↦ inr (inr (ap status_of is))
+  ]
+
+  -- and no other
+  not_lines : (n : ℕ) (options : Options) → Wrote n options → (m : ℕ) → (m ≡ 0 → ⊥) → (m ≡ 5 → ⊥) → (m ≡ 8 → ⊥) → status_of ending ≡ m → ⊥
+  not_lines n options w m zero five eight e = elim (lines_status n options w) [
+    | inl is ↦ zero (sym e ∙ is)
+    | inr (inl is) ↦ five (sym e ∙ is)
+    | inr (inr is) ↦ eight (sym e ∙ is)
+  ]
 
   -- ---- what is counted
 
@@ -186,10 +212,34 @@ module _ (before after : Outside) (ending : Ending) (line : Notes before.notes a
       let one : status_of ending ≡ 1 = ap status_of is in
       untouched_counts Wrong (λ e. omega (arith, e, one)) (λ e. omega (arith, e, one)) (λ e. omega (arith, e, one)) same
 
+  -- a fault of the output is counted exactly where it ends the lines
+  lines_write : (Lines : List ℕ → Type 0) → Writes Lines before.output after.output ending → RoseAt 5 (status_of ending) before.output.faults after.output.faults
+  lines_write Lines (generating.all lines l put is) = stayed 5 (status_of ending) before.output.faults after.output.faults (λ e. omega (arith, e, ap status_of is)) put.faults
+  lines_write Lines (generating.front lines l put is) = record { came = λ e. put.rose; other = λ n. absurd (n (ap status_of is)) }
+  lines_write Lines (generating.none same is) = stayed 5 (status_of ending) before.output.faults after.output.faults (λ e. omega (arith, e, ap status_of is)) (ap (λ o. o.faults) same)
+
+  -- generated commands count no other fault
+  lines_count : (n : ℕ) (options : Options) → Wrote n options → CountsFaults (Generate n options) before after (status_of ending)
+  lines_count n options w = record {
+    read = stayed 4 (status_of ending) before.input.faults after.input.faults (not_four n options w) (ap (λ o. o.input.faults) w.others);
+    write = lines_write (may_generate options n before.pacers) w.wrote;
+    host = stayed 6 (status_of ending) before.host.reading.faults after.host.reading.faults (not_six n options w) (ap (λ o. o.host.reading.faults) w.others);
+    sure_read = λ sure e. not_four n options w e;
+    sure_host = λ other name e f sure listed six. not_six n options w six;
+    no_file = λ none. ap (λ o. o.host) w.others;
+  }
+    where
+      not_four : (n : ℕ) (options : Options) → Wrote n options → status_of ending ≡ 4 → ⊥
+      not_four n options w = not_lines n options w 4 (λ e. omega (arith, e)) (λ e. omega (arith, e)) (λ e. omega (arith, e))
+
+      not_six : (n : ℕ) (options : Options) → Wrote n options → status_of ending ≡ 6 → ⊥
+      not_six n options w = not_lines n options w 6 (λ e. omega (arith, e)) (λ e. omega (arith, e)) (λ e. omega (arith, e))
+
   -- a run with what was given counts a fault exactly where it is ended by it
   counts_of : (given : Given) → RanOf given → CountsFaults given before after (status_of ending)
   counts_of Wrong r = wrong_counts r.0 r.1
   counts_of (Run options) r = run_counts options r
+  counts_of (Generate n options) r = lines_count n options r
 
   -- a run counts a fault exactly where it is ended by it, also where memory wanted for its words
   counts_read : (given : Given) → ReadOf given → CountsFaults given before after (status_of ending)
@@ -205,6 +255,7 @@ module _ (before after : Outside) (ending : Ending) (line : Notes before.notes a
   wrong_alone Wrong r e = refl
   wrong_alone (Run options) (begun first last ended b host s reads is) e = absurd (not_served ended 1 refl (ap status_of (sym is) ∙ e))
   wrong_alone (Run options) (not_begun f) e = absurd (fails_read options f 1 (omega arith) e)
+  wrong_alone (Generate n options) w e = absurd (not_lines n options w 1 (λ e. omega (arith, e)) (λ e. omega (arith, e)) (λ e. omega (arith, e)) e)
 
   -- the file is this one
   loaded_as : (options : Options) (name : List ℕ) (first : Standing) → options.file ≡ Some name → Begins options before first → IsLoaded before.host.files options.max_input name first.last first.world
@@ -246,6 +297,7 @@ module _ (before after : Outside) (ending : Ending) (line : Notes before.notes a
   refused_alone Wrong r e = absurd (omega (arith, ap status_of r.0, e))
   refused_alone (Run options) (begun first last ended b host s reads is) e = absurd (not_served ended 7 refl (ap status_of (sym is) ∙ e))
   refused_alone (Run options) (not_begun f) e = refusal options f options.file refl f.why ending refl e
+  refused_alone (Generate n options) w e = absurd (not_lines n options w 7 (λ e. omega (arith, e)) (λ e. omega (arith, e)) (λ e. omega (arith, e)) e)
 
   -- a file of more bytes than the limit ends the run with status 9, unless memory wanted or the host failed before
   long : (options : Options) → Ran options → (name bytes : List ℕ) → options.file ≡ Some name → IsTold before.host.files name bytes → options.max_input < length bytes → (status_of ending ≡ 9) ⊎ ((status_of ending ≡ 8) ⊎ HostStops before after options.max_input name (status_of ending))
@@ -286,6 +338,7 @@ module _ (before after : Outside) (ending : Ending) (line : Notes before.notes a
     refused_alone = refused_alone given r;
     long = λ options name bytes e. long options (ran_as given options r e) name bytes;
     absent = λ options name e. absent options (ran_as given options r e) name;
+    generated = λ n options e. lines_status n options (wrote_as given n options r e);
     served = λ options e. served options (ran_as given options r e);
   }
 
@@ -301,6 +354,7 @@ module _ (before after : Outside) (ending : Ending) (line : Notes before.notes a
         refused_alone = λ seven. absurd (omega (arith, seven, eight));
         long = λ options name bytes e f t h. inr (inl eight);
         absent = λ options name e f none. inr eight;
+        generated = λ n options e. inr (inr eight);
         served = λ options e can. inl (inr eight);
       }
 
@@ -342,14 +396,28 @@ module _ (before after : Outside) (ending : Ending) (line : Notes before.notes a
   run_completes options (not_begun f) bytes asked end can told frames well few no_host no_read no_write =
       excused_whole (could_begin options f options.file can f.why) (no_host_fault options f options.file refl can f.why no_host)
 
+  -- generated commands complete where the output doesn't fail, unless memory wanted
+  lines_complete : (n : ℕ) (options : Options) → Wrote n options → NoLinesFault options n before after → (status_of ending ≡ 0) ⊎ (status_of ending ≡ 8)
+  lines_complete n options w fits = elim w.wrote [
+    | generating.all lines l put is ↦ inl (ap status_of is)
+    | generating.front lines l put is ↦ elim fits [ inl room ↦ absurd (put.unsure (room lines l)) | inr never ↦ absurd (never put.rose) ]
+    | generating.none same is ↦ inr (ap status_of is)
+  ]
+
   -- a run with what was given completes where nothing fails, unless memory wanted
   completes_of : (given : Given) → RanOf given → Completes given before after (status_of ending)
-  completes_of given r options bytes asked end e can told frames well few no_host no_read no_write = run_completes options (ran_as given options r e) bytes asked end can told frames well few no_host no_read no_write
+  completes_of given r = record {
+    served = λ options bytes asked end e can told frames well few no_host no_read no_write. run_completes options (ran_as given options r e) bytes asked end can told frames well few no_host no_read no_write;
+    generated = λ n options e fits. lines_complete n options (wrote_as given n options r e) fits;
+  }
 
   -- a run completes where nothing fails, unless memory wanted, be it before the words were read
   completes_read : (given : Given) → ReadOf given → Completes given before after (status_of ending)
   completes_read given (read r) = completes_of given r
-  completes_read given (unread same is) = λ options bytes asked end e can told frames well few no_host no_read no_write. inr (ap status_of is)
+  completes_read given (unread same is) = record {
+    served = λ options bytes asked end e can told frames well few no_host no_read no_write. inr (ap status_of is);
+    generated = λ n options e fits. inr (ap status_of is);
+  }
 
   -- the same of the status that is answered
   module _ (given : Given) (r : ReadOf given) (status : ℕ) (is : status ≡ status_of ending) where

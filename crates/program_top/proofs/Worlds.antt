@@ -3,8 +3,6 @@ use Rattle.std.proofs.Common.{◌≡◌, ℕ, List, [], ◌∷◌, ◌++◌, map
 use Rattle.class_heap.specs.Heap.{heap_blocks, heap_slabs, IsClassHeapStep}
 use Rattle.outside.specs.Clocks.{Answers, Tells}
 use Rattle.outside.specs.Pacing.{PacerSeen, tuned}
-use Rattle.outside.specs.declared.pacing.Plan.{Plan}
-use Rattle.keyspace.specs.Databases.{means}
 use Rattle.plain_world.specs.Words.{Words}
 use Rattle.plain_world.specs.Worlds.{live}
 use Rattle.plain_world.specs.declared.reply.Part.{Part}
@@ -12,10 +10,8 @@ use Rattle.plain_model.specs.Runs.{Turn, run, calls_of, replies_of, moment_after
 use Rattle.plain_model.specs.Steps.{step}
 use Rattle.plain_model.proofs.Covered.{runs_covered}
 use Rattle.redis_core.proofs.Steps.{executes_step}
-use Rattle.redis_core.specs.Background.{EngineRests}
 use Rattle.plain_model.specs.Meant.{asks_to_quit}
 use Rattle.redis_core.specs.Engines.{Executes}
-use Rattle.redis_core.specs.declared.background.StepsDone.{StepsDone}
 use Rattle.serving.proofs.Said.{served_as}
 use Rattle.serving.specs.Path.{path, CutPath, whole, at_last}
 use Rattle.serving.specs.Served.{answered, quit, write_fault, no_memory}
@@ -23,8 +19,9 @@ use Rattle.serving.specs.Timed.{Timed, ReadsMoment, TimedReply}
 use Rattle.serving.specs.Timed as timed
 use Rattle.serving.specs.declared.ending.Ended.{Ended}
 use Rattle.serving.specs.declared.ending.Ended.TheVariants as served
-use Rattle.program_top.specs.Engines.{Engine, world_of, IsFirst}
-use Rattle.program_top.specs.Given.{Options, Given, Wrong, Run, Outside}
+use Rattle.program_top.specs.Engines.{Engine, world_of, works, IsFirst}
+use Rattle.program_top.specs.Generating.{may_generate, GeneratesOn}
+use Rattle.program_top.specs.Given.{Options, Given, Wrong, Run, Generate, Outside}
 use Rattle.program_top.specs.WordsRead.{options_read, given_read}
 use Rattle.program_top.specs.Headline.{Clocked, MayAnswer, may_answer, standing_clock}
 use Rattle.program_top.specs.Lent.{Streams, Goes, AnswersLent, Lent}
@@ -33,7 +30,8 @@ use Rattle.program_top.specs.Running as running
 use Rattle.program_top.specs.Running.{RunsOptions, begun, not_begun, RunsOf, RunsWords, unread, ReadsNoMore}
 use Rattle.program_top.specs.Starting.{Standing, BeginsWith, Begins}
 use Rattle.program_top.specs.Statuses.{status_of, ending_of}
-use Rattle.program_top.specs.Stepped.{standing_of, works, Steps, StepsLast, goes, goes_cut, engine_clock, BeginsEngine, RunsEngine, RunsNoted}
+use Rattle.program_top.specs.Stepped.{standing_of, Steps, StepsLast, goes, goes_cut, engine_clock, BeginsEngine, RunsEngine, RunsNoted}
+use Rattle.program_top.proofs.Generations.{worked_world, writes_seen}
 use Rattle.program_top.specs.declared.words.Given as words
 use Rattle.program_top.specs.declared.words.Given.TheVariants as read
 use Rattle.program_top.specs.declared.words.Options as words_options
@@ -58,13 +56,6 @@ answered_turn moment first words reply next a = record {
   seed = a.answers.answers.stands.settings.seed;
   alive = a.answers.alive;
 }
-
--- what is planned leaves what the engine holds at the moment that it used last
-worked_world : (moment : ℕ) (plan : Plan) (old new : Engine) (done : StepsDone) → EngineRests heap_blocks heap_slabs IsClassHeapStep moment plan old new done → new.last ≡ old.last → world_of new ≡ world_of old
-worked_world moment plan old new done r same =
-    r.works.stays new.selected new.last (omega arith)
-    ∙ ap (λ number. live (means number old.bases (heap_blocks old.store)) new.last) r.selected
-    ∙ ap (λ last. live (means old.selected old.bases (heap_blocks old.store)) last) same
 
 -- a turn stays one where what is planned is done behind it, or the request ends the run
 rested_turn : (ends : Bool) (moment : ℕ) (first : Timed Engine) (words : Words) (reply : List Part) (mid next : Timed Engine) → mid.engine.last ≡ max first.engine.last moment → Turned first words reply mid → timed.Rests (Executes heap_blocks heap_slabs IsClassHeapStep) works asks_to_quit ends moment mid next → Turned first words reply next
@@ -168,12 +159,13 @@ run_seen options before after ending (begun first last ended b host s reads is) 
 run_seen options before after ending (not_begun f) = running.not_begun f
 
 -- what is given runs on the engine's worlds as it runs on the engine, wrong words too
-pub run_of_seen : (given : Given) (before after : Outside) (ending : Ending) → RunsEngine given before after ending → RunsOf Begins may_answer may_answer standing_clock given before after ending
+pub run_of_seen : (given : Given) (before after : Outside) (ending : Ending) → RunsEngine given before after ending → RunsOf Begins may_answer may_answer standing_clock may_generate given before after ending
 run_of_seen Wrong before after ending r = r
 run_of_seen (Run options) before after ending r = run_seen options before after ending r
+run_of_seen (Generate n options) before after ending r = record { wrote = writes_seen options n before.pacers before.output after.output ending r.wrote; others = r.others }
 
 -- a run of the engine is one of its worlds, also where memory wanted before the words were read
-pub run_words_seen : (given : Given) (before after : Outside) (ending : Ending) → RunsWords BeginsEngine goes goes_cut engine_clock given before after ending → RunsWords Begins may_answer may_answer standing_clock given before after ending
+pub run_words_seen : (given : Given) (before after : Outside) (ending : Ending) → RunsWords BeginsEngine goes goes_cut engine_clock GeneratesOn given before after ending → RunsWords Begins may_answer may_answer standing_clock may_generate given before after ending
 run_words_seen given before after ending (running.read r) = running.read (run_of_seen given before after ending r)
 run_words_seen given before after ending (unread same is) = running.unread same is
 
@@ -196,6 +188,10 @@ finishes_as given read before after ending e f = let P : Given → Type 0 = λ g
 -- a run with the options that were read is one of what was given
 pub run_read : (given : words.Given) (options : words_options.Options) (before after : Outside) (ending : Ending) → given ≡ read.Run options → RunsNoted (Run (options_read options)) before after ending → RunsNoted (given_read given) before after ending
 run_read given options before after ending e f = let P : words.Given → Type 0 = λ g. RunsNoted (given_read g) before after ending in subst P (sym e) f
+
+-- generated commands with the options that were read are those of what was given
+pub generate_read : (given : words.Given) (n : ℕ) (options : words_options.Options) (before after : Outside) (ending : Ending) → given ≡ read.Generate n options → RunsNoted (Generate n (options_read options)) before after ending → RunsNoted (given_read given) before after ending
+generate_read given n options before after ending e f = let P : words.Given → Type 0 = λ g. RunsNoted (given_read g) before after ending in subst P (sym e) f
 
 -- ---- an engine that is lent
 

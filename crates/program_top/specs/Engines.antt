@@ -9,8 +9,11 @@ use Rattle.object_codec.specs.declared.limits.Limits.{Limits}
 use Rattle.keyspace.specs.Sound.{Sound}
 use Rattle.keyspace.specs.Scopes.{AreGrown}
 use Rattle.rdb_reader.specs.Forms.{AreNew}
+use Rattle.outside.specs.declared.pacing.Plan.{Plan}
+use Rattle.redis_core.specs.Background.{EngineRests}
 use Rattle.redis_core.specs.Engines.{State, IsNew}
 use Rattle.redis_core.specs.Engines as engines
+use Rattle.redis_core.specs.declared.background.StepsDone.{StepsDone}
 
 abbrev pub Engine : Type 0
 Engine = State ClassHeap
@@ -18,6 +21,11 @@ Engine = State ClassHeap
 -- the world that it holds
 abbrev pub world_of : Engine → World
 world_of engine = engines.world_of heap_blocks engine
+
+-- the work of a plan, whatever comes of it
+abbrev pub works : ℕ → Plan → Engine → Engine → Type 0
+works moment plan old new =
+    (done : StepsDone) × EngineRests heap_blocks heap_slabs IsClassHeapStep moment plan old new done
 
 -- Its hashes have this seed and its values these limits, the first expiry step is the turn of database 0, no walk is
 -- open, its tables come from none, its values are encoded as those written anew, and its keyspace is sound: each live

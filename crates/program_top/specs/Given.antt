@@ -1,5 +1,5 @@
 -- What a run is given: what its words ask for, and what stands outside.
-use Rattle.std.specs.Prelude.{◌≡◌, ℕ, ◌^◌, ◌-◌, nat_le, List, [], ◌∷◌, map, fold, Option, Some, Bool, true, ◌&&◌}
+use Rattle.std.specs.Prelude.{◌≡◌, ℕ, ◌^◌, ◌-◌, nat_le, List, [], ◌∷◌, map, fold, Option, None, Some, Bool, true, ◌&&◌, ◌==◌}
 use Rattle.std.specs.Prelude.{codes, if◌then◌else◌}
 use Rattle.std.specs.List.{list_all}
 use Rattle.std.specs.Option.{option_map_or}
@@ -23,10 +23,11 @@ pub record Options : Type 0 where
   pub limits : Limits
   pub max_input : ℕ
 
--- wrong words, or options
+-- wrong words; a run with options; or so many generated commands with them
 pub data Given : Type 0 where
   Wrong : Given
   Run : Options → Given
+  Generate : ℕ → Options → Given
 
 -- an option that takes a number: its name, the least and the most that it may be, and what it is where the words don't
 -- say
@@ -47,6 +48,10 @@ effort = numbered (codes "effort") 0 100 1
 
 abbrev pub max_input : Number
 max_input = numbered (codes "max-input") 1 (2 ^ 62) (2 ^ 40)
+
+-- how many commands are generated: 0 where the words don't say
+abbrev pub generate : Number
+generate = numbered (codes "generate") 1 1000000 0
 
 abbrev pub hash_entries : Number
 hash_entries = numbered (codes "hash-max-entries") 0 4096 512
@@ -74,7 +79,7 @@ abbrev pub sizes : List Number
 sizes = hash_entries ∷ set_entries ∷ zset_entries ∷ hash_value ∷ set_value ∷ zset_value ∷ set_intset ∷ []
 
 abbrev pub numbers : List Number
-numbers = seed ∷ effort ∷ max_input ∷ sizes
+numbers = generate ∷ seed ∷ effort ∷ max_input ∷ sizes
 
 -- the name of the option that names a file
 abbrev pub load : List ℕ
@@ -122,9 +127,19 @@ options_of rows = record {
   max_input = value_of rows max_input;
 }
 
+-- no file may be named
+abbrev pub unnamed : Option (List ℕ) → Given → Given
+unnamed None given = given
+unnamed (Some name) given = Wrong
+
+-- so many commands are generated, with no file, or none is, and the input is served
+abbrev pub asked_for : ℕ → Options → Given
+asked_for n options = if n == 0 then Run options else unnamed options.file (Generate n options)
+
 -- what the command matched, where it takes the words
 abbrev pub given_of : List Row → Given
-given_of rows = if list_all (is_right rows) numbers then Run (options_of rows) else Wrong
+given_of rows =
+    if list_all (is_right rows) numbers then asked_for (value_of rows generate) (options_of rows) else Wrong
 
 -- what the words behind the program's name ask for: wrong ones are those that the command doesn't take, and those with
 -- a wrong number

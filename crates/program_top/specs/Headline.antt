@@ -3,6 +3,7 @@ use Rattle.std.specs.Prelude.{◌≡◌, ℕ, ◌≤◌, ◌<◌, List, [], ◌�
 use Rattle.outside.specs.Clocks.{Answers, Tells}
 use Rattle.outside.specs.Counts.{Rose}
 use Rattle.outside.specs.Files.{Files, IsListed}
+use Rattle.outside.specs.Streams.{Fits}
 use Rattle.plain_world.specs.Worlds.{World}
 use Rattle.plain_world.specs.Words.{Words}
 use Rattle.plain_world.specs.declared.reply.Part.{Part}
@@ -17,7 +18,8 @@ use Rattle.resp_frames.specs.Ends.{End, Frames}
 use Rattle.serving.specs.declared.ending.Ended.{Ended}
 use Rattle.serving.specs.Timed.{ReadsMoment}
 use Rattle.serving.specs.Exactly.{ServesExactly, EndsWell, NoReadFault, AllFit}
-use Rattle.program_top.specs.Given.{Options, Given, Wrong, Run, Outside}
+use Rattle.program_top.specs.Generating.{may_generate}
+use Rattle.program_top.specs.Given.{Options, Given, Wrong, Run, Generate, Outside}
 use Rattle.program_top.specs.Notes.{Notes, refused_line, line_of}
 use Rattle.program_top.specs.Running.{RunsWords}
 use Rattle.program_top.specs.Starting.{Standing, Begins}
@@ -56,7 +58,7 @@ standing_clock standing = standing.clock
 pub record Concludes (given : Given) (before after : Outside) (status : ℕ) : Type 0 where
   pub ending : Ending
   pub is : status ≡ status_of ending
-  pub run : RunsWords Begins may_answer may_answer standing_clock given before after ending
+  pub run : RunsWords Begins may_answer may_answer standing_clock may_generate given before after ending
   pub line : Notes before.notes after.notes (line_of ending)
 
 -- a count rose where a status came, and stayed where another did
@@ -68,6 +70,7 @@ pub record RoseAt (which status before after : ℕ) : Type 0 where
 abbrev pub NamesNoFile : Given → Type 0
 NamesNoFile Wrong = ⊤
 NamesNoFile (Run options) = options.file ≡ None
+NamesNoFile (Generate n options) = ⊤
 
 -- A fault of the host, the input or the output is counted exactly where it ends the run, and none comes that surely
 -- doesn't. Where no file is named the host stays as it was.
@@ -151,6 +154,9 @@ pub record Exactly (given : Given) (before after : Outside) (status : ℕ) : Typ
   -- a name that the host has no file of
   pub absent : (options : Options) (name : List ℕ) → given ≡ Run options → options.file ≡ Some name
       → IsAbsent before.host.files name → Excused status
+  -- generated commands end, unless the output failed
+  pub generated : (n : ℕ) (options : Options) → given ≡ Generate n options
+      → (status ≡ 0) ⊎ ((status ≡ 5) ⊎ (status ≡ 8))
   -- a run that can begin ends as its input does
   pub served : (options : Options) → given ≡ Run options → CanBegin before options options.file
       → Excused status ⊎ ((ended : Ended) × (status ≡ status_of (ending_of ended))
@@ -173,10 +179,27 @@ NoOutputFault options before after asked =
 -- with words that are taken, no file or one that can be loaded, an input of fewer bytes than the limit that ends after
 -- a whole request or holds a QUIT before any fault, and no fault counted, the run ends with status 0, unless memory
 -- wanted
-abbrev pub Completes : Given → Outside → Outside → ℕ → Type 0
-Completes given before after status =
+abbrev pub CompletesServed : Given → Outside → Outside → ℕ → Type 0
+CompletesServed given before after status =
     (options : Options) (bytes : List ℕ) (asked : List Words) (end : End) → given ≡ Run options
     → CanBegin before options options.file → before.input.told ≡ Some bytes → Frames bytes asked end
     → EndsWell asks_to_quit asked end → length bytes < options.max_input
     → NoHostFault options.file before after → NoReadFault before.input after.input → NoOutputFault options before after asked
     → (status ≡ 0) ⊎ (status ≡ 8)
+
+-- no fault of the output: the lines of the generated commands fit, or none was counted
+abbrev pub NoLinesFault : Options → ℕ → Outside → Outside → Type 0
+NoLinesFault options n before after =
+    ((lines : List ℕ) → may_generate options n before.pacers lines → Fits before.output.room (length lines))
+    ⊎ (Rose before.output.faults after.output.faults → ⊥)
+
+-- generated commands end with status 0, unless memory wanted, where no fault of the output was counted
+abbrev pub CompletesGenerated : Given → Outside → Outside → ℕ → Type 0
+CompletesGenerated given before after status =
+    (n : ℕ) (options : Options) → given ≡ Generate n options → NoLinesFault options n before after
+    → (status ≡ 0) ⊎ (status ≡ 8)
+
+-- when a run surely ends with status 0, or 8
+pub record Completes (given : Given) (before after : Outside) (status : ℕ) : Type 0 where
+  pub served : CompletesServed given before after status
+  pub generated : CompletesGenerated given before after status

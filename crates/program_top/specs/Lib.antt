@@ -1,4 +1,5 @@
 pub mod Given
+pub mod Generating
 pub mod WordsRead
 pub mod Statuses
 pub mod Engines

@@ -1,6 +1,7 @@
 -- How a run goes, over any states of what serves.
 use Rattle.std.specs.Prelude.{◌≡◌, ℕ, List, Option, false}
 use Rattle.outside.specs.Clocks.{Answers}
+use Rattle.outside.specs.Pacing.{PacerSeen}
 use Rattle.plain_world.specs.Words.{Words}
 use Rattle.plain_world.specs.declared.reply.Part.{Part}
 use Rattle.plain_model.specs.Meant.{asks_to_quit}
@@ -8,7 +9,8 @@ use Rattle.serving.specs.Served.{Served}
 use Rattle.serving.specs.Timed.{ReadsMoment}
 use Rattle.serving.specs.declared.ending.Ended.{Ended}
 use Rattle.serving.specs.declared.ending.Ended.TheVariants as served
-use Rattle.program_top.specs.Given.{Options, Given, Wrong, Run, Outside, LeavesAll}
+use Rattle.program_top.specs.Generating.{WritesLines}
+use Rattle.program_top.specs.Given.{Options, Given, Wrong, Run, Generate, Outside, LeavesAll}
 use Rattle.program_top.specs.Starting.{NotBegun, UsesHost, is_host}
 use Rattle.program_top.specs.Statuses.{ending_of}
 use Rattle.program_top.specs.declared.ending.Ending.{Ending}
@@ -42,12 +44,15 @@ module _ {E : Type 0} (Begins : Options → Outside → E → Type 0)
         → RunsOptions options before after ending
     not_begun : Fails options before after ending → RunsOptions options before after ending
 
-  -- wrong words touch nothing
-  abbrev pub RunsOf : Given → Outside → Outside → Ending → Type 0
-  RunsOf Wrong before after ending = (ending ≡ endings.Usage) × LeavesAll before after
-  RunsOf (Run options) before after ending = RunsOptions options before after ending
+  -- lines that so many generated commands may have, with these pacers
+  module _ (Lines : Options → ℕ → List PacerSeen → List ℕ → Type 0) where
+    -- wrong words touch nothing, and generated commands have their lines written
+    abbrev pub RunsOf : Given → Outside → Outside → Ending → Type 0
+    RunsOf Wrong before after ending = (ending ≡ endings.Usage) × LeavesAll before after
+    RunsOf (Run options) before after ending = RunsOptions options before after ending
+    RunsOf (Generate n options) before after ending = WritesLines (Lines options n before.pacers) before after ending
 
-  -- the words are read, or memory wants, which touches nothing
-  pub data RunsWords (given : Given) (before after : Outside) (ending : Ending) : Type 0 where
-    read : RunsOf given before after ending → RunsWords given before after ending
-    unread : LeavesAll before after → ending ≡ endings.Memory → RunsWords given before after ending
+    -- the words are read, or memory wants, which touches nothing
+    pub data RunsWords (given : Given) (before after : Outside) (ending : Ending) : Type 0 where
+      read : RunsOf given before after ending → RunsWords given before after ending
+      unread : LeavesAll before after → ending ≡ endings.Memory → RunsWords given before after ending

@@ -2,17 +2,15 @@
 use Rattle.std.specs.Prelude.{◌≡◌, ℕ, List, map, Option}
 use Rattle.outside.specs.Clocks.{Answers}
 use Rattle.outside.specs.Pacing.{tuned}
-use Rattle.outside.specs.declared.pacing.Plan.{Plan}
 use Rattle.class_heap.specs.Heap.{heap_blocks, heap_slabs, IsClassHeapStep}
 use Rattle.plain_world.specs.Words.{Words}
 use Rattle.plain_world.specs.declared.reply.Part.{Part}
-use Rattle.redis_core.specs.Background.{EngineRests}
 use Rattle.plain_model.specs.Meant.{asks_to_quit}
 use Rattle.redis_core.specs.Engines.{Executes}
-use Rattle.redis_core.specs.declared.background.StepsDone.{StepsDone}
 use Rattle.serving.specs.Path.{path, CutPath}
 use Rattle.serving.specs.Timed.{Timed, TimedStep, TimedCut}
-use Rattle.program_top.specs.Engines.{Engine, world_of, IsFirst}
+use Rattle.program_top.specs.Engines.{Engine, world_of, works, IsFirst}
+use Rattle.program_top.specs.Generating.{GeneratesOn}
 use Rattle.program_top.specs.Given.{Options, Given, Outside}
 use Rattle.program_top.specs.Notes.{Notes, line_of}
 use Rattle.program_top.specs.Running.{RunsOf, RunsWords}
@@ -23,11 +21,6 @@ use Rattle.program_top.specs.declared.ending.Ending.{Ending}
 -- where an engine and its clock stand
 abbrev pub standing_of : Timed Engine → Standing
 standing_of timed = record { world = world_of timed.engine; last = timed.engine.last; clock = timed.clock }
-
--- the work of a plan, whatever comes of it
-abbrev pub works : ℕ → Plan → Engine → Engine → Type 0
-works moment plan old new =
-    (done : StepsDone) × EngineRests heap_blocks heap_slabs IsClassHeapStep moment plan old new done
 
 -- a request is answered at the moment that the clock tells, and then what the pacers plan is done
 abbrev pub Steps : Timed Engine → Words → List Part → Timed Engine → Type 0
@@ -58,7 +51,7 @@ engine_clock timed = timed.clock
 
 -- what is given runs on the engine
 abbrev pub RunsEngine : Given → Outside → Outside → Ending → Type 0
-RunsEngine = RunsOf BeginsEngine goes goes_cut engine_clock
+RunsEngine = RunsOf BeginsEngine goes goes_cut engine_clock GeneratesOn
 
 -- the same, with its line in the notes
 pub record RunsNoted (given : Given) (before after : Outside) (ending : Ending) : Type 0 where
@@ -69,4 +62,4 @@ pub record RunsNoted (given : Given) (before after : Outside) (ending : Ending) 
 pub record StepsStatus (given : Given) (before after : Outside) (status : ℕ) : Type 0 where
   pub ending : Ending
   pub is : status ≡ status_of ending
-  pub run : RunsWords BeginsEngine goes goes_cut engine_clock given before after ending
+  pub run : RunsWords BeginsEngine goes goes_cut engine_clock GeneratesOn given before after ending

@@ -1,7 +1,7 @@
 -- What the code reads of the words, as what is given.
 use Rattle.std.specs.Prelude.{◌^◌, ◌≤◌, Some, None}
 use Rattle.object_codec.specs.Limits.{AreInRange}
-use Rattle.program_top.specs.Given.{Number, numbered, Options, Given, Wrong, Run}
+use Rattle.program_top.specs.Given.{Number, numbered, Options, Given, Wrong, Run, Generate}
 use Rattle.program_top.specs.declared.words as words
 use Rattle.program_top.specs.declared.words.Given.TheVariants as read
 
@@ -22,6 +22,7 @@ options_read options = record {
 abbrev pub given_read : words.Given.Given → Given
 given_read read.Wrong = Wrong
 given_read (read.Run options) = Run (options_read options)
+given_read (read.Generate count options) = Generate count (options_read options)
 
 -- what is read of words is in range
 abbrev pub AreUsable : words.Options.Options → Type 0
@@ -30,3 +31,4 @@ AreUsable options = AreInRange options.limits × (options.max_input ≤ 2 ^ 62)
 abbrev pub AreTaken : words.Given.Given → Type 0
 AreTaken read.Wrong = Unit {0}
 AreTaken (read.Run options) = AreUsable options
+AreTaken (read.Generate count options) = AreUsable options

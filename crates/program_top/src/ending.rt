@@ -10,7 +10,7 @@ use serving::Ended;
 /// What ends a run. Each has an exit status.
 #[derive(Clone, Copy, Debug, PartialEq, Eq)]
 pub enum Ending {
-    /// The input was read to its end, and ended after a whole request: 0.
+    /// The input was read to its end, and ended after a whole request, or all commands were generated: 0.
     Whole,
     /// A request that ends the run was answered: 0.
     Quit,

@@ -36,8 +36,8 @@ fn not_loaded(fault: LoadFault) -> Ending
     }
 }
 
-// An engine without a key.
-fn begin(alloc: Global, limits: Limits, seed: u64) -> Result<Engine<ClassHeap>, Ending>
+/// An engine without a key.
+pub fn begin(alloc: Global, limits: Limits, seed: u64) -> Result<Engine<ClassHeap>, Ending>
     requires { AreInRange limits }
     ensures begun { IfOk result (λ engine. Begun seed limits engine) }
     ensures memory { IfErr result (λ ending. ending ≡ Ending.Memory) }

@@ -9,6 +9,7 @@ ghost use Rattle.program_top.specs.Stepped.{RunsNoted};
 ghost use Rattle.program_top.specs.TopAnswers.{TopAnswers};
 
 use crate::ending::{Ending, served_to};
+use crate::generating::generate;
 use crate::lent::serve_noted;
 use crate::notes::note;
 use crate::starting::start;
@@ -78,10 +79,17 @@ pub fn run_given<H: Host, I: Source, O: Sink, N: Sink>(
             Ending::Usage
         }
         Given::Run(options) => run(alloc, options, host, input, output, notes, clock, pacers),
+        Given::Generate(count, options) => {
+            let ending = generate(alloc, options, count, output, pacers);
+            note(notes, ending);
+            ending
+        }
     }
 }
 
-/// Loads the file that the words name, serves the requests of the input, and says with which status the run ends.
+/// Loads the file that the words name, serves the requests of the input, and says with which status the run ends. Where the
+/// words ask for so many generated commands it runs those, takes no file, no input and no answer of the clock, and puts three
+/// lines: `commands N`, `keys K`, how many keys database 0 has then, and `crc H`, the CRC of all replies.
 ///
 /// The words are those behind the program's name: `--load FILE`, and the options whose values are numbers, each once at most
 /// and each as `--name VALUE` or `--name=VALUE`. Anything else is status 1. The clock, in milliseconds, is read once before
@@ -91,7 +99,7 @@ pub fn run_given<H: Host, I: Source, O: Sink, N: Sink>(
 /// the file, 9 where it has more bytes. Then nothing is served.
 /// Serving ends with 0 where the input ended after a whole request or a request ended the run, 2 where it breaks a rule of
 /// RESP2, whose line stands behind the replies, 3 where it ended inside a request, 4 where the input failed, 5 where the
-/// output failed, 9 where so many bytes were taken.
+/// output failed, 9 where so many bytes were taken. Generated commands end with 0, or 5 where the output failed.
 /// 8 is want of memory. Each status but 0 has its line in the notes.
 #[tactic(none)]
 pub fn redis_core<H: Host, I: Source, O: Sink, N: Sink>(

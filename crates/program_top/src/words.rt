@@ -7,7 +7,7 @@ ghost use Rattle.clap.specs.Matches.{found_of};
 ghost use Rattle.clap.specs.Simple.{app_of};
 ghost use Rattle.clap.specs.Walk.{rows_of};
 ghost use Rattle.object_codec.specs.Limits.{AreInRange};
-ghost use Rattle.program_top.specs.Given.{command, given_by, given_of, is_number, is_right, limits_of, numbers, options_of, sizes, value_of, with_option};
+ghost use Rattle.program_top.specs.Given.{command, given_by, given_of, is_number, is_right, limits_of, numbers, options_of, sizes, value_of, with_option, asked_for, generate};
 ghost use Rattle.program_top.specs.WordsRead.{AreTaken, AreUsable, given_read, number_read, options_read};
 
 use clap::error::ErrorKind;
@@ -38,6 +38,8 @@ pub enum Given<'a> {
     Wrong,
     /// A run with these options.
     Run(Options<'a>),
+    /// So many generated commands with these options.
+    Generate(u64, Options<'a>),
 }
 
 /// The words behind the program's name, which is the first of all.
@@ -80,6 +82,14 @@ const MAX_INPUT: Number = Number {
     least: 1,
     most: 4_611_686_018_427_387_904,
     usual: 1_099_511_627_776,
+};
+
+// 0 where the words don't say.
+const GENERATE: Number = Number {
+    name: "generate",
+    least: 1,
+    most: 1_000_000,
+    usual: 0,
 };
 
 const HASH_ENTRIES: Number = Number {
@@ -149,6 +159,7 @@ fn command<'a>(alloc: Global) -> Result<Command<'a>, AllocError>
 {
     let bare = Command::new(alloc, "redis-core").no_binary_name(true);
     let command = with_option(bare, alloc, LOAD)?;
+    let command = with_option(command, alloc, GENERATE.name)?;
     let command = with_option(command, alloc, SEED.name)?;
     let command = with_option(command, alloc, EFFORT.name)?;
     let command = with_option(command, alloc, MAX_INPUT.name)?;
@@ -219,22 +230,39 @@ fn read_limits(matches: &ArgMatches<'_>) -> Option<Limits>
     })
 }
 
-// The options that were matched. None is a number that is wrong.
-fn read_options<'a>(matches: &ArgMatches<'a>) -> Option<Options<'a>>
-    ensures some { IfSome result (λ all. (list_all (is_right (rows_of (found_of matches.now))) numbers ≡ true) × (options_read all ≡ options_of (rows_of (found_of matches.now))) × AreUsable all) }
+// How many commands are generated, and the options that were matched. None is a number that is wrong.
+fn read_options<'a>(matches: &ArgMatches<'a>) -> Option<(u64, Options<'a>)>
+    ensures some { IfSome result (λ all. (list_all (is_right (rows_of (found_of matches.now))) numbers ≡ true) × (all.0 ≡ value_of (rows_of (found_of matches.now)) generate) × (options_read all.1 ≡ options_of (rows_of (found_of matches.now))) × AreUsable all.1) }
     ensures none { IfNone result (list_all (is_right (rows_of (found_of matches.now))) numbers ≡ false) }
 {
+    let count = read_number(matches, GENERATE)?;
     let seed = read_number(matches, SEED)?;
     let effort = read_limit(matches, EFFORT)?;
     let max_input = read_number(matches, MAX_INPUT)?;
     let limits = read_limits(matches)?;
-    Some(Options {
+    let options = Options {
         file: matches.get_str(LOAD),
         seed,
         effort,
         limits,
         max_input,
-    })
+    };
+    Some((count, options))
+}
+
+// A run with these options, or so many generated commands where there are some, which take no file.
+fn asked_for<'a>(count: u64, options: Options<'a>) -> Given<'a>
+    requires { AreUsable options }
+    ensures given { given_read result ≡ asked_for count (options_read options.entry) }
+    ensures taken { AreTaken result }
+{
+    if count == 0 {
+        return Given::Run(options);
+    }
+    match options.file {
+        None => Given::Generate(count, options),
+        Some(_) => Given::Wrong,
+    }
 }
 
 // What the words that were matched ask for.
@@ -243,14 +271,15 @@ fn given_by<'a>(matches: &ArgMatches<'a>) -> Given<'a>
     ensures taken { AreTaken result }
 {
     match read_options(matches) {
-        Some(options) => Given::Run(options),
+        Some((count, options)) => asked_for(count, options),
         None => Given::Wrong,
     }
 }
 
 /// Reads the words behind the program's name, as a command line of `clap`: `--load FILE`, and the options whose values are
 /// numbers, each once at most and each as `--name VALUE` or `--name=VALUE`. A number is one or more decimal digits in the
-/// option's range. Every other word is wrong, `--help` and `--version` too. `Err` is want of memory.
+/// option's range. Every other word is wrong, `--help` and `--version` too, and so is a file beside generated commands.
+/// `Err` is want of memory.
 pub fn read_words<'a>(alloc: Global, words: &'a [String]) -> Result<Given<'a>, AllocError>
     ensures options { IfOk result (λ given. given_by (map string_bytes words.entry.now) ≡ given_read given) }
     ensures taken { IfOk result AreTaken }
