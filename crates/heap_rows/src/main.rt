@@ -9,6 +9,7 @@ mod lines;
 mod plain;
 mod regions;
 mod twin;
+mod words;
 
 use crate::lines::{State, answer};
 use std::io;

@@ -1,8 +1,9 @@
 //! Lines on two regions of 65,536 bytes.
 
+use crate::words::{at, nth};
 use blocks::Memory;
 use class_heap::SlabMem;
-use row_words::{bytes_of, done, number, unknown};
+use row_words::{bytes_of, done, unknown};
 use std::alloc::Global;
 
 // How many bytes a region has.
@@ -47,25 +48,28 @@ impl Regions {
     }
 }
 
+// Writes the bytes that a word stands for into the first region.
+fn put(regions: &mut Regions, alloc: Global, words: &[&str]) -> Result<String, Memory> {
+    let piece = bytes_of(alloc, at(words, 3))?;
+    regions.put(nth(words, 2) as usize, piece.as_slice());
+    done(alloc)
+}
+
+// Bytes of the second region.
+fn part_shown(regions: &Regions, alloc: Global, words: &[&str]) -> Result<String, Memory> {
+    let part = regions.part(nth(words, 2) as usize, nth(words, 3) as usize);
+    format!(in alloc; "{part:?}")
+}
+
 /// What a line of these words answers.
 pub fn answer(regions: &mut Regions, alloc: Global, words: &[&str]) -> Result<String, Memory> {
-    match words {
-        ["put", at, word] => {
-            let piece = bytes_of(alloc, word)?;
-            regions.put(number(at) as usize, piece.as_slice());
+    match at(words, 1) {
+        "put" => put(regions, alloc, words),
+        "part" => part_shown(regions, alloc, words),
+        "across" => {
+            let (from, to) = (nth(words, 2) as usize, nth(words, 3) as usize);
+            regions.across(from, to, nth(words, 4) as usize);
             done(alloc)
-        }
-        ["across", at, to, len] => {
-            regions.across(
-                number(at) as usize,
-                number(to) as usize,
-                number(len) as usize,
-            );
-            done(alloc)
-        }
-        ["part", at, len] => {
-            let part = regions.part(number(at) as usize, number(len) as usize);
-            format!(in alloc; "{part:?}")
         }
         _ => unknown(alloc),
     }

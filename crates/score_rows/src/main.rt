@@ -7,6 +7,7 @@ mod lists;
 mod tables;
 mod words;
 
+use crate::words::at;
 use row_words::unknown;
 use std::alloc::{AllocError, Global};
 use std::io;
@@ -21,9 +22,10 @@ struct State {
 // What a line answers.
 fn answer(state: &mut State, alloc: Global, line: &str) -> Result<String, AllocError> {
     let words: Vec<&str> = line.split(' ').collect(alloc)?;
-    match words.as_slice() {
-        ["list", words @ ..] => lists::answer(&mut state.list, alloc, words),
-        ["table", words @ ..] => tables::answer(&mut state.table, alloc, words),
+    let words = words.as_slice();
+    match at(words, 0) {
+        "list" => lists::answer(&mut state.list, alloc, words),
+        "table" => tables::answer(&mut state.table, alloc, words),
         _ => unknown(alloc),
     }
 }

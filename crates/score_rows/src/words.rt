@@ -1,10 +1,24 @@
 //! Words and answers that lines of both kinds have.
 
+use row_words::number;
 use std::alloc::{AllocError, Global};
 
-/// A number with or without its sign, 0 where the word is none.
-pub fn signed(word: &str) -> i64 {
-    word.parse::<i64>().unwrap_or(0)
+/// The word at an index, and the empty one where there are fewer.
+pub fn at<'a>(words: &[&'a str], index: usize) -> &'a str {
+    match words.get(index) {
+        Some(word) => *word,
+        None => "",
+    }
+}
+
+/// The number that the word at an index is, and 0 where it is none.
+pub fn nth(words: &[&str], index: usize) -> u64 {
+    number(at(words, index))
+}
+
+/// The number with or without its sign that the word at an index is, 0 where it is none.
+pub fn signed(words: &[&str], index: usize) -> i64 {
+    at(words, index).parse::<i64>().unwrap_or(0)
 }
 
 /// A score, and `-` for none.

@@ -2,8 +2,8 @@
 
 use super::held::Held;
 use super::runs::{agree, middle, renames, spares, walks};
-use crate::words::{counted, signed};
-use row_words::{done, number, shown, told, unknown};
+use crate::words::{at, counted, nth, signed};
+use row_words::{done, shown, told, unknown};
 use score_list::Memory;
 use std::alloc::Global;
 
@@ -19,63 +19,57 @@ fn cursor_at(held: &Held, alloc: Global, rank: usize) -> Result<String, Memory> 
     }
 }
 
-// A line of a run of its own.
-fn run(held: &mut Held, alloc: Global, name: &str, count: u64) -> Result<String, Memory> {
-    match name {
-        "walks" => {
-            let all = walks(alloc, count)?;
-            told(alloc, all)
+// A list that is filled into its middle takes the place of the one before.
+fn fill(held: &mut Held, alloc: Global, half: u64) -> Result<String, Memory> {
+    match middle(alloc, half)? {
+        Some(filled) => {
+            *held = filled;
+            done(alloc)
         }
-        "agree" => {
-            let all = agree(alloc, count)?;
-            told(alloc, all)
-        }
-        "middle" => match middle(alloc, count)? {
-            Some(filled) => {
-                *held = filled;
-                done(alloc)
-            }
-            None => unknown(alloc),
-        },
-        "cursor" => cursor_at(held, alloc, count as usize),
-        _ => unknown(alloc),
+        None => unknown(alloc),
     }
 }
 
-// A line of one word.
-fn plain(held: &mut Held, alloc: Global, name: &str) -> Result<String, Memory> {
+// A run of its own, and whether all goes as it should.
+fn run(alloc: Global, name: &str, count: u64) -> Result<bool, Memory> {
     match name {
+        "walks" => walks(alloc, count),
+        "agree" => agree(alloc, count),
+        "spares" => spares(alloc),
+        "renames" => renames(alloc),
+        _ => Ok(false),
+    }
+}
+
+// A line that changes the list, or a run of its own.
+fn edits(held: &mut Held, alloc: Global, words: &[&str]) -> Result<String, Memory> {
+    match at(words, 1) {
         "new" => {
             *held = Held::new(alloc)?;
             done(alloc)
         }
-        "len" => shown(alloc, Some(held.scores.len() as u64)),
-        "spares" => {
-            let all = spares(alloc)?;
+        "insert" => {
+            let new = held.insert(signed(words, 2))?;
+            told(alloc, new)
+        }
+        "middle" => fill(held, alloc, nth(words, 2)),
+        name => {
+            let all = run(alloc, name, nth(words, 2))?;
             told(alloc, all)
         }
-        "renames" => {
-            let all = renames(alloc)?;
-            told(alloc, all)
-        }
-        _ => unknown(alloc),
     }
 }
 
 /// What a line of these words answers.
 pub fn answer(held: &mut Held, alloc: Global, words: &[&str]) -> Result<String, Memory> {
-    match words {
-        ["insert", score] => {
-            let new = held.insert(signed(score))?;
-            told(alloc, new)
-        }
-        ["at", rank] => counted(alloc, held.score_at(number(rank) as usize)),
-        ["first", score] => {
-            let first = held.scores.first_in_range(signed(score));
+    match at(words, 1) {
+        "len" => shown(alloc, Some(held.scores.len() as u64)),
+        "cursor" => cursor_at(held, alloc, nth(words, 2) as usize),
+        "at" => counted(alloc, held.score_at(nth(words, 2) as usize)),
+        "first" => {
+            let first = held.scores.first_in_range(signed(words, 2));
             shown(alloc, Some(first as u64))
         }
-        [name, count] => run(held, alloc, name, number(count)),
-        [name] => plain(held, alloc, name),
-        _ => unknown(alloc),
+        _ => edits(held, alloc, words),
     }
 }

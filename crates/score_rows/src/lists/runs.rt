@@ -1,4 +1,4 @@
-//! Longer runs of a list, most of them beside a sorted vector of the scores that it should have.
+//! Longer runs of a list, most of them beside a plain table of the scores that it should have.
 
 use super::held::Held;
 use blocks::{PlainStore, put_block};
@@ -7,38 +7,103 @@ use rand_pcg::Pcg32;
 use score_list::{Memory, Scores};
 use std::alloc::Global;
 
-// Whether every call that only looks answers what the sorted vector says.
-fn compare(held: &Held, sorted: &[i64], score: i64) -> bool {
-    let place = sorted.partition_point(|s| *s < score);
-    let stands = sorted.get(place).copied() == Some(score);
-    let rank = if stands { Some(place) } else { None };
-    held.scores.len() == sorted.len()
-        && held.scores.first_in_range(score) == place
-        && held.score_at(place) == sorted.get(place).copied()
+// How many scores a plain table has room for.
+const SIZE: usize = 900;
+
+// Which of the scores from -450 to 449 stand.
+#[derive(Drop)]
+struct Plain {
+    stands: [bool; SIZE],
+}
+
+// The score of a place in the table.
+fn score_of(place: usize) -> i64 {
+    (place % SIZE) as i64 - 450
+}
+
+impl Plain {
+    fn new() -> Plain {
+        Plain {
+            stands: [false; SIZE],
+        }
+    }
+
+    fn has(&self, place: usize) -> bool {
+        self.stands[place % SIZE]
+    }
+
+    // Lets a score stand or not, and tells whether it stood before.
+    fn put(&mut self, place: usize, stands: bool) -> bool {
+        let stood = self.stands[place % SIZE];
+        self.stands[place % SIZE] = stands;
+        stood
+    }
+
+    // How many stand before a place.
+    fn below(&self, place: usize) -> usize {
+        let mut count: usize = 0;
+        for other in 0..place {
+            if self.has(other) {
+                count = count.saturating_add(1);
+            }
+        }
+        count
+    }
+
+    // The first score that stands from a place on.
+    fn first_from(&self, place: usize) -> Option<i64> {
+        for other in place..SIZE {
+            if self.has(other) {
+                return Some(score_of(other));
+            }
+        }
+        None
+    }
+}
+
+// A place that is drawn.
+fn drawn(rng: &mut Pcg32) -> usize {
+    rng.next_u32() as usize % SIZE
+}
+
+// Whether every call that only looks answers what the plain table says.
+fn compare(held: &Held, plain: &Plain, place: usize) -> bool {
+    let score = score_of(place);
+    let before = plain.below(place);
+    let rank = if plain.has(place) { Some(before) } else { None };
+    held.scores.len() == plain.below(SIZE)
+        && held.scores.first_in_range(score) == before
+        && held.score_at(before) == plain.first_from(place)
         && held.rank(score) == rank
 }
 
 // Whether a walk from a rank on meets just the scores from there, each at its rank.
-fn walk(scores: &Scores, sorted: &[i64], from: usize) -> bool {
+fn walk(scores: &Scores, plain: &Plain, from: usize) -> bool {
     let mut cursor = scores.cursor(from);
-    for (rank, score) in sorted.iter().enumerate().skip(from) {
-        match cursor {
-            None => return false,
-            Some(at) => {
-                if at.rank() != rank || at.get().0 != *score {
-                    return false;
+    let mut rank: usize = 0;
+    for place in 0..SIZE {
+        if plain.has(place) {
+            if rank >= from {
+                match cursor {
+                    None => return false,
+                    Some(at) => {
+                        if at.rank() != rank || at.get().0 != score_of(place) {
+                            return false;
+                        }
+                        cursor = at.next();
+                    }
                 }
-                cursor = at.next();
             }
+            rank = rank.saturating_add(1);
         }
     }
     cursor.is_none()
 }
 
 // Whether walks from each rank on meet just the scores from there.
-fn walk_all(scores: &Scores, sorted: &[i64]) -> bool {
-    for from in 0..sorted.len() + 1 {
-        if !walk(scores, sorted, from) {
+fn walk_all(scores: &Scores, plain: &Plain) -> bool {
+    for from in 0..=plain.below(SIZE) {
+        if !walk(scores, plain, from) {
             return false;
         }
     }
@@ -49,48 +114,38 @@ fn walk_all(scores: &Scores, sorted: &[i64]) -> bool {
 pub fn walks(alloc: Global, count: u64) -> Result<bool, Memory> {
     let mut rng = Pcg32::new(12, 54);
     let mut held = Held::new(alloc)?;
-    let mut sorted = Vec::new(alloc);
+    let mut plain = Plain::new();
     for _ in 0..count {
-        if !walk_all(&held.scores, sorted.as_slice()) {
+        if !walk_all(&held.scores, &plain) {
             return Ok(false);
         }
-        let score = i64::from(rng.next_u32() % 900) - 450;
-        let place = sorted.as_slice().partition_point(|s| *s < score);
-        if held.insert(score)? && place <= sorted.len() {
-            sorted.insert(place, score)?;
-        }
+        let place = drawn(&mut rng);
+        held.insert(score_of(place))?;
+        plain.put(place, true);
     }
-    Ok(sorted.len() > 50)
+    Ok(plain.below(SIZE) > 50)
 }
 
 // Puts a score into both or takes it out of both, and tells whether the answer is right.
-fn edit(held: &mut Held, sorted: &mut Vec<i64>, score: i64, comes: bool) -> Result<bool, Memory> {
-    let place = sorted.as_slice().partition_point(|s| *s < score);
-    let stands = sorted.as_slice().get(place).copied() == Some(score);
+fn edit(held: &mut Held, plain: &mut Plain, place: usize, comes: bool) -> Result<bool, Memory> {
+    let score = score_of(place);
+    let stood = plain.put(place, comes);
     if comes {
-        let new = held.insert(score)?;
-        if !stands && place <= sorted.len() {
-            sorted.insert(place, score)?;
-        }
-        return Ok(new != stands);
+        Ok(held.insert(score)? != stood)
+    } else {
+        Ok(held.remove(score) == stood)
     }
-    if stands && place < sorted.len() {
-        sorted.remove(place);
-    }
-    Ok(held.remove(score) == stands)
 }
 
-/// Whether so many edits, by which the list grows, shrinks and grows again, answer as a sorted vector does.
+/// Whether so many edits, by which the list grows, shrinks and grows again, answer as a plain table does.
 pub fn agree(alloc: Global, count: u64) -> Result<bool, Memory> {
     let mut rng = Pcg32::new(11, 54);
     let mut held = Held::new(alloc)?;
-    let mut sorted = Vec::new(alloc);
+    let mut plain = Plain::new();
     for round in 0..count {
-        let score = i64::from(rng.next_u32() % 900) - 450;
+        let place = drawn(&mut rng);
         let comes = u64::from(rng.next_u32() % 8) < 2 + round / 1000 % 2 * 4;
-        if !edit(&mut held, &mut sorted, score, comes)?
-            || !compare(&held, sorted.as_slice(), score)
-        {
+        if !edit(&mut held, &mut plain, place, comes)? || !compare(&held, &plain, place) {
             return Ok(false);
         }
     }

@@ -3,8 +3,8 @@
 use super::held::Held;
 use super::refusals::spares;
 use super::twin::edits;
-use crate::words::{counted, signed};
-use row_words::{bytes_of, done, number, shown, told, unknown};
+use crate::words::{at, counted, nth, signed};
+use row_words::{bytes_of, done, shown, told};
 use score_table::{Memory, score_table_laws};
 use std::alloc::Global;
 use std::mem;
@@ -15,57 +15,76 @@ fn begin(held: &mut Held, alloc: Global) {
     score_table_laws();
 }
 
-// A line on a score and a member.
-fn on_pair(
-    held: &mut Held,
-    alloc: Global,
-    name: &str,
-    score: i64,
-    member: &[u8],
-) -> Result<String, Memory> {
+// A line that tells something of a member, by a score or a place.
+fn on_pair(held: &mut Held, name: &str, words: &[&str], member: &[u8]) -> Result<bool, Memory> {
     match name {
-        "take" => {
-            let new = held.take(score, member)?;
-            told(alloc, new)
-        }
-        "set" => {
-            let new = held.set(score, member)?;
-            told(alloc, new)
-        }
-        _ => unknown(alloc),
+        "take" => held.take(signed(words, 2), member),
+        "set" => held.set(signed(words, 2), member),
+        "ranks" => Ok(held.ranks(nth(words, 2) as usize, signed(words, 3), member)),
+        "item" => Ok(held.is_item(nth(words, 2) as usize, signed(words, 3), member)),
+        _ => Ok(held.lacks(member)),
     }
 }
 
-// A line on one member.
-fn on_member(held: &mut Held, alloc: Global, name: &str, member: &[u8]) -> Result<String, Memory> {
-    match name {
-        "out" => {
-            let was = held.take_out(member);
-            counted(alloc, was)
+// A rank, and `-` for none.
+fn rank_shown(alloc: Global, rank: Option<usize>) -> Result<String, Memory> {
+    match rank {
+        Some(rank) => shown(alloc, Some(rank as u64)),
+        None => shown(alloc, None),
+    }
+}
+
+// A line on the member that the last word is.
+fn on_member(held: &mut Held, alloc: Global, words: &[&str]) -> Result<String, Memory> {
+    let member = bytes_of(alloc, at(words, words.len().saturating_sub(1)))?;
+    match at(words, 1) {
+        "out" => counted(alloc, held.take_out(member.as_slice())),
+        "rank" => rank_shown(alloc, held.rank(member.as_slice())),
+        name => {
+            let is = on_pair(held, name, words, member.as_slice())?;
+            told(alloc, is)
         }
-        "rank" => shown(alloc, held.rank(member).map(|rank| rank as u64)),
-        "lacks" => told(alloc, held.lacks(member)),
-        _ => unknown(alloc),
     }
 }
 
 // A line with a number.
-fn numbered(held: &mut Held, alloc: Global, name: &str, count: u64) -> Result<String, Memory> {
-    match name {
-        "ends" => told(alloc, held.ends_at(count as usize)),
-        "entry" => told(alloc, held.table.is_entry(count as usize)),
+fn numbered(held: &mut Held, alloc: Global, words: &[&str]) -> Result<String, Memory> {
+    match at(words, 1) {
+        "ends" => told(alloc, held.ends_at(nth(words, 2) as usize)),
+        "entry" => told(alloc, held.table.is_entry(nth(words, 2) as usize)),
+        "below" => shown(alloc, Some(held.table.below(signed(words, 2)) as u64)),
         "settle" => {
-            held.settle_item(count as usize);
+            held.settle_item(nth(words, 2) as usize);
             done(alloc)
         }
-        "edits" => told(alloc, edits(alloc, count)),
-        _ => unknown(alloc),
+        "edits" => told(alloc, edits(alloc, nth(words, 2))),
+        _ => on_member(held, alloc, words),
     }
 }
 
-// A line of one word.
-fn plain(held: &mut Held, alloc: Global, name: &str) -> Result<String, Memory> {
+// A line on how many there are.
+fn plain(held: &mut Held, alloc: Global, words: &[&str]) -> Result<String, Memory> {
+    match at(words, 1) {
+        "top" => shown(alloc, Some(held.table.top() as u64)),
+        "len" => shown(alloc, Some(held.table.table().len() as u64)),
+        "walk" => shown(alloc, Some(held.walked() as u64)),
+        "lose_ones" => shown(alloc, Some(held.lose_ones() as u64)),
+        _ => numbered(held, alloc, words),
+    }
+}
+
+// Whether a longer run goes as it should.
+fn run(held: &mut Held, alloc: Global, name: &str) -> Result<bool, Memory> {
     match name {
+        "spares" => spares(alloc),
+        "takes_thousand" => held.takes_thousand(),
+        _ => Ok(held.ranks_thousand()),
+    }
+}
+
+/// What a line of these words answers.
+pub fn answer(held: &mut Held, alloc: Global, words: &[&str]) -> Result<String, Memory> {
+    match at(words, 1) {
         "new" => {
             begin(held, alloc);
             done(alloc)
@@ -74,68 +93,10 @@ fn plain(held: &mut Held, alloc: Global, name: &str) -> Result<String, Memory> {
             held.copied(alloc)?;
             done(alloc)
         }
-        "top" => shown(alloc, Some(held.table.top() as u64)),
-        "len" => shown(alloc, Some(held.table.table().len() as u64)),
-        "walk" => shown(alloc, Some(held.walked() as u64)),
-        "lose_ones" => {
-            let many = held.lose_ones();
-            shown(alloc, Some(many as u64))
-        }
-        _ => unknown(alloc),
-    }
-}
-
-// A line of one word that answers whether all goes as it should.
-fn whether(held: &mut Held, alloc: Global, name: &str) -> Result<String, Memory> {
-    match name {
-        "spares" => {
-            let all = spares(alloc)?;
+        "spares" | "takes_thousand" | "ranks_thousand" => {
+            let all = run(held, alloc, at(words, 1))?;
             told(alloc, all)
         }
-        "takes_thousand" => {
-            let all = held.takes_thousand()?;
-            told(alloc, all)
-        }
-        "ranks_thousand" => told(alloc, held.ranks_thousand()),
-        _ => plain(held, alloc, name),
-    }
-}
-
-// A line that says which pair stands where.
-fn placed(
-    held: &Held,
-    alloc: Global,
-    name: &str,
-    at: usize,
-    pair: (i64, &[u8]),
-) -> Result<String, Memory> {
-    let (score, member) = pair;
-    match name {
-        "ranks" => told(alloc, held.ranks(at, score, member)),
-        "item" => told(alloc, held.is_item(at, score, member)),
-        _ => unknown(alloc),
-    }
-}
-
-/// What a line of these words answers.
-pub fn answer(held: &mut Held, alloc: Global, words: &[&str]) -> Result<String, Memory> {
-    match words {
-        [name, at, score, word] => {
-            let member = bytes_of(alloc, word)?;
-            let at = number(at) as usize;
-            placed(held, alloc, name, at, (signed(score), member.as_slice()))
-        }
-        [name, score, word] => {
-            let member = bytes_of(alloc, word)?;
-            on_pair(held, alloc, name, signed(score), member.as_slice())
-        }
-        ["below", score] => shown(alloc, Some(held.table.below(signed(score)) as u64)),
-        [name, word] if matches!(*name, "out" | "rank" | "lacks") => {
-            let member = bytes_of(alloc, word)?;
-            on_member(held, alloc, name, member.as_slice())
-        }
-        [name, count] => numbered(held, alloc, name, number(count)),
-        [name] => whether(held, alloc, name),
-        _ => unknown(alloc),
+        _ => plain(held, alloc, words),
     }
 }
