@@ -1,12 +1,16 @@
 #!/usr/bin/env python3
 """The lines of `--generate N --seed S`, worked out apart from the program.
 
-usage: generated.py N SEED
+usage: generated.py N SEED [FILE], which also writes the commands into a file as requests in RESP2, for a server
 
 A plain model of its own: PCG XSH RR 64/32 seeded as rand_core seeds from one number, Redis's replies over Python's
 dictionaries, and CRC-64 of Jones bit by bit. It shares no code with the program.
 """
 import sys
+
+# nothing is left beside the sources
+sys.dont_write_bytecode = True
+from resp import request  # noqa: E402
 
 MASK64 = (1 << 64) - 1
 MULTIPLIER = 6364136223846793005
@@ -109,12 +113,28 @@ def answer(store, w, x, moment):
     return number(int(store.pop("%s:%d" % ("snlthz"[x % 6], k), None) is not None))
 
 
+# the words of each kind of command, for a key's number k and a word x
+WORDS = ["SET s:{k} {x}"] * 3 + ["GET s:{k}"] * 2 + [
+    "INCRBY n:{k} {x1000}", "RPUSH l:{k} {x}", "LRANGE l:{k} 0 9", "SADD t:{k} {x64}", "SISMEMBER t:{k} {x64}",
+    "HSET h:{k} f{x32} {x}", "HGET h:{k} f{x32}", "ZADD z:{k} {x1000} m{x64}", "ZRANGE z:{k} 0 9", "XADD x:{k} * f {x}",
+    "DEL {letter}:{k}"]
+
+
+def words(w, x):
+    """The words of the command that two words of the dice say."""
+    parts = {"k": w // 16 % 1000, "x": x, "x1000": x % 1000, "x64": x % 64, "x32": x % 32, "letter": "snlthz"[x % 6]}
+    return WORDS[w % 16].format(**parts).encode().split()
+
+
 def main():
     count, seed = int(sys.argv[1]), int(sys.argv[2])
+    requests = open(sys.argv[3], "wb") if len(sys.argv) > 3 else None
     dice, store, table, crc = Pcg32(seed), {}, crc_table(), 0
     for moment in range(1, count + 1):
         w = dice.next_word()
         x = dice.next_word()
+        if requests:
+            requests.write(request(*words(w, x)))
         for byte in answer(store, w, x, moment).encode():
             crc = table[(crc ^ byte) & 255] ^ crc >> 8
     print("commands %d\nkeys %d\ncrc %016x" % (count, len(store), crc))

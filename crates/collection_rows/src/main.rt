@@ -11,6 +11,7 @@ mod words;
 use crate::hashes::Hashes;
 use crate::scored::SortedSets;
 use crate::sets::Sets;
+use crate::words::at;
 use row_words::unknown;
 use std::alloc::{AllocError, Global};
 use std::io;
@@ -23,27 +24,39 @@ struct State {
     scored: SortedSets,
 }
 
+impl State {
+    fn new(alloc: Global) -> State {
+        State {
+            sets: Sets::new(alloc),
+            hashes: Hashes::new(alloc),
+            scored: SortedSets::new(alloc),
+        }
+    }
+}
+
 // What a line answers.
 fn answer(state: &mut State, alloc: Global, line: &str) -> Result<String, AllocError> {
     let words: Vec<&str> = line.split(' ').collect(alloc)?;
-    match words.as_slice() {
-        ["set", words @ ..] => sets::answer(&mut state.sets, alloc, words),
-        ["hash", words @ ..] => hashes::answer(&mut state.hashes, alloc, words),
-        ["sorted", words @ ..] => scored::answer(&mut state.scored, alloc, words),
+    let words = words.as_slice();
+    match at(words, 0) {
+        "set" => sets::answer(&mut state.sets, alloc, words),
+        "hash" => hashes::answer(&mut state.hashes, alloc, words),
+        "sorted" => scored::answer(&mut state.scored, alloc, words),
         _ => unknown(alloc),
     }
 }
 
-fn main(rt: HostRuntime) -> io::Result<()> {
-    let text = io::read_to_string(rt.alloc(), rt.stdin())?;
-    let mut state = State {
-        sets: Sets::new(rt.alloc()),
-        hashes: Hashes::new(rt.alloc()),
-        scored: SortedSets::new(rt.alloc()),
-    };
+// Prints what each line answers.
+fn print_answers(rt: &HostRuntime, state: &mut State, text: &str) -> io::Result<()> {
     for line in text.lines() {
-        let answered = answer(&mut state, rt.alloc(), line)?;
+        let answered = answer(state, rt.alloc(), line)?;
         println!(rt; "{line} = {answered}")?;
     }
     Ok(())
+}
+
+fn main(rt: HostRuntime) -> io::Result<()> {
+    let text = io::read_to_string(rt.alloc(), rt.stdin())?;
+    let mut state = State::new(rt.alloc());
+    print_answers(&rt, &mut state, &text)
 }

@@ -3,18 +3,36 @@
 use blocks::Moved;
 use object_codec::Form;
 use rev_cursor::BucketScan;
-use row_words::{number, shown, unknown};
+use row_words::{bytes_of, number, shown, unknown};
 use scan_cursor::page;
 use std::alloc::{AllocError, Global};
 
-/// A number below 2^32, and the greatest of them for every other.
-pub fn small(word: &str) -> u32 {
-    u32::try_from(number(word)).unwrap_or(u32::MAX)
+/// The word at an index, and the empty one where there are fewer.
+pub fn at<'a>(words: &[&'a str], index: usize) -> &'a str {
+    match words.get(index) {
+        Some(word) => *word,
+        None => "",
+    }
 }
 
-/// A number with or without its sign, 0 where the word is none.
-pub fn signed(word: &str) -> i64 {
-    word.parse::<i64>().unwrap_or(0)
+/// The number that the word at an index is, and 0 where it is none.
+pub fn nth(words: &[&str], index: usize) -> u64 {
+    number(at(words, index))
+}
+
+/// The number below 2^32 that the word at an index is, and the greatest of them for every other.
+pub fn small(words: &[&str], index: usize) -> u32 {
+    u32::try_from(nth(words, index)).unwrap_or(u32::MAX)
+}
+
+/// The number with or without its sign that the word at an index is, 0 where it is none.
+pub fn signed(words: &[&str], index: usize) -> i64 {
+    at(words, index).parse::<i64>().unwrap_or(0)
+}
+
+/// The bytes that the word at an index stands for.
+pub fn bytes_at(alloc: Global, words: &[&str], index: usize) -> Result<Vec<u8>, AllocError> {
+    bytes_of(alloc, at(words, index))
 }
 
 /// The name of a form.
@@ -39,31 +57,27 @@ pub fn counted(alloc: Global, count: Option<usize>) -> Result<String, AllocError
     format!(in alloc; "{count:?}")
 }
 
-/// A page's next cursor and how many items it has.
+/// How many items a page of so many from a cursor on has, by the words of the line, and the next cursor before it where that is asked
+/// for.
 pub fn paged<S: BucketScan>(
     alloc: Global,
     target: &S,
-    cursor: u64,
-    count: u64,
+    words: &[&str],
+    whole: bool,
 ) -> Result<String, AllocError> {
+    let count = nth(words, 3);
     if count == 0 {
         return unknown(alloc);
     }
-    let given = page(alloc, target, cursor, count)?;
-    let (next, many) = (given.next, given.items.len());
-    format!(in alloc; "{next} {many}")
+    let given = page(alloc, target, nth(words, 2), count)?;
+    page_shown(alloc, given.next, given.items.len(), whole)
 }
 
-/// How many items a page has.
-pub fn met<S: BucketScan>(
-    alloc: Global,
-    target: &S,
-    cursor: u64,
-    count: u64,
-) -> Result<String, AllocError> {
-    if count == 0 {
-        return unknown(alloc);
+// A page's next cursor and how many items it has.
+fn page_shown(alloc: Global, next: u64, many: usize, whole: bool) -> Result<String, AllocError> {
+    if whole {
+        format!(in alloc; "{next} {many}")
+    } else {
+        shown(alloc, Some(many as u64))
     }
-    let given = page(alloc, target, cursor, count)?;
-    shown(alloc, Some(given.items.len() as u64))
 }

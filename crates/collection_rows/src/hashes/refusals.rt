@@ -46,9 +46,9 @@ pub fn placings(
     alloc: Global,
     count: u32,
     name: &str,
-    field: &[u8],
-    value: &[u8],
+    pair: (&[u8], &[u8]),
 ) -> Result<Option<usize>, Memory> {
+    let (field, value) = pair;
     let mut held = Held::new(alloc, limits(3, 64));
     held.set_numbers(count)?;
     Ok(held.placings(count, name, field, value))

@@ -59,12 +59,12 @@ impl Stored {
     }
 
     // Goes through the blocks from the first mark to the end, at most 32 at a time, and answers how many it passed.
-    fn relocate_all(&mut self) -> Option<u32> {
-        let mut passed: u32 = 0;
+    fn relocate_all(&mut self) -> Option<u64> {
+        let mut passed: u64 = 0;
         let mut from = 0;
         for _ in 0..64 {
             let moved = self.hash.relocate_part(&mut self.heap, from, 32);
-            passed = passed.saturating_add(moved.used);
+            passed = passed.saturating_add(u64::from(moved.used));
             match moved.next {
                 Some(next) => from = next,
                 None => return Some(passed),
@@ -74,7 +74,7 @@ impl Stored {
     }
 
     // How many blocks and vacant item numbers a pass went through. None is answered where blocks want to move after it.
-    fn pass(&mut self) -> Option<u32> {
+    fn pass(&mut self) -> Option<u64> {
         self.heap.begin_pass();
         let passed = self.relocate_all();
         let is_calm = self.heap.is_calm();
@@ -155,10 +155,7 @@ pub fn answer(twin: &mut Twin, alloc: Global, name: &str) -> Result<String, Memo
             format!(in alloc; "{fields} {values}")
         }
         "units" => shown(alloc, Some(u64::from(twin.stored.hash.units()))),
-        "pass" => {
-            let passed = twin.stored.pass().map(u64::from);
-            shown(alloc, passed)
-        }
+        "pass" => shown(alloc, twin.stored.pass()),
         _ => unknown(alloc),
     }
 }

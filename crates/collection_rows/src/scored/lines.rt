@@ -4,8 +4,8 @@ use super::held::{Held, limits};
 use super::refusals::placings;
 use super::slabs::{self, Twin};
 use super::twin::agrees_under_edits;
-use crate::words::{counted, form_named, met, paged, passed, risen, signed, small};
-use row_words::{bytes_of, done, number, shown, told, unknown};
+use crate::words::{at, bytes_at, counted, form_named, nth, paged, passed, risen, signed, small};
+use row_words::{done, shown, told, unknown};
 use std::alloc::Global;
 use std::mem;
 use zset_object::{Memory, scored_laws};
@@ -27,8 +27,9 @@ impl SortedSets {
 }
 
 // Begins with an empty sorted set by these limits; the one before is given back.
-fn begin(held: &mut Held, alloc: Global, entries: u32, value: u32) {
-    mem::replace(held, Held::new(alloc, limits(entries, value))).release();
+fn begin(held: &mut Held, alloc: Global, words: &[&str]) {
+    let limits = limits(small(words, 2), small(words, 3));
+    mem::replace(held, Held::new(alloc, limits)).release();
     scored_laws();
 }
 
@@ -39,115 +40,104 @@ fn rises_behind(held: &mut Held, alloc: Global, count: u32) -> Result<String, Me
     risen(alloc, [before, after], held.set.len())
 }
 
-// A line on a member and a score.
-fn on_pair(
-    held: &mut Held,
-    alloc: Global,
-    name: &str,
-    member: &[u8],
-    score: i64,
-) -> Result<String, Memory> {
-    match name {
+// The form behind a member that is new.
+fn rises(held: &mut Held, alloc: Global, member: &[u8], score: i64) -> Result<String, Memory> {
+    match held.rise(member, score)? {
+        Some(form) => form_named(alloc, form),
+        None => unknown(alloc),
+    }
+}
+
+// A line on a member, or on a member and a score.
+fn on_member(held: &mut Held, alloc: Global, words: &[&str]) -> Result<String, Memory> {
+    let member = bytes_at(alloc, words, 2)?;
+    match at(words, 1) {
+        "rise" => rises(held, alloc, member.as_slice(), signed(words, 3)),
         "set" => {
-            let new = held.set(member, score)?;
-            told(alloc, new)
+            let is_new = held.set(member.as_slice(), signed(words, 3))?;
+            told(alloc, is_new)
         }
-        "rise" => match held.rise(member, score)? {
-            Some(form) => form_named(alloc, form),
-            None => unknown(alloc),
-        },
+        "remove" => {
+            let was = held.remove(member.as_slice())?;
+            told(alloc, was)
+        }
         _ => unknown(alloc),
     }
 }
 
 // A line of a number.
-fn numbered(held: &mut Held, alloc: Global, name: &str, count: u64) -> Result<String, Memory> {
-    match name {
+fn numbered(held: &mut Held, alloc: Global, words: &[&str]) -> Result<String, Memory> {
+    match at(words, 1) {
         "numbers" => {
-            held.set_numbers(u32::try_from(count).unwrap_or(0))?;
+            held.set_numbers(small(words, 2))?;
             done(alloc)
         }
-        "entry" => told(alloc, held.set.is_entry(count as usize)),
-        "behind" => rises_behind(held, alloc, u32::try_from(count).unwrap_or(0)),
-        "pass" => passed(alloc, held.relocate(u128::from(count))),
-        _ => unknown(alloc),
+        "entry" => told(alloc, held.set.is_entry(nth(words, 2) as usize)),
+        "behind" => rises_behind(held, alloc, small(words, 2)),
+        "pass" => passed(alloc, held.relocate(u128::from(nth(words, 2)))),
+        _ => on_member(held, alloc, words),
     }
 }
 
-// A line of one word.
-fn plain(held: &mut Held, alloc: Global, name: &str) -> Result<String, Memory> {
-    match name {
+// A line on how many there are.
+fn plain(held: &mut Held, alloc: Global, words: &[&str]) -> Result<String, Memory> {
+    match at(words, 1) {
         "len" => shown(alloc, Some(held.set.len() as u64)),
         "top" => shown(alloc, Some(held.set.top() as u64)),
         "walk" => shown(alloc, Some(held.walked() as u64)),
         "numbered" => shown(alloc, Some(held.numbered() as u64)),
         "units" => shown(alloc, Some(u64::from(held.set.units()))),
+        _ => numbered(held, alloc, words),
+    }
+}
+
+// Whether a member stands at a rank, or has an item number.
+fn stands(held: &Held, alloc: Global, words: &[&str]) -> Result<String, Memory> {
+    let member = bytes_at(alloc, words, 3)?;
+    let place = nth(words, 2) as usize;
+    match at(words, 1) {
+        "at" => told(alloc, held.is_at(place, member.as_slice())),
+        _ => told(
+            alloc,
+            held.ranks(place, member.as_slice(), signed(words, 4)),
+        ),
+    }
+}
+
+// A line on the whole sorted set or a place.
+fn placed(held: &mut Held, alloc: Global, words: &[&str]) -> Result<String, Memory> {
+    match at(words, 1) {
         "form" => form_named(alloc, held.set.form()),
-        _ => unknown(alloc),
+        "at" | "ranks" => stands(held, alloc, words),
+        "page" => paged(alloc, &held.set, words, true),
+        "met" => paged(alloc, &held.set, words, false),
+        _ => plain(held, alloc, words),
     }
 }
 
-// A line of a run of its own.
-fn run(alloc: Global, words: &[&str]) -> Result<String, Memory> {
-    match words {
-        ["edits", entries, value] => {
-            let limits = limits(small(entries), small(value));
-            told(alloc, agrees_under_edits(alloc, limits))
-        }
-        ["placings", count, name, word, score] => {
-            let member = bytes_of(alloc, word)?;
-            let many = placings(alloc, small(count), name, member.as_slice(), signed(score))?;
-            counted(alloc, many)
-        }
-        _ => unknown(alloc),
-    }
+// Whether a sorted set by the limits that the words say agrees with a plain list.
+fn agrees(alloc: Global, words: &[&str]) -> bool {
+    agrees_under_edits(alloc, limits(small(words, 2), small(words, 3)))
 }
 
-// A line of two words behind its name.
-fn paired(
-    held: &mut Held,
-    alloc: Global,
-    name: &str,
-    one: &str,
-    two: &str,
-) -> Result<String, Memory> {
-    match name {
-        "at" => {
-            let member = bytes_of(alloc, two)?;
-            told(alloc, held.is_at(number(one) as usize, member.as_slice()))
-        }
-        "page" => paged(alloc, &held.set, number(one), number(two)),
-        "met" => met(alloc, &held.set, number(one), number(two)),
-        _ => {
-            let member = bytes_of(alloc, one)?;
-            on_pair(held, alloc, name, member.as_slice(), signed(two))
-        }
-    }
+// How many placings a call takes.
+fn placed_in(alloc: Global, words: &[&str]) -> Result<String, Memory> {
+    let member = bytes_at(alloc, words, 4)?;
+    let pair = (member.as_slice(), signed(words, 5));
+    let many = placings(alloc, small(words, 2), at(words, 3), pair)?;
+    counted(alloc, many)
 }
 
 /// What a line of these words answers.
 pub fn answer(sorted: &mut SortedSets, alloc: Global, words: &[&str]) -> Result<String, Memory> {
-    let held = &mut sorted.held;
-    match words {
-        ["new", entries, value] => {
-            begin(held, alloc, small(entries), small(value));
+    match at(words, 1) {
+        "new" => {
+            begin(&mut sorted.held, alloc, words);
             done(alloc)
         }
-        ["slab", name] => slabs::answer(&mut sorted.twin, alloc, name),
-        ["edits", ..] | ["placings", ..] => run(alloc, words),
-        ["ranks", rank, word, score] => {
-            let member = bytes_of(alloc, word)?;
-            let stands = held.ranks(number(rank) as usize, member.as_slice(), signed(score));
-            told(alloc, stands)
-        }
-        [name, one, two] => paired(held, alloc, name, one, two),
-        ["remove", word] => {
-            let member = bytes_of(alloc, word)?;
-            let was = held.remove(member.as_slice())?;
-            told(alloc, was)
-        }
-        [name, count] => numbered(held, alloc, name, number(count)),
-        [name] => plain(held, alloc, name),
-        _ => unknown(alloc),
+        "slab" => slabs::answer(&mut sorted.twin, alloc, at(words, 2)),
+        "edits" => told(alloc, agrees(alloc, words)),
+        "placings" => placed_in(alloc, words),
+        _ => placed(&mut sorted.held, alloc, words),
     }
 }

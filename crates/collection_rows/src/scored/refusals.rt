@@ -55,9 +55,9 @@ pub fn placings(
     alloc: Global,
     count: u32,
     name: &str,
-    member: &[u8],
-    score: i64,
+    pair: (&[u8], i64),
 ) -> Result<Option<usize>, Memory> {
+    let (member, score) = pair;
     let mut held = Held::new(alloc, limits(3, 64));
     held.set_numbers(count)?;
     Ok(held.placings(count, name, member, score))

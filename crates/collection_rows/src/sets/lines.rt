@@ -4,8 +4,8 @@ use super::held::{Held, limits};
 use super::refusals::placings;
 use super::slabs::{self, Both};
 use super::twin::agrees_under_edits;
-use crate::words::{counted, form_named, met, paged, passed, risen, small};
-use row_words::{bytes_of, done, number, shown, told, unknown};
+use crate::words::{at, bytes_at, counted, form_named, nth, paged, passed, risen, small};
+use row_words::{done, shown, told, unknown};
 use set_object::{Memory, members_laws};
 use std::alloc::Global;
 use std::mem;
@@ -27,8 +27,9 @@ impl Sets {
 }
 
 // Begins with an empty set by these limits; the one before is given back.
-fn begin(held: &mut Held, alloc: Global, numbers: u32, entries: u32, value: u32) {
-    mem::replace(held, Held::new(alloc, limits(numbers, entries, value))).release();
+fn begin(held: &mut Held, alloc: Global, words: &[&str]) {
+    let limits = limits(small(words, 2), small(words, 3), small(words, 4));
+    mem::replace(held, Held::new(alloc, limits)).release();
     members_laws();
 }
 
@@ -44,6 +45,11 @@ fn rises_behind(
     risen(alloc, [before, after], held.set.len())
 }
 
+// The prefix that a word is.
+fn prefix_of(word: &str) -> &str {
+    if word == "''" { "" } else { word }
+}
+
 // What a call from a mark on passes, which is also what the call says that only looks.
 fn passes(held: &mut Held, alloc: Global, from: u128) -> Result<String, Memory> {
     let moved = held.relocate(from);
@@ -53,53 +59,56 @@ fn passes(held: &mut Held, alloc: Global, from: u128) -> Result<String, Memory> 
     passed(alloc, moved)
 }
 
-// A line on one member.
-fn on_member(held: &mut Held, alloc: Global, name: &str, member: &[u8]) -> Result<String, Memory> {
+// The form behind a member that is new.
+fn rises(held: &mut Held, alloc: Global, member: &[u8]) -> Result<String, Memory> {
+    match held.rise(member)? {
+        Some(form) => form_named(alloc, form),
+        None => unknown(alloc),
+    }
+}
+
+// A line that edits one member, and whether that changed anything.
+fn edits(held: &mut Held, name: &str, member: &[u8]) -> Result<bool, Memory> {
     match name {
-        "add" => {
-            let new = held.add(member)?;
-            told(alloc, new)
+        "add" => held.add(member),
+        "remove" => held.remove(member),
+        "leave" => held.leave(member),
+        _ => Ok(held.has(member)),
+    }
+}
+
+// A line on one member.
+fn on_member(held: &mut Held, alloc: Global, words: &[&str]) -> Result<String, Memory> {
+    let member = bytes_at(alloc, words, 2)?;
+    match at(words, 1) {
+        "rise" => rises(held, alloc, member.as_slice()),
+        name => {
+            let is = edits(held, name, member.as_slice())?;
+            told(alloc, is)
         }
-        "remove" => {
-            let was = held.remove(member)?;
-            told(alloc, was)
-        }
-        "has" => told(alloc, held.has(member)),
-        "leave" => {
-            let left = held.leave(member)?;
-            told(alloc, left)
-        }
-        "rise" => match held.rise(member)? {
-            Some(form) => form_named(alloc, form),
-            None => unknown(alloc),
-        },
-        _ => unknown(alloc),
     }
 }
 
 // A line of two numbers.
-fn paired(
-    held: &mut Held,
-    alloc: Global,
-    name: &str,
-    one: u32,
-    two: u32,
-) -> Result<String, Memory> {
-    match name {
+fn paired(held: &mut Held, alloc: Global, words: &[&str]) -> Result<String, Memory> {
+    match at(words, 1) {
         "numbers" => {
-            held.add_numbers(one, two)?;
+            held.add_numbers(small(words, 2), small(words, 3))?;
             done(alloc)
         }
-        "count" => shown(alloc, Some(held.count_numbers(one, two) as u64)),
-        "page" => paged(alloc, &held.set, u64::from(one), u64::from(two)),
-        "met" => met(alloc, &held.set, u64::from(one), u64::from(two)),
-        _ => unknown(alloc),
+        "count" => {
+            let many = held.count_numbers(small(words, 2), small(words, 3));
+            shown(alloc, Some(many as u64))
+        }
+        "page" => paged(alloc, &held.set, words, true),
+        "met" => paged(alloc, &held.set, words, false),
+        _ => on_member(held, alloc, words),
     }
 }
 
 // A line of one word.
-fn plain(held: &mut Held, alloc: Global, name: &str) -> Result<String, Memory> {
-    match name {
+fn plain(held: &mut Held, alloc: Global, words: &[&str]) -> Result<String, Memory> {
+    match at(words, 1) {
         "len" => shown(alloc, Some(held.set.len() as u64)),
         "top" => shown(alloc, Some(held.set.top() as u64)),
         "walk" => shown(alloc, Some(held.walked() as u64)),
@@ -108,52 +117,50 @@ fn plain(held: &mut Held, alloc: Global, name: &str) -> Result<String, Memory> {
             held.copied()?;
             done(alloc)
         }
-        _ => unknown(alloc),
+        _ => paired(held, alloc, words),
     }
 }
 
-// A line of a run of its own.
-fn run(alloc: Global, words: &[&str]) -> Result<String, Memory> {
-    match words {
-        ["edits", numbers, entries, value, mask] => {
-            let limits = limits(small(numbers), small(entries), small(value));
-            told(
-                alloc,
-                agrees_under_edits(alloc, limits, number(mask) as usize),
-            )
-        }
-        ["placings", count, name, word] => {
-            let member = bytes_of(alloc, word)?;
-            let many = placings(alloc, small(count), name, member.as_slice())?;
-            counted(alloc, many)
-        }
-        _ => unknown(alloc),
+// Whether a member has an item number.
+fn is_at(held: &Held, alloc: Global, words: &[&str]) -> Result<String, Memory> {
+    let member = bytes_at(alloc, words, 3)?;
+    told(alloc, held.is_at(nth(words, 2) as usize, member.as_slice()))
+}
+
+// A line on a place.
+fn placed(held: &mut Held, alloc: Global, words: &[&str]) -> Result<String, Memory> {
+    match at(words, 1) {
+        "behind" => rises_behind(held, alloc, prefix_of(at(words, 2)), small(words, 3)),
+        "entry" => told(alloc, held.set.is_entry(nth(words, 2) as usize)),
+        "at" => is_at(held, alloc, words),
+        "pass" => passes(held, alloc, u128::from(nth(words, 2))),
+        _ => plain(held, alloc, words),
     }
+}
+
+// Whether a set by the limits that the words say agrees with a plain one.
+fn agrees(alloc: Global, words: &[&str]) -> bool {
+    let limits = limits(small(words, 2), small(words, 3), small(words, 4));
+    agrees_under_edits(alloc, limits, nth(words, 5) as usize)
+}
+
+// How many placings a call takes.
+fn placed_in(alloc: Global, words: &[&str]) -> Result<String, Memory> {
+    let member = bytes_at(alloc, words, 4)?;
+    let many = placings(alloc, small(words, 2), at(words, 3), member.as_slice())?;
+    counted(alloc, many)
 }
 
 /// What a line of these words answers.
 pub fn answer(sets: &mut Sets, alloc: Global, words: &[&str]) -> Result<String, Memory> {
-    let held = &mut sets.held;
-    match words {
-        ["new", numbers, entries, value] => {
-            begin(held, alloc, small(numbers), small(entries), small(value));
+    match at(words, 1) {
+        "new" => {
+            begin(&mut sets.held, alloc, words);
             done(alloc)
         }
-        ["slab", name] => slabs::answer(&mut sets.both, alloc, name),
-        ["behind", "''", count] => rises_behind(held, alloc, "", small(count)),
-        ["behind", prefix, count] => rises_behind(held, alloc, prefix, small(count)),
-        ["entry", item] => told(alloc, held.set.is_entry(number(item) as usize)),
-        ["at", item, word] => {
-            let member = bytes_of(alloc, word)?;
-            told(alloc, held.is_at(number(item) as usize, member.as_slice()))
-        }
-        ["pass", from] => passes(held, alloc, u128::from(number(from))),
-        [name, one, two] => paired(held, alloc, name, small(one), small(two)),
-        [name, word] => {
-            let member = bytes_of(alloc, word)?;
-            on_member(held, alloc, name, member.as_slice())
-        }
-        [name] => plain(held, alloc, name),
-        _ => run(alloc, words),
+        "slab" => slabs::answer(&mut sets.both, alloc, at(words, 2)),
+        "edits" => told(alloc, agrees(alloc, words)),
+        "placings" => placed_in(alloc, words),
+        _ => placed(&mut sets.held, alloc, words),
     }
 }

@@ -53,20 +53,20 @@ impl Stored {
     }
 
     // What is passed of the first blocks where none of them wants to move.
-    fn passed(&self) -> Option<u32> {
+    fn passed(&self) -> Option<u64> {
         match self.set.passed(&self.heap, 0, 32) {
-            Some(moved) => Some(moved.used),
+            Some(moved) => Some(u64::from(moved.used)),
             None => None,
         }
     }
 
     // Goes through the blocks from the first mark to the end, at most 32 at a time, and answers how many it passed.
-    fn relocate_all(&mut self) -> Option<u32> {
-        let mut passed: u32 = 0;
+    fn relocate_all(&mut self) -> Option<u64> {
+        let mut passed: u64 = 0;
         let mut from = 0;
         for _ in 0..64 {
             let moved = self.set.relocate_part(&mut self.heap, from, 32);
-            passed = passed.saturating_add(moved.used);
+            passed = passed.saturating_add(u64::from(moved.used));
             match moved.next {
                 Some(next) => from = next,
                 None => return Some(passed),
@@ -76,7 +76,7 @@ impl Stored {
     }
 
     // How many blocks and vacant item numbers a pass went through. None is answered where blocks want to move after it.
-    fn pass(&mut self) -> Option<u32> {
+    fn pass(&mut self) -> Option<u64> {
         self.heap.begin_pass();
         let passed = self.relocate_all();
         let is_calm = self.heap.is_calm();
@@ -153,11 +153,8 @@ pub fn answer(both: &mut Both, alloc: Global, name: &str) -> Result<String, Memo
         "len" => shown(alloc, Some(both.stored.set.len() as u64)),
         "slabs" => shown(alloc, Some(both.stored.slabs())),
         "units" => shown(alloc, Some(u64::from(both.stored.set.units()))),
-        "pass" => {
-            let passed = both.stored.pass().map(u64::from);
-            shown(alloc, passed)
-        }
-        "passed" => shown(alloc, both.stored.passed().map(u64::from)),
+        "pass" => shown(alloc, both.stored.pass()),
+        "passed" => shown(alloc, both.stored.passed()),
         _ => unknown(alloc),
     }
 }
