@@ -42,15 +42,10 @@ fn moments<C: Clock>(alloc: Global, clock: &mut C, count: u64) -> Result<String,
     Ok(told)
 }
 
-// So many plans of a conductor.
-fn plans(alloc: Global, conductor: &mut Conductor, count: u64) -> Result<String, AllocError> {
-    let mut told = no_calls(alloc)?;
-    for _ in 0..count {
-        let plan = conductor.next();
-        let step = format!(in alloc; " {plan:?};")?;
-        add(&mut told, &step)?;
-    }
-    Ok(told)
+// A plan: its steps of rehashing, of packing and of search for keys that are gone.
+fn plan_shown(alloc: Global, plan: Plan) -> Result<String, AllocError> {
+    let (rehash, defrag, expire) = (plan.rehash, plan.defrag, plan.expire);
+    format!(in alloc; " {rehash} {defrag} {expire};")
 }
 
 // A plan of so many steps of rehashing.
@@ -71,7 +66,7 @@ fn pacer_of(alloc: Global, word: &str) -> Result<ListPacer, AllocError> {
     Ok(ListPacer::new(plans))
 }
 
-// What a conductor with an effort of 3 plans over the pacers of these words.
+// So many plans of a conductor with an effort of 3 over the pacers of these words.
 fn conducted(alloc: Global, count: u64, words: &[&str]) -> Result<String, AllocError> {
     let mut pacers: Vec<Box<dyn Pacer>> = Vec::new(alloc);
     for word in words {
@@ -81,7 +76,13 @@ fn conducted(alloc: Global, count: u64, words: &[&str]) -> Result<String, AllocE
             pacers.push(Box::new(alloc, pacer_of(alloc, word)?)?)?;
         }
     }
-    plans(alloc, &mut Conductor::new(pacers, 3), count)
+    let mut conductor = Conductor::new(pacers, 3);
+    let mut told = no_calls(alloc)?;
+    for _ in 0..count {
+        let step = plan_shown(alloc, conductor.next())?;
+        add(&mut told, &step)?;
+    }
+    Ok(told)
 }
 
 // Whether the real clock is past a moment.
