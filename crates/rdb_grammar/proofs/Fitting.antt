@@ -8,9 +8,11 @@ use Rattle.rdb_grammar.specs.Format.{Format, give, some_bytes, followed, Branch,
 use Rattle.rdb_grammar.specs.Lengths.{a_length}
 use Rattle.rdb_grammar.specs.Strings.{string}
 use Rattle.rdb_grammar.specs.Values.{value_behind}
-use Rattle.rdb_grammar.specs.Items.{Item, Passed, Deadline, Database, End, Key, Part, Whole, Opens, keyed, passed, two, deadline_in, database, whole_behind, opens, part_behind, left_of, item}
+use Rattle.rdb_grammar.specs.Items.{Item, Passed, Deadline, Database, End, Key, Part, Whole, Opens, keyed, passed, two, deadline_in, database, whole_behind, opens, packs_in, opens_nodes, part_behind, left_of, item}
 use Rattle.rdb_grammar.specs.declared.values.Collection.{Collection}
 use Rattle.rdb_grammar.specs.declared.values.Collection.TheVariants as of
+use Rattle.rdb_grammar.specs.declared.values.Packed.{Packed}
+use Rattle.rdb_grammar.specs.declared.values.Packed.TheVariants as packs
 use Rattle.rdb_grammar.specs.Places.{Stands}
 
 -- a deadline of 63 bits, and a database of 16
@@ -64,7 +66,7 @@ behind_fits b =
 -- an item that is read whole fits
 abbrev PartFits : Part → Type 0
 PartFits (Whole x) = Fits x
-PartFits (Opens name type n) = Unit {0}
+PartFits (Opens name layout) = Unit {0}
 
 abbrev PartsFit : Branch Part → Type 0
 PartsFit branch = (p : Part) (word : List ℕ) → BranchSpells branch p word → PartFits p
@@ -76,6 +78,12 @@ pick_parts false one other f g = g
 opens_fits : (type : Collection) → PartsFit (opens type)
 opens_fits type p word s = subst PartFits (sym s.5.5.0) tt
 
+packs_fit : (packed : Packed) → PartsFit (packs_in packed)
+packs_fit packed p word s = subst PartFits (sym s.5.0) tt
+
+nodes_fit : PartsFit opens_nodes
+nodes_fit p word s = subst PartFits (sym s.5.5.0) tt
+
 turned_fits : (branch : Branch Item) → AllFit branch → PartsFit (turned Whole branch)
 turned_fits (Goes one) f p word s = subst PartFits (sym s.5.0) (f s.0 s.1 s.4)
 turned_fits (Refuses is) f p word s = absurd s
@@ -85,12 +93,17 @@ part_fits b =
     pick_parts (b == code.list) _ _ (opens_fits of.List)
     (pick_parts (b == code.set) _ _ (opens_fits of.Set)
     (pick_parts (b == code.hash) _ _ (opens_fits of.Hash)
-    (pick_parts (b == code.sorted_set) _ _ (opens_fits of.SortedSet) (turned_fits (whole_behind b) (behind_fits b)))))
+    (pick_parts (b == code.sorted_set) _ _ (opens_fits of.SortedSet)
+    (pick_parts (b == code.intset) _ _ (packs_fit packs.Numbers)
+    (pick_parts (b == code.packed_set) _ _ (packs_fit packs.Texts)
+    (pick_parts (b == code.packed_hash) _ _ (packs_fit packs.Pairs)
+    (pick_parts (b == code.packed_sorted_set) _ _ (packs_fit packs.Scores)
+    (pick_parts (b == code.list_of_nodes) _ _ nodes_fit (turned_fits (whole_behind b) (behind_fits b))))))))))
 
 -- what is left of an item that fits is an item that fits
 left_fits : (p : Part) (x : Item) (word : List ℕ) → PartFits p → (left_of p).Spells x word → Fits x
 left_fits (Whole y) x word f s = fit_as x y s.0 f
-left_fits (Opens name type n) x word f s = fit_as x (Key name s.0) s.5.0 tt
+left_fits (Opens name layout) x word f s = fit_as x (Key name s.0) s.5.0 tt
 
 item_fits : (x : Item) (bytes : List ℕ) (at next : ℕ) → Stands item x bytes at next → Fits x
 item_fits x bytes at next s =

@@ -1,9 +1,16 @@
 pub mod Exactly
 pub mod PayloadsExact
 pub mod PackedExact
+pub mod NodesDecided
 pub mod PartsExact
+pub mod StreamsExact
+pub mod StreamIds
+pub mod NodesRead
+pub mod NodeLength
+pub mod Greatest
 pub mod Standing
 pub mod Partly
+pub mod Steps
 pub mod Magnitudes
 pub mod Turns
 pub mod HeaderExact

@@ -16,7 +16,7 @@ stands_part (Whole x) bytes at next s = record {
   inside = s.inside;
   spelled = (Whole x, take (next - at) (drop at bytes), [], sym (append-nil (take (next - at) (drop at bytes))), s.spelled, (refl, refl));
 }
-stands_part (Opens name type n) bytes at next s = s
+stands_part (Opens name layout) bytes at next s = s
 
 -- the first fault of a part is that of the item
 pub fails_part : (bytes : List ℕ) (at : ℕ) (which : LoadKind) (place : ℕ) → Fails part bytes at which place → Fails item bytes at which place

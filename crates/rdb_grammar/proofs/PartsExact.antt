@@ -1,19 +1,26 @@
 -- Each part is exact, by its build.
-use Rattle.std.proofs.Common.{ℕ, zero, suc, ◌==◌, ◌||◌}
+use Rattle.std.proofs.Common.{ℕ, zero, suc, ◌==◌, ◌||◌, Bool, true, false}
 use Rattle.std.specs.Int.{Width, w8, w32, w64, byte_len}
 use Rattle.plain_world.specs.Worlds.{Value, Str, ListOf, SetOf, HashOf, SortedOf, StreamOf}
 use Rattle.rdb_grammar.specs.declared.fault.LoadKind.{LoadKind}
 use Rattle.rdb_grammar.specs.declared.fault.LoadKind.TheVariants as kinds
 use Rattle.rdb_grammar.specs.Codes as code
-use Rattle.rdb_grammar.specs.Format.{Format, Branch, Goes, Refuses, in_turn}
+use Rattle.rdb_grammar.specs.Format.{Format, Branch, Goes, Refuses, in_turn, inside}
 use Rattle.rdb_grammar.specs.Lengths.{number, number_le, length_behind, a_length}
 use Rattle.rdb_grammar.specs.Strings.{Head, Len, Num, head_behind, head, is_short, body, string}
 use Rattle.rdb_grammar.specs.Values.{string_value, is_old, value_behind}
 use Rattle.rdb_grammar.specs.Scores.{is_score, score}
-use Rattle.rdb_grammar.specs.Elements.{Map, fresh, with_one, without_any, filled}
+use Rattle.rdb_grammar.specs.Elements.{Map, fresh, with_one, without_any}
+use Rattle.rdb_grammar.specs.Layouts.{held, is_container, container, with_string, with_node, started, laid_on, laid}
 use Rattle.rdb_grammar.specs.declared.values.Collection.{Collection}
 use Rattle.rdb_grammar.specs.declared.values.Collection.TheVariants as of
-use Rattle.rdb_grammar.specs.Items.{Part, Whole, Opens, keyed, passed, two, deadline_in, database, whole_behind, opens, part_behind, part, left_of, item}
+use Rattle.rdb_grammar.specs.declared.values.Packed.{Packed}
+use Rattle.rdb_grammar.specs.declared.values.Packed.TheVariants as packs
+use Rattle.rdb_grammar.specs.declared.values.Layout.{Layout}
+use Rattle.rdb_grammar.specs.declared.values.Layout.TheVariants as layouts
+use Rattle.rdb_grammar.proofs.PayloadsExact.{inside-exact}
+use Rattle.rdb_grammar.proofs.PackedExact.{numbers_on-decided, texts_on-decided, pairs_on-decided, scores_on-decided}
+use Rattle.rdb_grammar.specs.Items.{Part, Whole, Opens, keyed, passed, two, deadline_in, database, whole_behind, opens, packs_in, opens_nodes, part_behind, part, left_of, item}
 use Rattle.rdb_grammar.proofs.Exactly.{Exact, BranchExact, goes-exact, refuses-exact, give-exact, some_bytes-exact, followed-exact, checked-exact, pick-exact, turned-exact, by_first-exact}
 
 pub number-exact : (w : Width) → Exact (number w)
@@ -38,7 +45,7 @@ head_behind-exact b =
 pub head-exact : Exact head
 head-exact = by_first-exact head_behind head_behind-exact
 
-body-exact : (h : Head) → Exact (body h)
+pub body-exact : (h : Head) → Exact (body h)
 body-exact (Len n) = some_bytes-exact n
 body-exact (Num w) = followed-exact _ _ (some_bytes-exact (byte_len w)) λ bytes. give-exact _
 
@@ -102,25 +109,58 @@ with_one-exact (HashOf fields) = followed-exact _ _ (fresh-exact fields) λ text
 with_one-exact (SortedOf scores) = followed-exact _ _ (fresh-exact scores) λ text. followed-exact _ _ score-exact λ n. give-exact _
 with_one-exact (StreamOf stream) = give-exact _
 
-pub filled-exact : (type : Collection) (n : ℕ) → Exact (filled type n)
-filled-exact type n = in_turn-exact with_one with_one-exact n (without_any type)
+-- a payload inside a string is exact
+pub held-exact : (packed : Packed) (made : Value) → Exact (inside string (held packed made))
+held-exact packs.Numbers made = inside-exact string _ string-exact (numbers_on-decided made)
+held-exact packs.Texts made = inside-exact string _ string-exact (texts_on-decided made)
+held-exact packs.Pairs made = inside-exact string _ string-exact (pairs_on-decided made)
+held-exact packs.Scores made = inside-exact string _ string-exact (scores_on-decided made)
+
+pub container-exact : Exact container
+container-exact = checked-exact kinds.ListNode 0 is_container a_length a_length-exact
+
+pub with_string-exact : (plain : Bool) (made : Value) → Exact (with_string plain made)
+with_string-exact true made = with_one-exact made
+with_string-exact false made = held-exact packs.Texts made
+
+pub with_node-exact : (made : Value) → Exact (with_node made)
+with_node-exact made = followed-exact container (λ n. with_string (n == 1) made) container-exact λ n. with_string-exact (n == 1) made
+
+pub laid_on-exact : (layout : Layout) (made : Value) → Exact (laid_on layout made)
+laid_on-exact (layouts.Elements type n) made = in_turn-exact with_one with_one-exact n made
+laid_on-exact (layouts.Packed packed) made = held-exact packed made
+laid_on-exact (layouts.Nodes n) made = in_turn-exact with_node with_node-exact n made
+
+pub laid-exact : (layout : Layout) → Exact (laid layout)
+laid-exact layout = laid_on-exact layout (without_any (started layout))
 
 opens-exact : (type : Collection) → BranchExact (opens type)
 opens-exact type = goes-exact _ (followed-exact _ _ string-exact λ name. followed-exact _ _ a_length-exact λ n. give-exact _)
+
+packs_in-exact : (packed : Packed) → BranchExact (packs_in packed)
+packs_in-exact packed = goes-exact _ (followed-exact _ _ string-exact λ name. give-exact _)
+
+opens_nodes-exact : BranchExact opens_nodes
+opens_nodes-exact = goes-exact _ (followed-exact _ _ string-exact λ name. followed-exact _ _ a_length-exact λ n. give-exact _)
 
 part_behind-exact : (b : ℕ) → BranchExact (part_behind b)
 part_behind-exact b =
     pick-exact (b == code.list) _ _ (opens-exact of.List)
     (pick-exact (b == code.set) _ _ (opens-exact of.Set)
     (pick-exact (b == code.hash) _ _ (opens-exact of.Hash)
-    (pick-exact (b == code.sorted_set) _ _ (opens-exact of.SortedSet) (turned-exact Whole _ (whole_behind-exact b)))))
+    (pick-exact (b == code.sorted_set) _ _ (opens-exact of.SortedSet)
+    (pick-exact (b == code.intset) _ _ (packs_in-exact packs.Numbers)
+    (pick-exact (b == code.packed_set) _ _ (packs_in-exact packs.Texts)
+    (pick-exact (b == code.packed_hash) _ _ (packs_in-exact packs.Pairs)
+    (pick-exact (b == code.packed_sorted_set) _ _ (packs_in-exact packs.Scores)
+    (pick-exact (b == code.list_of_nodes) _ _ opens_nodes-exact (turned-exact Whole _ (whole_behind-exact b))))))))))
 
 pub part-exact : Exact part
 part-exact = by_first-exact part_behind part_behind-exact
 
 left_of-exact : (p : Part) → Exact (left_of p)
 left_of-exact (Whole x) = give-exact x
-left_of-exact (Opens name type n) = followed-exact _ _ (filled-exact type n) λ value. give-exact _
+left_of-exact (Opens name layout) = followed-exact _ _ (laid-exact layout) λ value. give-exact _
 
 pub item-exact : Exact item
 item-exact = followed-exact part left_of part-exact left_of-exact

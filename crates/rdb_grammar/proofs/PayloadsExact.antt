@@ -25,10 +25,10 @@ next_err : {A B : Type 0} (r : Result A LoadKind) (f : A → Result B LoadKind) 
 next_err (Ok x) f kind e = inr (x, refl, e)
 next_err (Err k) f kind e = inl cc
 
-next_is : {A B : Type 0} (r : Result A LoadKind) (x : A) (f : A → Result B LoadKind) → r ≡ Ok x → next_found r f ≡ f x
+pub next_is : {A B : Type 0} (r : Result A LoadKind) (x : A) (f : A → Result B LoadKind) → r ≡ Ok x → next_found r f ≡ f x
 next_is {A = A} r x f e = ap (λ (q : Result A LoadKind). next_found q f) e
 
-next_fault : {A B : Type 0} (r : Result A LoadKind) (kind : LoadKind) (f : A → Result B LoadKind) → r ≡ Err kind → next_found r f ≡ Err kind
+pub next_fault : {A B : Type 0} (r : Result A LoadKind) (kind : LoadKind) (f : A → Result B LoadKind) → r ≡ Err kind → next_found r f ≡ Err kind
 next_fault {A = A} r kind f e = ap (λ (q : Result A LoadKind). next_found q f) e
 
 -- a decided payload whose meaning is decided as another is decided

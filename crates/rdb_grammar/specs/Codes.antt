@@ -89,6 +89,23 @@ hash_ziplist = 13
 abbrev pub list_of_ziplists : ℕ
 list_of_ziplists = 14
 
+-- a set as an intset, and collections as listpacks
+abbrev pub intset : ℕ
+intset = 11
+
+abbrev pub packed_hash : ℕ
+packed_hash = 16
+
+abbrev pub packed_sorted_set : ℕ
+packed_sorted_set = 17
+
+abbrev pub packed_set : ℕ
+packed_set = 20
+
+-- a list in nodes
+abbrev pub list_of_nodes : ℕ
+list_of_nodes = 18
+
 -- ---- forms of strings
 
 -- a number of 8, of 16 and of 32 bits

@@ -8,7 +8,7 @@ use Rattle.plain_world.specs.Worlds.{Value, Str, ListOf, SetOf, HashOf, SortedOf
 use Rattle.rdb_grammar.specs.declared.fault.LoadKind.TheVariants as kinds
 use Rattle.rdb_grammar.specs.declared.values.Collection.{Collection}
 use Rattle.rdb_grammar.specs.declared.values.Collection.TheVariants as of
-use Rattle.rdb_grammar.specs.Format.{Format, give, followed, checked, in_turn}
+use Rattle.rdb_grammar.specs.Format.{Format, give, followed, checked}
 use Rattle.rdb_grammar.specs.Strings.{string}
 use Rattle.rdb_grammar.specs.Scores.{score}
 
@@ -36,7 +36,3 @@ without_any of.List = ListOf []
 without_any of.Set = SetOf empty
 without_any of.Hash = HashOf empty
 without_any of.SortedSet = SortedOf empty
-
--- a collection of so many elements, which follow
-abbrev pub filled : Collection → ℕ → Format Value
-filled type n = in_turn with_one n (without_any type)

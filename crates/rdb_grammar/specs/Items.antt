@@ -6,11 +6,15 @@ use Rattle.plain_world.specs.Worlds.{Value}
 use Rattle.rdb_grammar.specs.declared.fault.LoadKind.TheVariants as kinds
 use Rattle.rdb_grammar.specs.declared.values.Collection.{Collection}
 use Rattle.rdb_grammar.specs.declared.values.Collection.TheVariants as of
+use Rattle.rdb_grammar.specs.declared.values.Packed.{Packed}
+use Rattle.rdb_grammar.specs.declared.values.Packed.TheVariants as packs
+use Rattle.rdb_grammar.specs.declared.values.Layout.{Layout}
+use Rattle.rdb_grammar.specs.declared.values.Layout.TheVariants as layouts
 use Rattle.rdb_grammar.specs.Codes as code
 use Rattle.rdb_grammar.specs.Format.{Format, give, some_bytes, followed, checked, Branch, Goes, Refuses, pick, turned, by_first}
 use Rattle.rdb_grammar.specs.Lengths.{number_le, a_length}
 use Rattle.rdb_grammar.specs.Strings.{string}
-use Rattle.rdb_grammar.specs.Elements.{filled}
+use Rattle.rdb_grammar.specs.Layouts.{laid}
 use Rattle.rdb_grammar.specs.Values.{value_behind}
 
 -- what an item says: nothing that is kept, a deadline in milliseconds for the next key, the database of the keys that
@@ -64,30 +68,43 @@ whole_behind b =
     (pick (b == code.select_db) (Goes (followed database λ n. give (Database n)))
     (pick (b == code.eof) (Goes (give End)) (keyed (value_behind b)))))))))))
 
--- The first part of an item: all of it, or of a key with a collection what stands before the elements, of which so many
--- follow.
+-- The first part of an item: all of it, or of a key with a collection what stands before its elements, its string or its
+-- nodes, and how they follow.
 pub data Part : Type 0 where
   Whole : Item → Part
-  Opens : List ℕ → Collection → ℕ → Part
+  Opens : List ℕ → Layout → Part
 
 -- a key's string, and then the number of its collection's elements
 abbrev pub opens : Collection → Branch Part
-opens type = Goes (followed string λ name. followed a_length λ n. give (Opens name type n))
+opens type = Goes (followed string λ name. followed a_length λ n. give (Opens name (layouts.Elements type n)))
+
+-- a key's string, behind which one stands that its collection is packed in
+abbrev pub packs_in : Packed → Branch Part
+packs_in packed = Goes (followed string λ name. give (Opens name (layouts.Packed packed)))
+
+-- a key's string, and then the number of its list's nodes
+abbrev pub opens_nodes : Branch Part
+opens_nodes = Goes (followed string λ name. followed a_length λ n. give (Opens name (layouts.Nodes n)))
 
 abbrev pub part_behind : ℕ → Branch Part
 part_behind b =
     pick (b == code.list) (opens of.List)
     (pick (b == code.set) (opens of.Set)
     (pick (b == code.hash) (opens of.Hash)
-    (pick (b == code.sorted_set) (opens of.SortedSet) (turned Whole (whole_behind b)))))
+    (pick (b == code.sorted_set) (opens of.SortedSet)
+    (pick (b == code.intset) (packs_in packs.Numbers)
+    (pick (b == code.packed_set) (packs_in packs.Texts)
+    (pick (b == code.packed_hash) (packs_in packs.Pairs)
+    (pick (b == code.packed_sorted_set) (packs_in packs.Scores)
+    (pick (b == code.list_of_nodes) opens_nodes (turned Whole (whole_behind b))))))))))
 
 abbrev pub part : Format Part
 part = by_first part_behind
 
--- what is left of an item behind its first part: nothing, or the elements
+-- what is left of an item behind its first part: nothing, or a collection
 abbrev pub left_of : Part → Format Item
 left_of (Whole x) = give x
-left_of (Opens name type n) = followed (filled type n) λ value. give (Key name value)
+left_of (Opens name layout) = followed (laid layout) λ value. give (Key name value)
 
 abbrev pub item : Format Item
 item = followed part left_of

@@ -5,6 +5,9 @@ pub mod Strings
 pub mod Scores
 pub mod Elements
 pub mod Payloads
+pub mod Layouts
+pub mod StreamNodes
+pub mod StreamParts
 pub mod Values
 pub mod Items
 pub mod Places

@@ -17,7 +17,7 @@ Returns view (Err e) read = read ≡ Err (e.kind, e.left)
 -- an item stands at a place, up to the next one; of a key with a collection what stands before the elements does
 abbrev pub IsPartAt : List ℕ → ℕ → ℕ → Part → Type 0
 IsPartAt bytes at next (Whole x) = Stands item x bytes at next
-IsPartAt bytes at next (Opens name type n) = Stands part (Opens name type n) bytes at next
+IsPartAt bytes at next (Opens name layout) = Stands part (Opens name layout) bytes at next
 
 -- the same, but the end stands there with its checksum field
 abbrev pub IsItemAt : List ℕ → ℕ → ℕ → Part → Type 0

@@ -50,6 +50,17 @@ pub(crate) const HASH_ZIPLIST: u8 = 13;
 
 pub(crate) const LIST_OF_ZIPLISTS: u8 = 14;
 
+/// A set as an intset, and collections as listpacks.
+pub(crate) const INTSET: u8 = 11;
+
+pub(crate) const PACKED_HASH: u8 = 16;
+
+pub(crate) const PACKED_SORTED_SET: u8 = 17;
+
+pub(crate) const PACKED_SET: u8 = 20;
+/// A list in nodes.
+pub(crate) const LIST_OF_NODES: u8 = 18;
+
 /// A string that is a number of 8, of 16 and of 32 bits.
 pub(crate) const INT8: u8 = 192;
 

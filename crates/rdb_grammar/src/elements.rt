@@ -5,11 +5,15 @@ ghost use Rattle.std.specs.Int.{w64};
 ghost use Rattle.rdb_grammar.specs.Places.{Stands, Fails};
 ghost use Rattle.rdb_grammar.specs.Scores.{score};
 ghost use Rattle.rdb_grammar.specs.Strings.{string};
-ghost use Rattle.rdb_grammar.specs.Views.{text_of};
+ghost use Rattle.rdb_grammar.specs.Layouts.{container};
+ghost use Rattle.rdb_grammar.specs.Views.{text_of, container_of as number_of};
+ghost use Rattle.rdb_grammar.specs.Returns.{Returns};
 
-use crate::fault::FileFault;
+use crate::fault::{FileFault, LoadKind, Refused};
+use crate::lengths::length_of;
 use crate::scores::score_of;
 use crate::strings::{Chunk, string_of};
+use crate::values::Container;
 
 /// The string that begins at the offset `at` of a file's bytes, and the offset behind it: an element of a list or set, the field
 /// or value of a hash, a member of a sorted set. Refused exactly by the string's first fault.
@@ -37,6 +41,37 @@ pub fn next_score(bytes: &[u8], at: usize) -> Result<(i64, usize), FileFault>
 {
     match score_of(&bytes[at..]) {
         Ok((score, rest)) => Ok((score, bytes.len() - rest.len())),
+        Err(e) => Err(FileFault {
+            kind: e.kind,
+            at: (bytes.len() - e.left) as u64,
+        }),
+    }
+}
+
+/// A container.
+fn container_at(bytes: &[u8]) -> Result<(Container, &[u8]), Refused>
+    ensures { Returns (λ x. (number_of x.0, x.1.now)) result (container.read bytes.now) }
+{
+    let (number, rest) = length_of(bytes)?;
+    match number {
+        1 => Ok((Container::Plain, rest)),
+        2 => Ok((Container::Packed, rest)),
+        _ => Err(Refused {
+            kind: LoadKind::ListNode,
+            left: bytes.len(),
+        }),
+    }
+}
+
+/// What the string of a list's node is, by the container that begins at the offset `at` of a file's bytes, and the offset of
+/// that string. Refused exactly by the container's first fault.
+pub fn next_container(bytes: &[u8], at: usize) -> Result<(Container, usize), FileFault>
+    requires { at ≤ length bytes.now }
+    ensures container { IfOk result (λ x. Stands container (number_of x.0) bytes.now at x.1) }
+    ensures fault { IfErr result (λ e. Fails container bytes.now at e.kind e.at) }
+{
+    match container_at(&bytes[at..]) {
+        Ok((container, rest)) => Ok((container, bytes.len() - rest.len())),
         Err(e) => Err(FileFault {
             kind: e.kind,
             at: (bytes.len() - e.left) as u64,

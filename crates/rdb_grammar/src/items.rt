@@ -2,7 +2,7 @@
 
 ghost use Rattle.std.specs.Prelude.{◌≡◌, ℕ, List};
 ghost use Rattle.rdb_grammar.specs.Format.{Goes, Refuses, turned, branch_read};
-ghost use Rattle.rdb_grammar.specs.Items.{Whole, key_with, opens, whole_behind as whole_behind_of, part_behind as part_behind_of, part};
+ghost use Rattle.rdb_grammar.specs.Items.{Whole, key_with, opens, packs_in, opens_nodes, whole_behind as whole_behind_of, part_behind as part_behind_of, part};
 ghost use Rattle.rdb_grammar.specs.Values.{string_value};
 ghost use Rattle.rdb_grammar.specs.Views.{part_said};
 ghost use Rattle.rdb_grammar.specs.Returns.{Returns};
@@ -14,7 +14,7 @@ use crate::opcodes::{
     database, deadline_in_ms, deadline_in_seconds, frequency, idle_time, name_and_text, sizes,
 };
 use crate::strings::{Chunk, string_of};
-use crate::values::{Collection, FileValue};
+use crate::values::{Collection, FileValue, Layout, Packed};
 
 /// What an item says.
 #[derive(Clone, Copy, Debug)]
@@ -50,7 +50,26 @@ fn collection_of(collection: Collection, bytes: &[u8]) -> Result<(Meaning<'_>, &
 {
     let (name, rest) = string_of(bytes)?;
     let (count, rest) = length_of(rest)?;
-    let value = FileValue::Elements(collection, count);
+    let value = FileValue::Laid(Layout::Elements(collection, count));
+    Ok((Meaning::Key { name, value }, rest))
+}
+
+/// A key, behind which a string stands that its collection is packed in.
+fn packed_of(packed: Packed, bytes: &[u8]) -> Result<(Meaning<'_>, &[u8]), Refused>
+    ensures { Returns (λ x. (part_said x.0, x.1.now)) result (branch_read (packs_in packed) bytes.now) }
+{
+    let (name, rest) = string_of(bytes)?;
+    let value = FileValue::Laid(Layout::Packed(packed));
+    Ok((Meaning::Key { name, value }, rest))
+}
+
+/// A key, and how many nodes its list has.
+fn nodes_of(bytes: &[u8]) -> Result<(Meaning<'_>, &[u8]), Refused>
+    ensures { Returns (λ x. (part_said x.0, x.1.now)) result (branch_read opens_nodes bytes.now) }
+{
+    let (name, rest) = string_of(bytes)?;
+    let (count, rest) = length_of(rest)?;
+    let value = FileValue::Laid(Layout::Nodes(count));
     Ok((Meaning::Key { name, value }, rest))
 }
 
@@ -97,6 +116,11 @@ fn part_behind(first: u8, rest: &[u8]) -> Result<(Meaning<'_>, &[u8]), Refused>
         codes::SET => collection_of(Collection::Set, rest),
         codes::HASH => collection_of(Collection::Hash, rest),
         codes::SORTED_SET => collection_of(Collection::SortedSet, rest),
+        codes::INTSET => packed_of(Packed::Numbers, rest),
+        codes::PACKED_SET => packed_of(Packed::Texts, rest),
+        codes::PACKED_HASH => packed_of(Packed::Pairs, rest),
+        codes::PACKED_SORTED_SET => packed_of(Packed::Scores, rest),
+        codes::LIST_OF_NODES => nodes_of(rest),
         _ => whole_behind(first, rest),
     }
 }

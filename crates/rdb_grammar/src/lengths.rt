@@ -44,7 +44,7 @@ fn u32_at(bytes: &[u8]) -> Result<(u32, &[u8]), Refused>
     ))
 }
 
-fn u64_at(bytes: &[u8]) -> Result<(u64, &[u8]), Refused>
+pub(crate) fn u64_at(bytes: &[u8]) -> Result<(u64, &[u8]), Refused>
     ensures { Returns (λ x. (x.0, x.1.now)) result ((number w64).read bytes.now) }
 {
     let (front, rest) = part_of(bytes, 8)?;

@@ -50,7 +50,7 @@ fn head_behind(first: u8, rest: &[u8]) -> Result<(Head, &[u8]), Refused>
     Ok((Head::Len(n), rest))
 }
 
-fn head_of(bytes: &[u8]) -> Result<(Head, &[u8]), Refused>
+pub(crate) fn head_of(bytes: &[u8]) -> Result<(Head, &[u8]), Refused>
     ensures { Returns (λ x. (head_seen x.0, x.1.now)) result (head.read bytes.now) }
 {
     match bytes {
@@ -77,7 +77,7 @@ fn short_head_of(bytes: &[u8]) -> Result<(Head, &[u8]), Refused>
     Ok((head, rest))
 }
 
-fn body_of(head: Head, bytes: &[u8]) -> Result<(Chunk<'_>, &[u8]), Refused>
+pub(crate) fn body_of(head: Head, bytes: &[u8]) -> Result<(Chunk<'_>, &[u8]), Refused>
     ensures { Returns (λ x. (text_of x.0, x.1.now)) result ((body (head_seen head)).read bytes.now) }
 {
     match head {

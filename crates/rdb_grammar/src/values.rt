@@ -15,12 +15,55 @@ pub enum Collection {
     SortedSet,
 }
 
+/// What is packed in a string.
+#[derive(Clone, Copy, Debug)]
+pub enum Packed {
+    /// Whole numbers, as an intset: members of a set.
+    Numbers,
+    /// Texts, as a listpack: members of a set, or elements of a list's node.
+    Texts,
+    /// Fields, each with its value behind it, as a listpack.
+    Pairs,
+    /// Members, each with the text of its score behind it, as a listpack.
+    Scores,
+}
+
+/// How a collection stands behind its key.
+#[derive(Clone, Copy, Debug)]
+pub enum Layout {
+    /// So many elements, one behind the other: strings, pairs of strings for a hash, strings with their scores for a sorted set.
+    Elements(Collection, u64),
+    /// A string that it is packed in: a set, a hash or a sorted set.
+    Packed(Packed),
+    /// A list in so many nodes, each a container and a string.
+    Nodes(u64),
+}
+
+/// How a stream is written: each type has parts that those before it have not.
+#[derive(Clone, Copy, Debug)]
+pub enum StreamType {
+    /// The last id alone, and how many entries there are.
+    First,
+    /// Beside it the greatest deleted id and how many entries were added.
+    Second,
+    /// Beside these when each consumer was active.
+    Third,
+}
+
 /// A value of a file.
 #[derive(Clone, Copy, Debug)]
 pub enum FileValue<'a> {
     /// A string.
     Text(Chunk<'a>),
-    /// A collection of so many elements, which follow one behind the other: strings, pairs of strings for a hash, strings
-    /// with their scores for a sorted set.
-    Elements(Collection, u64),
+    /// A collection, which follows.
+    Laid(Layout),
+}
+
+/// What the string of a list's node is.
+#[derive(Clone, Copy, Debug)]
+pub enum Container {
+    /// An element.
+    Plain,
+    /// A listpack of elements.
+    Packed,
 }

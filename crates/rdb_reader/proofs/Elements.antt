@@ -6,17 +6,19 @@ use Rattle.std.specs.FinMap.{get, insert}
 use Rattle.plain_world.specs.Worlds.{World, Value, ListOf, SetOf, HashOf, SortedOf}
 use Rattle.rdb_grammar.specs.declared.fault.LoadKind.{LoadKind}
 use Rattle.rdb_grammar.specs.declared.fault.LoadKind.TheVariants as kinds
-use Rattle.rdb_grammar.specs.Format.{in_turn}
+use Rattle.rdb_grammar.specs.Format.{Format, in_turn}
+use Rattle.rdb_grammar.proofs.Exactly.{Exact}
 use Rattle.rdb_grammar.specs.Strings.{string}
 use Rattle.rdb_grammar.specs.Scores.{score}
-use Rattle.rdb_grammar.specs.declared.values.Collection.{Collection}
+use Rattle.rdb_grammar.specs.declared.values.Layout.{Layout}
 use Rattle.rdb_grammar.specs.Elements.{Map, fresh, with_one, without_any}
+use Rattle.rdb_grammar.specs.Layouts.{started, laid_on}
 use Rattle.rdb_grammar.specs.Places.{Stands, Fails}
 use Rattle.rdb_grammar.proofs.PartsExact.{string-exact, score-exact, with_one-exact}
 use Rattle.rdb_grammar.proofs.Standing.{reads, reads_fault}
 use Rattle.rdb_grammar.proofs.Partly.{stands_read, fails_read}
 use Rattle.rdb_grammar.proofs.Turns.{GoesOn, one_fails}
-use Rattle.rdb_reader.specs.Building.{Adds, Fills, ReadsCollection}
+use Rattle.rdb_reader.specs.Building.{Reads, FillsLaid, ReadsCollection}
 use Rattle.rdb_reader.specs.declared.fault.LoadFault.{LoadFault}
 use Rattle.rdb_reader.specs.declared.fault.LoadFault.TheVariants as loads
 
@@ -25,7 +27,7 @@ none_some : {A : Type 0} (o : Option A) → is_none o ≡ not (is_some o)
 none_some None = refl
 none_some (Some x) = refl
 
-none_not : {A : Type 0} (o : Option A) (b : Bool) → b ≡ not (is_some o) → is_none o ≡ b
+pub none_not : {A : Type 0} (o : Option A) (b : Bool) → b ≡ not (is_some o) → is_none o ≡ b
 none_not o b e = none_some o ∙ sym e
 
 pub none_fresh : {A : Type 0} (o : Option A) → o ≡ None → true ≡ not (is_some o)
@@ -123,21 +125,21 @@ pub appended : (xs : List (List ℕ)) (i : ℕ) (x y : List ℕ) → i ≡ lengt
 appended xs i x y end same =
     ap (λ (z : List (List ℕ)). z ++ x ∷ drop i xs) (take_all i xs (omega (arith, end))) ∙ ap (λ (z : List (List ℕ)). xs ++ x ∷ z) (drop_all i xs (omega (arith, end))) ∙ ap (λ (z : List ℕ). xs ++ z ∷ []) same
 
--- the fault of an element is that of all
-pub fails_on : (bytes : List ℕ) (from n : ℕ) (first : Value) (at rest : ℕ) (made new : Value) → from ≤ length bytes → GoesOn bytes from n first at (suc rest) made → (fault : LoadFault) → Adds bytes at made new (Err fault) → Fills bytes from n first new (Err fault)
-fails_on bytes from n first at rest made new le h (loads.Refused what place) f = one_fails bytes from n first at rest made what place le h f
-fails_on bytes from n first at rest made new le h loads.Host f = f
-fails_on bytes from n first at rest made new le h loads.Limit f = f
-fails_on bytes from n first at rest made new le h loads.Memory f = f
+-- the fault of a part is that of all
+pub fails_on : (one : Value → Format Value) (exact : (made : Value) → Exact (one made)) (bytes : List ℕ) (from n : ℕ) (first : Value) (at rest : ℕ) (made new : Value) → from ≤ length bytes → GoesOn one bytes from n first at (suc rest) made → (fault : LoadFault) → Reads (one made) bytes at new (Err fault) → Reads (in_turn one n first) bytes from new (Err fault)
+fails_on one exact bytes from n first at rest made new le h (loads.Refused what place) f = one_fails one exact bytes from n first at rest made what place le h f
+fails_on one exact bytes from n first at rest made new le h loads.Host f = f
+fails_on one exact bytes from n first at rest made new le h loads.Limit f = f
+fails_on one exact bytes from n first at rest made new le h loads.Memory f = f
 
 -- what holds where an answer came leads to another
 pub on_ok : {A E : Type 0} {P Q : Type 0} (result : Result A E) → (P → Q) → IfOk result (λ x. P) → IfOk result (λ x. Q)
 on_ok (Ok x) f p = f p
 on_ok (Err e) f p = tt
 
--- the fault of a collection's elements is the collection's
-pub unfilled : (bytes : List ℕ) (moment : ℕ) (old new : World) (name : List ℕ) (type : Collection) (n at : ℕ) (deadline : Option ℕ) (first made : Value) → first ≡ without_any type → (fault : LoadFault) → Fills bytes at n first made (Err fault) → ReadsCollection bytes moment old new name type n at deadline (Err fault)
-unfilled bytes moment old new name type n at deadline first made is (loads.Refused what place) f = subst (λ (v : Value). Fails (in_turn with_one n v) bytes at what place) is f
-unfilled bytes moment old new name type n at deadline first made is loads.Host f = f
-unfilled bytes moment old new name type n at deadline first made is loads.Limit f = f
-unfilled bytes moment old new name type n at deadline first made is loads.Memory f = tt
+-- the fault of what is laid out is the collection's
+pub unfilled : (bytes : List ℕ) (moment : ℕ) (old new : World) (name : List ℕ) (layout : Layout) (at : ℕ) (deadline : Option ℕ) (first made : Value) → first ≡ without_any (started layout) → (fault : LoadFault) → FillsLaid bytes at layout first made (Err fault) → ReadsCollection bytes moment old new name layout at deadline (Err fault)
+unfilled bytes moment old new name layout at deadline first made is (loads.Refused what place) f = subst (λ (v : Value). Fails (laid_on layout v) bytes at what place) is f
+unfilled bytes moment old new name layout at deadline first made is loads.Host f = f
+unfilled bytes moment old new name layout at deadline first made is loads.Limit f = f
+unfilled bytes moment old new name layout at deadline first made is loads.Memory f = tt

@@ -4,5 +4,9 @@ pub mod Entries
 pub mod Clears
 pub mod Living
 pub mod Elements
+pub mod Numbers
+pub mod Noded
+pub mod Paired
+pub mod Unpacked
 pub mod Rising
 pub mod Anew

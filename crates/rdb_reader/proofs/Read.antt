@@ -16,7 +16,7 @@ use Rattle.rdb_grammar.specs.declared.fault.ItemFault.{ItemFault}
 use Rattle.rdb_grammar.specs.declared.fault.ItemFault.TheVariants as faults
 use Rattle.rdb_grammar.specs.Returns.{IsPartAt, IsItemAt, SaysFault}
 use Rattle.rdb_grammar.specs.Views.{key_of}
-use Rattle.rdb_grammar.specs.declared.values.Collection.{Collection}
+use Rattle.rdb_grammar.specs.declared.values.Layout.{Layout}
 use Rattle.rdb_grammar.specs.declared.values.FileValue.{FileValue}
 use Rattle.rdb_grammar.specs.declared.values.FileValue.TheVariants as values
 use Rattle.rdb_grammar.proofs.Turns.{opened_stands, opened_fails}
@@ -150,16 +150,16 @@ module _ (bytes : List ℕ) (moment : ℕ) (world : World) (p : Progress) (h : H
 -- a key is no end
 pub key_part : (bytes : List ℕ) (at next : ℕ) (name : List ℕ) (value : FileValue) → IsItemAt bytes at next (key_of name value) → IsPartAt bytes at next (key_of name value)
 key_part bytes at next name (values.Text chunk) h = h
-key_part bytes at next name (values.Elements type n) h = h
+key_part bytes at next name (values.Laid layout) h = h
 
 -- a collection that was read makes the key read
-pub collection_key : (bytes : List ℕ) (moment : ℕ) (so_far : Progress) (old new : World) (name : List ℕ) (type : Collection) (n next : ℕ) → Stands part (Opens name type n) bytes so_far.at next
-    → (result : Result (Put × ℕ) LoadFault) → ReadsCollection bytes moment old new name type n next so_far.deadline result → ReadsKey bytes moment so_far old new name result
-collection_key bytes moment so_far old new name type n next s (Ok x) r = record { value = r.value; stands = opened_stands bytes so_far.at next x.1 name type n r.value s r.stands; puts = r.puts }
-collection_key bytes moment so_far old new name type n next s (Err (loads.Refused what place)) r = opened_fails bytes so_far.at next name type n what place s r
-collection_key bytes moment so_far old new name type n next s (Err loads.Host) r = r
-collection_key bytes moment so_far old new name type n next s (Err loads.Limit) r = r
-collection_key bytes moment so_far old new name type n next s (Err loads.Memory) r = inr (record { name = name; type = type; elements = n; next = next; stands = s })
+pub collection_key : (bytes : List ℕ) (moment : ℕ) (so_far : Progress) (old new : World) (name : List ℕ) (layout : Layout) (next : ℕ) → Stands part (Opens name layout) bytes so_far.at next
+    → (result : Result (Put × ℕ) LoadFault) → ReadsCollection bytes moment old new name layout next so_far.deadline result → ReadsKey bytes moment so_far old new name result
+collection_key bytes moment so_far old new name layout next s (Ok x) r = record { value = r.value; stands = opened_stands bytes so_far.at next x.1 name layout r.value s r.stands; puts = r.puts }
+collection_key bytes moment so_far old new name layout next s (Err (loads.Refused what place)) r = opened_fails bytes so_far.at next name layout what place s r
+collection_key bytes moment so_far old new name layout next s (Err loads.Host) r = r
+collection_key bytes moment so_far old new name layout next s (Err loads.Limit) r = r
+collection_key bytes moment so_far old new name layout next s (Err loads.Memory) r = inr (record { name = name; layout = layout; next = next; stands = s })
 
 -- nothing is read yet
 pub holds_nothing : (bytes text : List ℕ) (moment next : ℕ) (world : World) → world ≡ new_world → Stands header text bytes 0 next → Holds bytes moment world (record { at = next; db = 0; deadline = None; keys = 0; passed = 0 })

@@ -11,6 +11,10 @@ use Rattle.hash_object.specs.Maps.{FitsFields}
 use Rattle.zset_object.specs.Orders.{FitsScored}
 use Rattle.plain_world.specs.Worlds.{Str, ListOf, SetOf, HashOf, SortedOf, StreamOf}
 use Rattle.plain_world.specs.Worlds as model
+use Rattle.rdb_grammar.specs.declared.values.Collection.{Collection}
+use Rattle.rdb_grammar.specs.declared.values.Collection.TheVariants as of
+use Rattle.rdb_grammar.specs.declared.values.Packed.{Packed}
+use Rattle.rdb_grammar.specs.declared.values.Packed.TheVariants as packs
 use Rattle.held.specs.Table.{Element, item}
 use Rattle.keyspace.specs.declared.value.Value.{Value}
 use Rattle.keyspace.specs.declared.value.Value.TheVariants as kinds
@@ -39,6 +43,28 @@ IsNew limits m value = IsNewAs limits (value_of m value) (encoding_of value)
 abbrev pub AreNew : Bases → Blocks → Type 0
 AreNew bases m =
     (db at : ℕ) (element : Element Value) → item (table_at bases db) at ≡ Some element → IsNew bases.limits m element.value
+
+-- it is this kind of collection
+abbrev pub IsOf : Collection → Value → Type 0
+IsOf of.List (kinds.List list) = Unit {0}
+IsOf of.Set (kinds.Set members) = Unit {0}
+IsOf of.Hash (kinds.Hash fields) = Unit {0}
+IsOf of.SortedSet (kinds.Zset scored) = Unit {0}
+IsOf type other = ⊥
+
+-- members of a set are packed so
+abbrev pub HasMembers : Packed → Type 0
+HasMembers packs.Numbers = Unit {0}
+HasMembers packs.Texts = Unit {0}
+HasMembers packs.Pairs = ⊥
+HasMembers packs.Scores = ⊥
+
+-- what is packed so may be put into it
+abbrev pub Suits : Value → Packed → Type 0
+Suits (kinds.Set members) packed = HasMembers packed
+Suits (kinds.Hash fields) packed = packed ≡ packs.Pairs
+Suits (kinds.Zset scored) packed = packed ≡ packs.Scores
+Suits other packed = ⊥
 
 -- it is a list, a set, a hash or a sorted set
 abbrev pub IsCollection : Value → Type 0

@@ -7,7 +7,7 @@ use Rattle.rdb_grammar.specs.declared.fault.ItemFault.TheVariants as items
 use Rattle.rdb_grammar.specs.Items.{Item, Passed, Deadline, Database, End, Key, Opens, part, item}
 use Rattle.rdb_grammar.specs.Places.{Stands, Fails}
 use Rattle.rdb_grammar.specs.Files.{State, Reached, is_kept, IsFile, IsFault}
-use Rattle.rdb_grammar.specs.declared.values.Collection.{Collection}
+use Rattle.rdb_grammar.specs.declared.values.Layout.{Layout}
 use Rattle.held.specs.Calls.{IsDeadline}
 use Rattle.keyspace.specs.Scopes.{Scope, anything}
 use Rattle.outside.specs.Files.{Files}
@@ -89,10 +89,9 @@ pub record IsKept (bytes : List ℕ) (moment : ℕ) (so_far : Progress) : Type 0
 -- the next item is a key with a collection, which is built before it is known whether the key is kept
 pub record IsOpened (bytes : List ℕ) (so_far : Progress) : Type 0 where
   pub name : List ℕ
-  pub type : Collection
-  pub elements : ℕ
+  pub layout : Layout
   pub next : ℕ
-  pub stands : Stands part (Opens name type elements) bytes so_far.at next
+  pub stands : Stands part (Opens name layout) bytes so_far.at next
 
 -- what is read of a key, up to a place: its value, and what became of it
 pub record KeyRead (bytes : List ℕ) (moment : ℕ) (so_far : Progress) (old new : World) (name : List ℕ) (put : Put)

@@ -17,7 +17,7 @@ ghost use Rattle.zset_object.specs.Scored as zset;
 ghost use Rattle.keyspace.specs.Values.{value_of, value_refs, IsSound};
 ghost use Rattle.rdb_grammar.specs.Elements.{without_any};
 ghost use Rattle.rdb_reader.specs.Building.{Adds, Fills};
-ghost use Rattle.rdb_reader.specs.Forms.{IsCollection, IsNew};
+ghost use Rattle.rdb_reader.specs.Forms.{IsCollection, IsNew, IsOf};
 
 use crate::fault::LoadFault;
 use crate::texts::text;
@@ -43,7 +43,7 @@ pub(crate) fn refused(fault: FileFault) -> LoadFault
 }
 
 // The member or field at an offset stands twice.
-fn twice(at: usize) -> LoadFault
+pub(crate) fn twice(at: usize) -> LoadFault
     ensures { result ≡ LoadFault.Refused LoadKind.DuplicateElement at }
 {
     LoadFault::Refused {
@@ -54,7 +54,7 @@ fn twice(at: usize) -> LoadFault
 
 // Puts the next element behind those of a list.
 #[tactic(auto, using(keyspace::proofs::Serving::nothing, keyspace::proofs::Serving::both))]
-fn push_element<B: BlockStore>(
+pub(crate) fn push_element<B: BlockStore>(
     list: &mut Quick,
     store: &mut B,
     bytes: &[u8],
@@ -256,6 +256,7 @@ pub(crate) fn begin(
     ensures refs { IfOk result (λ made. (m : Blocks) → value_refs m made ≡ []) }
     ensures sound { IfOk result (λ made. (m : Blocks) → IsSound limits seed m made) }
     ensures some { IfOk result (λ made. IsCollection made) }
+    ensures kind { IfOk result (λ made. IsOf collection made) }
     ensures form { IfOk result (λ made. (m : Blocks) → IsNew limits m made) }
 {
     match collection {

@@ -14,14 +14,15 @@ ghost use Rattle.rdb_reader.specs.Building.{ReadsCollection};
 ghost use Rattle.rdb_reader.specs.Loads.{IsFate, Puts, any_key};
 ghost use Rattle.rdb_reader.specs.Forms.{IsNew, AreNew};
 
-use crate::building::{begin, fill};
+use crate::building::begin;
 use crate::fault::LoadFault;
 use crate::keys::{Put, is_in_time, is_there};
+use crate::layouts::{kind_of, read_laid};
 use crate::texts::text;
 use blocks::{BlockStore, Memory};
 use itoa::Buffer;
 use keyspace::{Keyspace, Value};
-use rdb_grammar::{Chunk, Collection};
+use rdb_grammar::{Chunk, Layout};
 use stored::Stored;
 
 // Whether a value is a collection without an element.
@@ -103,16 +104,15 @@ fn put_made<B: BlockStore>(
     }
 }
 
-/// Reads the elements of a key's collection, so many from an offset on, and puts the key into a database, unless it is passed
-/// over or was there before. The offset behind the elements is answered. A collection that is passed over is built too, since a
+/// Reads a key's collection, which is laid out from an offset on, and puts the key into a database, unless it is passed
+/// over or was there before. The offset behind it is answered. A collection that is passed over is built too, since a
 /// member or field that stands twice is found by its table.
 #[tactic(none)]
 pub fn put_collection<B: BlockStore>(
     keyspace: &mut Keyspace<B>,
     db: usize,
     name: &Chunk<'_>,
-    collection: Collection,
-    count: u64,
+    layout: Layout,
     bytes: &[u8],
     at: usize,
     deadline: Option<u64>,
@@ -122,7 +122,7 @@ pub fn put_collection<B: BlockStore>(
     requires latest { IsDeadline deadline }
     requires at { at ≤ length bytes.now }
     requires sound { Sound keyspace.old.bases (B.blocks keyspace.old.store) }
-    ensures reads { ReadsCollection bytes.now moment (means db keyspace.old.bases (B.blocks keyspace.old.store)) (means db keyspace.new.bases (B.blocks keyspace.new.store)) (text_of name.now) collection count at deadline result }
+    ensures reads { ReadsCollection bytes.now moment (means db keyspace.old.bases (B.blocks keyspace.old.store)) (means db keyspace.new.bases (B.blocks keyspace.new.store)) (text_of name.now) layout at deadline result }
     ensures sound { Sound keyspace.new.bases (B.blocks keyspace.new.store) }
     ensures served { Served B.step keyspace.old.store keyspace.new.store }
     ensures settings { SameSettings keyspace.old.bases keyspace.new.bases }
@@ -130,11 +130,11 @@ pub fn put_collection<B: BlockStore>(
     ensures form { IfOk result (λ put. AreNew keyspace.old.bases (B.blocks keyspace.old.store) → AreNew keyspace.new.bases (B.blocks keyspace.new.store)) }
 {
     let alloc = keyspace.alloc();
-    let mut made = match begin(alloc, keyspace.limits(), keyspace.seed(), collection) {
+    let mut made = match begin(alloc, keyspace.limits(), keyspace.seed(), kind_of(layout)) {
         Ok(made) => made,
         Err(_) => return Err(LoadFault::Memory),
     };
-    let next = match fill(&mut made, &mut keyspace.store, bytes, at, count) {
+    let next = match read_laid(&mut made, &mut keyspace.store, bytes, at, layout) {
         Ok(next) => next,
         Err(fault) => {
             made.release(&mut keyspace.store);

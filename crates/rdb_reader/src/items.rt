@@ -84,17 +84,9 @@ fn read_key<B: BlockStore>(
             Ok(put) => Ok((put, next)),
             Err(_) => Err(LoadFault::Memory),
         },
-        FileValue::Elements(collection, count) => put_collection(
-            keyspace,
-            db,
-            name,
-            *collection,
-            *count,
-            bytes,
-            next,
-            deadline,
-            moment,
-        ),
+        FileValue::Laid(layout) => {
+            put_collection(keyspace, db, name, *layout, bytes, next, deadline, moment)
+        }
     }
 }
 

@@ -7,7 +7,11 @@ mod fault;
 mod fetch;
 mod items;
 mod keys;
+mod layouts;
 mod loading;
+mod nodes;
+mod pairs;
+mod payloads;
 mod texts;
 
 pub use fault::LoadFault;

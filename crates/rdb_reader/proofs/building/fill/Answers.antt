@@ -5,6 +5,7 @@ use Rattle.blocks.proofs.Serve.{Served-then}
 use Rattle.keyspace.specs.Values.{value_of}
 use Rattle.rdb_grammar.specs.Format.{in_turn}
 use Rattle.rdb_grammar.specs.Elements.{with_one}
+use Rattle.rdb_grammar.proofs.PartsExact.{with_one-exact}
 use Rattle.rdb_grammar.proofs.Turns.{GoesOn, one_on, all_stand}
 use Rattle.rdb_reader.proofs.Elements.{fails_on}
 use Rattle.rdb_reader.proofs.building.fill.Goals as goal
@@ -34,12 +35,12 @@ elements-preserved g c =
     let more = value_of (blocks c.add_element.new.store) c.add_element.new.value in
     let rest = c.args.count - (c.elements.counter + 1) in
     let left : c.args.count - c.elements.counter ≡ suc rest = omega (arith, c.elements-test.true) in
-    let turns = subst (λ (n : ℕ). GoesOn c.args.bytes.now c.args.at c.args.count first c.elements.next n made) left inv.turns in
+    let turns = subst (λ (n : ℕ). GoesOn with_one c.args.bytes.now c.args.at c.args.count first c.elements.next n made) left inv.turns in
     record {
       sound = λ limits seed sound. c.add_element.ensures.sound limits seed (inv.sound limits seed sound);
       form = λ limits seed sound news. c.in-Ok.ensures.form limits seed (inv.sound limits seed sound) (inv.form limits seed sound news);
       some = c.add_element.ensures.some;
-      turns = turns ∙ one_on c.args.bytes.now c.elements.next rest made c.in-Ok.behind more c.in-Ok.ensures.adds;
+      turns = turns ∙ one_on with_one with_one-exact c.args.bytes.now c.elements.next rest made c.in-Ok.behind more c.in-Ok.ensures.adds;
       inside = c.in-Ok.ensures.adds.inside;
       changes = Changes-then _ _ _ _ _ _ inv.changes c.add_element.ensures.changes;
       served = Served-then _ _ _ inv.served c.add_element.ensures.served;
@@ -52,8 +53,8 @@ returns-in-Err-clause-fills g c =
     let made = value_of (blocks c.elements.store) c.elements.value in
     let rest = c.args.count - (c.elements.counter + 1) in
     let left : c.args.count - c.elements.counter ≡ suc rest = omega (arith, c.elements-test.true) in
-    let turns = subst (λ (n : ℕ). GoesOn c.args.bytes.now c.args.at c.args.count first c.elements.next n made) left c.elements.invariant.turns in
-    fails_on c.args.bytes.now c.args.at c.args.count first c.elements.next rest made (value_of (blocks c.add_element.new.store) c.add_element.new.value) c.requires.at turns c.in-Err.fault c.in-Err.ensures.adds
+    let turns = subst (λ (n : ℕ). GoesOn with_one c.args.bytes.now c.args.at c.args.count first c.elements.next n made) left c.elements.invariant.turns in
+    fails_on with_one with_one-exact c.args.bytes.now c.args.at c.args.count first c.elements.next rest made (value_of (blocks c.add_element.new.store) c.add_element.new.value) c.requires.at turns c.in-Err.fault c.in-Err.ensures.adds
 
 pub returns-in-Err-clause-sound : goal.returns-in-Err-clause-sound
 returns-in-Err-clause-sound g c = λ limits seed sound. c.add_element.ensures.sound limits seed (c.elements.invariant.sound limits seed sound)
@@ -67,5 +68,5 @@ returns-clause-fills g c =
     let first = value_of (blocks c.args.store.now) c.args.value.now in
     let made = value_of (blocks c.elements.store) c.elements.value in
     let none : c.args.count - c.elements.counter ≡ 0 = omega (arith, c.elements-test.false) in
-    all_stand c.args.bytes.now c.args.at c.args.count first c.elements.next made c.requires.at c.elements.invariant.inside
-    (subst (λ (n : ℕ). GoesOn c.args.bytes.now c.args.at c.args.count first c.elements.next n made) none c.elements.invariant.turns)
+    all_stand with_one with_one-exact c.args.bytes.now c.args.at c.args.count first c.elements.next made c.requires.at c.elements.invariant.inside
+    (subst (λ (n : ℕ). GoesOn with_one c.args.bytes.now c.args.at c.args.count first c.elements.next n made) none c.elements.invariant.turns)

@@ -23,7 +23,7 @@ pub put_collection-requires-clause-sound : goal.put_collection-requires-clause-s
 put_collection-requires-clause-sound g c = c.requires.sound
 
 pub put_collection-requires-clause-at : goal.put_collection-requires-clause-at
-put_collection-requires-clause-at g c = (rw c.in-Elements.is at c.requires.stands).inside
+put_collection-requires-clause-at g c = (rw c.in-Laid.is at c.requires.stands).inside
 
 pub returns-in-Ok-clause-reads : goal.returns-in-Ok-clause-reads
 returns-in-Ok-clause-reads g c = record { value = Str (text_of c.in-Text.text); stands = rw c.in-Text.is at c.requires.stands; puts = c.in-Ok.ensures.puts }
@@ -31,8 +31,8 @@ returns-in-Ok-clause-reads g c = record { value = Str (text_of c.in-Text.text); 
 pub returns-in-Err-clause-reads : goal.returns-in-Err-clause-reads
 returns-in-Err-clause-reads g c = inl (record { name = text_of c.args.name.now; value = Str (text_of c.in-Text.text); next = c.args.next; stands = rw c.in-Text.is at c.requires.stands; in_time = c.in-Err.ensures.memory })
 
-pub returns-in-Elements-clause-reads : goal.returns-in-Elements-clause-reads
-returns-in-Elements-clause-reads g c = collection_key c.args.bytes.now c.args.moment c.args.so_far _ _ (text_of c.args.name.now) _ _ c.args.next (rw c.in-Elements.is at c.requires.stands) c.put_collection.result c.put_collection.ensures.reads
+pub returns-in-Laid-clause-reads : goal.returns-in-Laid-clause-reads
+returns-in-Laid-clause-reads g c = collection_key c.args.bytes.now c.args.moment c.args.so_far _ _ (text_of c.args.name.now) _ c.args.next (rw c.in-Laid.is at c.requires.stands) c.put_collection.result c.put_collection.ensures.reads
 
 pub returns-in-Ok-clause-sound : goal.returns-in-Ok-clause-sound
 returns-in-Ok-clause-sound g c = c.put_key.ensures.sound
@@ -58,20 +58,20 @@ returns-in-Err-clause-settings g c = c.put_key.ensures.settings
 pub returns-in-Err-clause-within : goal.returns-in-Err-clause-within
 returns-in-Err-clause-within g c = c.put_key.ensures.within
 
-pub returns-in-Elements-clause-sound : goal.returns-in-Elements-clause-sound
-returns-in-Elements-clause-sound g c = c.put_collection.ensures.sound
+pub returns-in-Laid-clause-sound : goal.returns-in-Laid-clause-sound
+returns-in-Laid-clause-sound g c = c.put_collection.ensures.sound
 
-pub returns-in-Elements-clause-served : goal.returns-in-Elements-clause-served
-returns-in-Elements-clause-served g c = c.put_collection.ensures.served
+pub returns-in-Laid-clause-served : goal.returns-in-Laid-clause-served
+returns-in-Laid-clause-served g c = c.put_collection.ensures.served
 
-pub returns-in-Elements-clause-settings : goal.returns-in-Elements-clause-settings
-returns-in-Elements-clause-settings g c = c.put_collection.ensures.settings
+pub returns-in-Laid-clause-settings : goal.returns-in-Laid-clause-settings
+returns-in-Laid-clause-settings g c = c.put_collection.ensures.settings
 
-pub returns-in-Elements-clause-within : goal.returns-in-Elements-clause-within
-returns-in-Elements-clause-within g c = c.put_collection.ensures.within
+pub returns-in-Laid-clause-within : goal.returns-in-Laid-clause-within
+returns-in-Laid-clause-within g c = c.put_collection.ensures.within
 
 pub returns-in-Ok-clause-form : goal.returns-in-Ok-clause-form
 returns-in-Ok-clause-form g c = c.in-Ok.ensures.form
 
-pub returns-in-Elements-clause-form : goal.returns-in-Elements-clause-form
-returns-in-Elements-clause-form g c = c.put_collection.ensures.form
+pub returns-in-Laid-clause-form : goal.returns-in-Laid-clause-form
+returns-in-Laid-clause-form g c = c.put_collection.ensures.form

@@ -1,0 +1,20 @@
+use Rattle.std.proofs.Common.{List, ℕ, subst, refl}
+use Rattle.plain_world.specs.Worlds.{HashOf}
+use Rattle.hash_object.specs.Fields.{fields}
+use Rattle.rdb_grammar.specs.Payloads.{pairs_on}
+use Rattle.rdb_reader.specs.Building.{Makes}
+use Rattle.rdb_reader.proofs.Unpacked.{makes_as, pairs_made, no_pairs}
+use Rattle.rdb_reader.proofs.pairs.unpack_pairs.Goals as goal
+
+pub returns-in-Ok-clause-makes : goal.returns-in-Ok-clause-makes
+returns-in-Ok-clause-makes g c =
+    let made = HashOf (fields (g.B.BlockStore.blocks c.args.store.now) c.args.fields.now) in
+    let new = HashOf (fields (g.B.BlockStore.blocks c.set_pairs.new.store) c.set_pairs.new.fields) in
+    let told = pairs_made c.in-Ok.pack.bytes.now made c.in-Ok.pack.packed in
+    subst (λ (bytes : List ℕ). Makes ((pairs_on made).found bytes) c.args.at new c.set_pairs.result) c.in-Ok.ensures.bytes
+    (makes_as ((pairs_on made).found c.in-Ok.pack.bytes.now) _ c.args.at new c.set_pairs.result told c.set_pairs.ensures.makes)
+
+pub returns-in-Err-clause-makes : goal.returns-in-Err-clause-makes
+returns-in-Err-clause-makes g c =
+    let made = HashOf (fields (g.B.BlockStore.blocks c.args.store.now) c.args.fields.now) in
+    rw c.no_payload.ensures (no_pairs c.args.payload.now made _ c.in-Err.ensures.fault, refl)
