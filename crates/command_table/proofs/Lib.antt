@@ -4,7 +4,7 @@ pub mod Shapes
 pub mod Arms
 pub mod Names
 pub mod OptionWords
-pub mod ScoreTexts
+pub mod ScoreBounds
 pub mod AddWords
 pub mod RangeWords
 pub mod PickWords

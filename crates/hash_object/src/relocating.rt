@@ -149,6 +149,9 @@ fn settle_marks<B: BlockStore>(store: &mut B, table: &mut Dict<BlockRef>, part: 
     ensures calm { IsCalm (B.heap store.new) table.new part.start part.end }
     ensures calmer { Calmer (B.heap store.old) (B.heap store.new) }
 {
+    if store.is_calm() {
+        return;
+    }
     for mark in part.start..part.end {
         settle_mark(store, table, mark);
     }

@@ -1,4 +1,5 @@
 pub mod Bulks
+pub mod ScoreTexts
 pub mod Containing
 pub mod Covered
 pub mod FixedRuns

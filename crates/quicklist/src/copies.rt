@@ -82,6 +82,9 @@ fn settle_nodes<B: BlockStore>(store: &mut B, nodes: &mut VecDeque<Node>, start:
     ensures calm { (i : ℕ) → start ≤ i → i < end → wants (B.heap store.new) (node_at nodes.new.items i).at ≡ false }
     ensures calmer { Calmer (B.heap store.old) (B.heap store.new) }
 {
+    if store.is_calm() {
+        return;
+    }
     for k in start..end {
         settle_node(store, nodes, k);
     }

@@ -4,6 +4,7 @@ pub mod Cuts
 pub mod Depends
 pub mod Ends
 pub mod Entries
+pub mod Exactly
 pub mod Frames
 pub mod Grafts
 pub mod Growths

@@ -4,6 +4,7 @@ ghost use Rattle.std.specs.Prelude.{◌≡◌, suc, ◌+◌, ◌<◌, ◌≤◌,
 ghost use Rattle.std.specs.List.{remove};
 ghost use Rattle.blocks.specs.Blocks.{with_block, overwritten, bytes_at, Changes, Owned, Served};
 ghost use Rattle.rax_packed.specs.Nodes.{node_of, spelled, Inner};
+ghost use Rattle.rax_packed.specs.Exact.{PlacesNone};
 ghost use Rattle.rax_packed.specs.Packed.{value_at, without};
 ghost use Rattle.rax_packed.specs.Trees.{entries_at, refs_at, IsTreeAt, Becomes};
 ghost use Rattle.rax_packed.specs.Ways.{IsInnerBytes, links_in, prefix_in};
@@ -34,6 +35,7 @@ pub(crate) fn cut_below<B: BlockStore>(store: &mut B, at: BlockRef, rest: &[u8])
     ensures ended_fewer { result.gone ≡ true → length (refs_at (length rest.now) (B.blocks store.old) at) ≡ result.fewer }
     ensures kept_fewer { result.gone ≡ false → length (refs_at (length rest.now) (B.blocks store.old) at) ≡ length (refs_at (length rest.now) (B.blocks store.new) at) + result.fewer }
     ensures few { result.fewer ≤ suc (length rest.now) }
+    ensures none { PlacesNone (B.blocks store.old) (B.blocks store.new) }
     ensures once { suc (length (without (entries_at (length rest.now) (B.blocks store.old) at) rest.now)) ≡ length (entries_at (length rest.now) (B.blocks store.old) at) }
     ensures served { Served B.step store.old store.new }
 {
@@ -81,6 +83,7 @@ fn unlink<B: BlockStore>(store: &mut B, at: BlockRef, place: usize) -> bool
     ensures others { result ≡ false → 1 < length (links_in (node_of (bytes_at (B.blocks store.old) at))) }
     ensures written { result ≡ false → B.blocks store.new ≡ with_block (B.blocks store.old) at (Some (overwritten (bytes_at (B.blocks store.old) at) 0
         (spelled (Inner (prefix_in (node_of (bytes_at (B.blocks store.old) at))) (remove (links_in (node_of (bytes_at (B.blocks store.old) at))) place)) ++ replicate 13 0))) }
+    ensures none { PlacesNone (B.blocks store.old) (B.blocks store.new) }
     ensures served { Served B.step store.old store.new }
 {
     let node = read_sections(store.bytes(at));

@@ -1,8 +1,9 @@
 // Putting a key in.
 
-ghost use Rattle.std.specs.Prelude.{◌≡◌, ℕ, ◌+◌, ◌*◌, ◌<◌, ◌≤◌, None, IfOk, OnErr, IsSome, Some, length};
+ghost use Rattle.std.specs.Prelude.{◌≡◌, ℕ, ◌+◌, ◌*◌, ◌<◌, ◌≤◌, None, IfOk, OnOk, OnErr, IsSome, Some, length};
 ghost use Rattle.blocks.specs.Blocks.{with_block, overwritten, bytes_at, Owned, Served};
 ghost use Rattle.rax_packed.specs.Nodes.{node_of, ref_bytes, IsRef};
+ghost use Rattle.rax_packed.specs.Exact.{PlacesExactly};
 ghost use Rattle.rax_packed.specs.Packed.{value_at, with_entry};
 ghost use Rattle.rax_packed.specs.Trees.{entries_at, refs_at, IsTreeAt, Becomes};
 ghost use Rattle.rax_packed.specs.Ways.{IsInnerBytes, Lacks, PartsAt, links_in, prefix_in};
@@ -37,6 +38,7 @@ pub(crate) fn add_below<B: BlockStore>(
         (with_entry (entries_at (length rest.now) (B.blocks store.old) at) rest.now value)) }
     ensures more { IfOk result (λ new. length (refs_at (length rest.now) (B.blocks store.new) new.at) ≡ length (refs_at (length rest.now) (B.blocks store.old) at) + new.more) }
     ensures few { IfOk result (λ new. new.more ≤ 2) }
+    ensures exact { OnOk result (PlacesExactly (B.blocks store.old) (B.blocks store.new)) }
     ensures served { Served B.step store.old store.new }
     ensures err { OnErr result (B.blocks store.new ≡ B.blocks store.old) }
 {
@@ -95,6 +97,7 @@ fn attach<B: BlockStore>(
         (with_entry (entries_at (length rest.now) (B.blocks store.old) at) rest.now value)) }
     ensures more { IfOk result (λ new. length (refs_at (length rest.now) (B.blocks store.new) new.at) ≡ length (refs_at (length rest.now) (B.blocks store.old) at) + new.more) }
     ensures few { IfOk result (λ new. new.more ≤ 2) }
+    ensures exact { OnOk result (PlacesExactly (B.blocks store.old) (B.blocks store.new)) }
     ensures served { Served B.step store.old store.new }
     ensures err { OnErr result (B.blocks store.new ≡ B.blocks store.old) }
 {
@@ -128,6 +131,7 @@ fn split<B: BlockStore>(
         (with_entry (entries_at (length rest.now) (B.blocks store.old) at) rest.now value)) }
     ensures more { IfOk result (λ new. length (refs_at (length rest.now) (B.blocks store.new) new.at) ≡ length (refs_at (length rest.now) (B.blocks store.old) at) + new.more) }
     ensures few { IfOk result (λ new. new.more ≤ 2) }
+    ensures exact { OnOk result (PlacesExactly (B.blocks store.old) (B.blocks store.new)) }
     ensures served { Served B.step store.old store.new }
     ensures err { OnErr result (B.blocks store.new ≡ B.blocks store.old) }
 {

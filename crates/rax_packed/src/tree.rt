@@ -29,6 +29,7 @@ pub struct PackedTree {
 
 impl PackedTree {
     ghost use Rattle.std.specs.Option.{option_map};
+    ghost use Rattle.rax_packed.specs.Exact.{PlacesExactly, PlacesNone};
     ghost use Rattle.rax_packed.specs.Packed.{value_at, with_entry, without, nearest};
     ghost use Rattle.rax_packed.specs.Maps.{entries_of, refs_of, marks_of, IsSound};
     ghost use Rattle.rax_packed.specs.Paths.{nodes_with, moved, ArePassed};
@@ -107,6 +108,9 @@ impl PackedTree {
         ensures old { IfOk result (λ old. old ≡ value_at (entries_of (B.blocks store.old) self.old) key.now) }
         ensures inserted { OnOk result (entries_of (B.blocks store.new) self.new ≡ with_entry (entries_of (B.blocks store.old) self.old) key.now value) }
         ensures changes { Changes (B.blocks store.old) (B.blocks store.new) (refs_of (B.blocks store.old) self.old) (refs_of (B.blocks store.new) self.new) }
+
+        // Each node placed is just as long as its block, where it is new or has got another link.
+        ensures exact { OnOk result (PlacesExactly (B.blocks store.old) (B.blocks store.new)) }
         ensures served { Served B.step store.old store.new }
 
         // Want of memory changes nothing.
@@ -143,6 +147,7 @@ impl PackedTree {
         ensures sound { OnOk result (IsSound (B.blocks store.new) self.new) }
         ensures inserted { OnOk result (entries_of (B.blocks store.new) self.new ≡ with_entry (entries_of (B.blocks store.old) self.old) key.now value) }
         ensures changes { OnOk result (Changes (B.blocks store.old) (B.blocks store.new) (refs_of (B.blocks store.old) self.old) (refs_of (B.blocks store.new) self.new)) }
+        ensures exact { OnOk result (PlacesExactly (B.blocks store.old) (B.blocks store.new)) }
         ensures served { Served B.step store.old store.new }
         ensures err_tree { OnErr result (self.new ≡ self.old) }
         ensures err_blocks { OnErr result (B.blocks store.new ≡ B.blocks store.old) }
@@ -188,6 +193,7 @@ impl PackedTree {
         ensures old { result ≡ value_at (entries_of (B.blocks store.old) self.old) key.now }
         ensures removed { entries_of (B.blocks store.new) self.new ≡ without (entries_of (B.blocks store.old) self.old) key.now }
         ensures changes { Changes (B.blocks store.old) (B.blocks store.new) (refs_of (B.blocks store.old) self.old) (refs_of (B.blocks store.new) self.new) }
+        ensures none { PlacesNone (B.blocks store.old) (B.blocks store.new) }
         ensures served { Served B.step store.old store.new }
     {
         let Some(at) = self.root else {

@@ -34,6 +34,9 @@ fn settle_items<B: BlockStore>(store: &mut B, table: &mut Dict<()>, part: Part)
     ensures calm { IsCalm (B.heap store.new) table.new part.start part.end }
     ensures calmer { Calmer (B.heap store.old) (B.heap store.new) }
 {
+    if store.is_calm() {
+        return;
+    }
     for at in part.start..part.end {
         settle_item(store, table, at);
     }

@@ -109,6 +109,13 @@ passes_none h p [] (a ∷ us) many none = absurd (omega (arith, many))
 passes_none h p (k ∷ ks) [] many none = absurd (omega (arith, many))
 passes_none h p (k ∷ ks) (a ∷ us) many none = (record { calm = λ is. absurd (let bad : true ≡ false = sym is ∙ none.0 in cc); stays = λ out. refl }, passes_none h p ks us (omega (arith, many)) none.1)
 
+-- nothing wants to move
+pub passes_calm : (h : Heap) (p : ℕ → Bool) (ks : List ℕ) (us : List BlockRef) → length ks ≡ length us → ((r : BlockRef) → wants h r ≡ false) → PassesAll h p ks us us
+passes_calm h p [] [] many calm = tt
+passes_calm h p [] (a ∷ us) many calm = absurd (omega (arith, many))
+passes_calm h p (k ∷ ks) [] many calm = absurd (omega (arith, many))
+passes_calm h p (k ∷ ks) (a ∷ us) many calm = (record { calm = λ is. calm a; stays = λ out. refl }, passes_calm h p ks us (omega (arith, many)) calm)
+
 -- no mark lies between
 abbrev pub IsBeside : ℕ → ℕ → ℕ → Type 0
 IsBeside at n k = (k < at) ⊎ (n ≤ k)

@@ -22,6 +22,9 @@ fn settle_items<B: BlockStore>(store: &mut B, table: &mut ScoreTable, part: Part
     ensures calm { IsCalm (B.heap store.new) table.new.table part.start part.end }
     ensures calmer { Calmer (B.heap store.old) (B.heap store.new) }
 {
+    if store.is_calm() {
+        return;
+    }
     for item in part.start..part.end {
         table.settle_item(store, item);
     }

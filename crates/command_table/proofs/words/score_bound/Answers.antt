@@ -2,7 +2,7 @@ use Rattle.std.proofs.Common.{◌≢◌, get_or, sym, subst, lit<, arith}
 use Rattle.std.proofs.lemmas.Bool.Decides.{nat_tests}
 use Rattle.int_text.proofs.Signed.{no_first}
 use Rattle.command_table.specs.Readings.{Tells}
-use Rattle.command_table.proofs.ScoreTexts.{bound_included}
+use Rattle.command_table.proofs.ScoreBounds.{bound_included}
 use Rattle.command_table.proofs.words.score_bound.Goals as goal
 use Rattle.command_table.proofs.words.score_bound.Goals.{in_default-via-then-text-lt1, in_default-via-else-text-lt1+in_default-1}
 

@@ -5,6 +5,7 @@ use Rattle.rax_packed.specs.Trees.{refs_at}
 use Rattle.rax_packed.proofs.Looks.{tree_live, tree_node, found_leaf, found_link, link_below, shorter}
 use Rattle.rax_packed.proofs.Steps.{own_below, kept_block, add_link, link_ready}
 use Rattle.rax_packed.proofs.Tallies.{step_many, written_live}
+use Rattle.rax_packed.proofs.Exactly.{exact_write}
 use Rattle.rax_packed.proofs.grow.+add_below.Goals as goal
 
 pub bytes-requires : goal.bytes-requires
@@ -76,3 +77,9 @@ returns-in_ok-new-in-Link-clause-more g t c =
     let sum = step_many b mid later (refs_at (length key) b c.args.at) (refs_at (length key) later c.args.at) (refs_at (length (drop c.in-Link.from key)) b c.in-Link.to) (refs_at (length (drop c.in-Link.from key)) mid new)
     c.requires.owned done.changes part below.changes (written_live mid later c.args.at _ ready.live (c.relink.ensures.written _ refl)) in
     omega (arith, sum, more)
+
+pub returns-in_ok-new-in-Link-clause-exact : goal.returns-in_ok-new-in-Link-clause-exact
+returns-in_ok-new-in-Link-clause-exact g t c =
+    let b = g.B.BlockStore.blocks c.args.store.now in
+    let mid = g.B.BlockStore.blocks c.add_below.new.store in
+    exact_write b mid (g.B.BlockStore.blocks c.relink.new.store) c.args.at _ c.in_ok-new-in-Link.ensures.exact (tree_live _ _ b c.args.at c.requires.tree) (c.relink.ensures.written _ refl)

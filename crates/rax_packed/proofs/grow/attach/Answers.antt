@@ -1,11 +1,14 @@
-use Rattle.std.proofs.Common.{◌∙◌, ap, sym, arith, IsSome, subst, [], ◌∷◌, length}
+use Rattle.std.proofs.Common.{◌∙◌, ap, sym, arith, IsSome, subst, [], ◌∷◌, ◌-◌, length, drop, get_or}
 use Rattle.std.proofs.lemmas.List.{take_rest}
 use Rattle.blocks.proofs.Serve.{Served-next, Served-then}
-use Rattle.rax_packed.specs.Nodes.{Leaf, spelled}
+use Rattle.std.specs.List.{insert}
+use Rattle.rax_packed.specs.Nodes.{Leaf, Inner, node_of, spelled}
+use Rattle.rax_packed.specs.Ways.{links_in, prefix_in}
 use Rattle.rax_packed.proofs.Looks.{tree_live}
 use Rattle.rax_packed.proofs.Growths.{puts_none, puts_more, swaps, attach_ready, attach_done}
 use Rattle.rax_packed.proofs.Tallies.{many}
 use Rattle.rax_packed.specs.Trees.{refs_at}
+use Rattle.rax_packed.proofs.Exactly.{exact_same, exact_put, exact_drop}
 use Rattle.rax_packed.proofs.grow.attach.Goals as goal
 
 pub bytes-requires : goal.bytes-requires
@@ -59,3 +62,13 @@ returns-in-Ok-clause-more g c =
     c.in-Ok.ensures.fresh c.in-Ok.ensures.placed c.give_back.ensures.ended (λ i. omega (arith, c.type_inv.rest i)) c.widened-wider.ensures.fits c.leaf_bytes.ensures.fits in
     let sum = many b later (refs_at (length c.args.rest.now) b c.args.at) (refs_at (length c.args.rest.now) later new) (c.args.at ∷ []) (new ∷ leaf ∷ []) c.requires.owned done.changes (λ r. (changed.counts (c.args.at ∷ []) (new ∷ leaf ∷ []) (λ q. omega arith)).balance r) in
     omega (arith, sum)
+
+pub returns-in-Ok-clause-exact : goal.returns-in-Ok-clause-exact
+returns-in-Ok-clause-exact g c =
+    let b = g.B.BlockStore.blocks c.args.store.now in
+    let b1 = g.B.BlockStore.blocks c.put_block.new.store in
+    let b2 = g.B.BlockStore.blocks c.put_block-2.new.store in
+    let one = exact_put b b b1 c.in_ok-leaf.leaf c.as_slice.result.now (Leaf (drop c.args.from c.args.rest.now) c.args.value) (exact_same b) c.in_ok-leaf.ensures.placed (c.as_slice.ensures.value ∙ c.leaf_bytes.ensures.bytes ∙ ap (λ k. spelled (Leaf k c.args.value)) (take_rest c.args.rest.now c.args.from)) in
+    let seen = node_of c.bytes.result.now in
+    let two = exact_put b b1 b2 c.in-Ok.new c.as_slice-2.result.now (Inner (prefix_in seen) (insert (links_in seen) c.args.place (record { edge = get_or c.args.rest.now (c.args.from - 1) 0; to = c.in_ok-leaf.leaf }))) one c.in-Ok.ensures.placed (c.as_slice-2.ensures.value ∙ c.widened-wider.ensures.bytes) in
+    exact_drop b b2 (g.B.BlockStore.blocks c.give_back.new.self) c.args.at two c.give_back.ensures.ended

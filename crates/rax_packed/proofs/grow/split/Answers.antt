@@ -1,12 +1,14 @@
-use Rattle.std.proofs.Common.{◌∙◌, ◌+◌, ap, sym, arith, IsSome, subst, [], ◌∷◌, length}
+use Rattle.std.proofs.Common.{◌∙◌, ◌+◌, ap, sym, arith, IsSome, subst, [], ◌∷◌, length, drop, take, get_or}
 use Rattle.std.proofs.lemmas.List.{take_rest}
 use Rattle.blocks.proofs.Serve.{Served-next, Served-then}
-use Rattle.rax_packed.specs.Nodes.{Leaf, spelled}
+use Rattle.rax_packed.specs.Nodes.{Leaf, Inner, node_of, spelled}
+use Rattle.rax_packed.specs.Ways.{fork_links, shortened_by}
 use Rattle.rax_packed.proofs.Looks.{tree_live}
 use Rattle.rax_packed.proofs.Growths.{puts_none, puts_more, swaps}
 use Rattle.rax_packed.proofs.Tallies.{many}
 use Rattle.rax_packed.specs.Trees.{refs_at}
 use Rattle.rax_packed.proofs.Splits.{split_ready, split_done, undone_two}
+use Rattle.rax_packed.proofs.Exactly.{exact_same, exact_put, exact_drop}
 use Rattle.rax_packed.proofs.grow.split.Goals as goal
 
 pub bytes-requires : goal.bytes-requires
@@ -90,3 +92,14 @@ returns-in-Ok-put_block-clause-more g c =
     (λ i. omega (arith, c.type_inv.rest i)) c.forked-fork.ensures.byte c.forked-fork.ensures.fits.0 c.forked-fork.ensures.fits.1 c.leaf_bytes.ensures.fits in
     let sum = many b later (refs_at (length c.args.rest.now) b c.args.at) (refs_at (length c.args.rest.now) later new) (c.args.at ∷ []) (new ∷ moved ∷ leaf ∷ []) c.requires.owned done.changes (λ r. (changed.counts (c.args.at ∷ []) (new ∷ moved ∷ leaf ∷ []) (λ q. omega arith)).balance r) in
     omega (arith, sum)
+
+pub returns-in-Ok-put_block-clause-exact : goal.returns-in-Ok-put_block-clause-exact
+returns-in-Ok-put_block-clause-exact g c =
+    let b = g.B.BlockStore.blocks c.args.store.now in
+    let b1 = g.B.BlockStore.blocks c.put_block.new.store in
+    let b2 = g.B.BlockStore.blocks c.put_block-2.new.store in
+    let b3 = g.B.BlockStore.blocks c.put_block-3.new.store in
+    let one = exact_put b b b1 c.in_ok-leaf.leaf c.as_slice.result.now (Leaf (drop (c.args.shared + 1) c.args.rest.now) c.args.value) (exact_same b) c.in_ok-leaf.ensures.placed (c.as_slice.ensures.value ∙ c.leaf_bytes.ensures.bytes ∙ ap (λ k. spelled (Leaf k c.args.value)) (take_rest c.args.rest.now (c.args.shared + 1))) in
+    let two = exact_put b b1 b2 c.in-Ok.moved c.as_slice-2.result.now (shortened_by (c.args.shared + 1) (node_of c.bytes-2.result.now)) one c.in-Ok.ensures.placed (c.as_slice-2.ensures.value ∙ c.shortened-short.ensures) in
+    let three = exact_put b b2 b3 c.in-Ok-put_block.new c.as_slice-3.result.now (Inner (take c.args.shared c.args.rest.now) (fork_links (get_or c.bytes.result.now (2 + c.args.shared) 0) c.in-Ok.moved (get_or c.args.rest.now c.args.shared 0) c.in_ok-leaf.leaf)) two c.in-Ok-put_block.ensures.placed (c.as_slice-3.ensures.value ∙ c.forked-fork.ensures.bytes) in
+    exact_drop b b3 (g.B.BlockStore.blocks c.give_back-in-Ok-put_block.new.self) c.args.at three c.give_back-in-Ok-put_block.ensures.ended

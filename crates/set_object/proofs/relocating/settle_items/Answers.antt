@@ -38,3 +38,12 @@ returns-clause-calm g c = λ i e low high there. c.loop-at.invariant.calm i e lo
 
 pub returns-clause-calmer : goal.returns-clause-calmer
 returns-clause-calmer g c = c.loop-at.invariant.calmer
+
+pub returns-then-is_calm-clause-settled : goal.returns-then-is_calm-clause-settled
+returns-then-is_calm-clause-settled g c = settled_same (g.B.BlockStore.blocks c.args.store.now) c.args.table.now _ c.requires.keyed
+
+pub returns-then-is_calm-clause-calm : goal.returns-then-is_calm-clause-calm
+returns-then-is_calm-clause-calm g c = λ i e low high there. c.if-is_calm.ensures e.key
+
+pub returns-then-is_calm-clause-calmer : goal.returns-then-is_calm-clause-calmer
+returns-then-is_calm-clause-calmer g c = Calmer-same (g.B.BlockStore.heap c.args.store.now)

@@ -1,6 +1,8 @@
 use Rattle.std.proofs.Common.{refl, sym, ◌∙◌}
 use Rattle.rax_packed.proofs.Roots.{rootless_value, first_sound, first_entries, first_changes}
 use Rattle.rax_packed.proofs.Sounds.{set_sound}
+use Rattle.rax_packed.specs.Nodes.{Leaf}
+use Rattle.rax_packed.proofs.Exactly.{exact_same, exact_put}
 use Rattle.rax_packed.proofs.tree.PackedTree.insert.Goals as goal
 
 pub returns-in_default-clause-sound : goal.returns-in_default-clause-sound
@@ -25,3 +27,8 @@ pub returns-in-Some-set_below-clause-sound : goal.returns-in-Some-set_below-clau
 returns-in-Some-set_below-clause-sound g c =
     set_sound (g.B.BlockStore.blocks c.args.store.now) (g.B.BlockStore.blocks c.set_below.new.store) c.args.self.now c.in-Some.at c.args.key.now c.args.value c.requires c.in-Some.is
     (rw c.told-key at c.in-Some-set_below.ensures.set) c.set_below.ensures.stays (rw c.told-key at c.in-Some-set_below.ensures.keys)
+
+pub returns-in_default-clause-exact : goal.returns-in_default-clause-exact
+returns-in_default-clause-exact g c =
+    let b = g.B.BlockStore.blocks c.args.store.now in
+    exact_put b b (g.B.BlockStore.blocks c.put_block.new.store) c.in_ok-put_block.field-0 c.as_slice.result.now (Leaf c.args.key.now c.args.value) (exact_same b) c.in_ok-put_block.ensures.placed (c.as_slice.ensures.value ∙ c.leaf_bytes.ensures.bytes)

@@ -7,7 +7,7 @@ use Rattle.std.specs.Str.Parse.{AllDigits, IsNumeral, digits_value}
 use Rattle.std.proofs.Math.Nat.{mul-mod_left, div-add-mod}
 use Rattle.std.proofs.lemmas.Bool.{cases_lt, eqb-true, eq-eqb, ne_eqb, lt-ltb, ltb-true, leb-true, le-leb}
 use Rattle.std.proofs.lemmas.Slice.Eq.{bytes_eq-Decides}
-use Rattle.std.proofs.lemmas.Str.Parse.{digit_from_value}
+use Rattle.std.proofs.lemmas.Str.Parse.{IsNumeralModel, numerals_by_value, tells_all_ascii_digits, digit_from_value}
 use Rattle.int_text.specs.declared.score.ScoreFault.{ScoreFault}
 use Rattle.int_text.specs.declared.score.ScoreFault.TheVariants.{Malformed, NotWhole, TooLarge}
 use Rattle.int_text.specs.Digits.{StopsDigits}
@@ -18,13 +18,16 @@ use Rattle.int_text.proofs.Ones.{score_one}
 use Rattle.int_text.proofs.Scores.{IsUnsigned, IsOnlyBody, behind_minus, behind_plus, behind_none, from_signed}
 use Rattle.plain_world.specs.Words.{in_lower_case}
 use Rattle.plain_model.specs.ScoreTexts.{digits_in_front, behind_digits, is_negative, unsigned, fraction_of, behind_fraction, power_of, exponent_of, with_exponent, number_in, value_of, is_infinity_word, with_sign, score_in, score_of}
-use Rattle.plain_model.specs.Shapes.{and_then, score, score_bound}
-use Rattle.plain_model.specs.declared.zset_command.ScoreBound.TheVariants.{Excluding}
-use Rattle.command_table.specs.Readings.{included}
-use Rattle.command_table.proofs.Tables.{both}
-use Rattle.command_table.proofs.Told.{digits}
 
 -- ---- digits
+
+-- what the definition's test of digits tells
+digits : IsNumeralModel (λ ds. all_ascii_digits ds ≡ true) (digits_value 10)
+digits = numerals_by_value (λ ds. all_ascii_digits ds ≡ true) tells_all_ascii_digits
+
+both : (a b : Bool) → (a && b) ≡ true → (a ≡ true) × (b ≡ true)
+both true b e = (refl, e)
+both false b e = cc
 
 digit_low : (c : ℕ) → is_ascii_digit c ≡ true → digit_value c < 10
 digit_low c e = (digits.to (c ∷ []) (ap (λ b. b && true) e)).0
@@ -232,9 +235,3 @@ score_of_is text =
 -- so whatever is a score of the text is the definition's answer
 pub score_told : (text : List ℕ) (r : Result ℤ ScoreFault) → IsScoreOf text r → score_of text ≡ r
 score_told text r h = score_one text (score_of text) r (score_of_is text) h
-
--- an end of a range without a `(` in front
-pub bound_included : (text : List ℕ) → get_or text 0 0 ≢ 40 → score_bound text ≡ included text
-bound_included [] other = refl
-bound_included (c ∷ text) other =
-    ap (λ b. if b then and_then (score (score_of text)) (λ n. Ok (Excluding n)) else included (c ∷ text)) (ne_eqb c 40 other)
