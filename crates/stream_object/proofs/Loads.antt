@@ -151,3 +151,8 @@ pub followed : (key : Id) (list : List (List ℕ)) (last : Id) (e : Stored) (es 
 followed key list last e es id b n is same test =
     let all = all_above key list last e es n is in
     (λ first. all.0 (subst (IsBelow last) same (test.0 first)), λ every. test.1 (subst (IsBelow last) (sym same) (all.1 every)))
+
+-- what is up to an id is up to a later one
+pub upto_later : (id last : Id) (ps : List Part) → id_number last ≤ id_number id → AreUpto last ps → AreUpto id ps
+upto_later id last [] less h = tt
+upto_later id last (p ∷ ps) less h = (all-weaker (λ (e : Stored). id_number e.id ≤ id_number last) (λ e. id_number e.id ≤ id_number id) (stored_in p) (λ e upto. omega (arith, upto, less)) h.0, upto_later id last ps less h.1)

@@ -1,10 +1,11 @@
 -- Nodes of a file, put behind a stream's entries. (RDB: per node a key, which is an id, and a listpack of entries.)
-use Rattle.std.specs.Prelude.{ℕ, ◌≤◌, List, [], ◌∷◌, ◌++◌, length}
+use Rattle.std.specs.Prelude.{◌≡◌, false, ℕ, ◌≤◌, List, [], ◌∷◌, ◌++◌, length}
 use Rattle.std.specs.List.{AllByRecursion}
 use Rattle.listpack.specs.Pack.{IsPack, texts}
 use Rattle.stream_node.specs.declared.id.Id.{Id}
 use Rattle.stream_node.specs.Entry.{Stored}
 use Rattle.stream_node.specs.Entries.{IsNode}
+use Rattle.stream_node.specs.Ids.{id_number}
 use Rattle.plain_world.specs.Streams.{Stream}
 use Rattle.stream_object.specs.Parts.{Part, live_of}
 use Rattle.stream_object.specs.Streams.{AreBelow, pair_of}
@@ -29,3 +30,7 @@ loaded s es = record s { entries = s.entries ++ live_of es; last = last_of s.las
 -- each of these entries is above all entries of the nodes
 abbrev pub AreAbove : List Part → List Stored → Type 0
 AreAbove ps es = AllByRecursion (λ e. AreBelow e.id ps) es
+
+-- those of these entries that aren't marked deleted have ids up to this one
+abbrev pub AreLiveUpto : Id → List Stored → Type 0
+AreLiveUpto id es = AllByRecursion (λ e. e.deleted ≡ false → id_number e.id ≤ id_number id) es

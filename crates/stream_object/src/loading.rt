@@ -6,11 +6,12 @@ ghost use Rattle.blocks.specs.Blocks.{Blocks, Served};
 ghost use Rattle.listpack.specs.Pack.{texts};
 ghost use Rattle.stream_node.specs.Entries.{entries_of};
 ghost use Rattle.stream_node.specs.Entry.{IsBelow};
+ghost use Rattle.stream_node.specs.declared.id.Id.{Id};
 ghost use Rattle.stream_node.specs.Room.{alone_len};
 ghost use Rattle.stream_node.specs.View.{stored};
 ghost use Rattle.stream_node.specs.Views.{left_of};
-ghost use Rattle.stream_object.specs.Loading.{AreAbove, IsFileNode, loaded};
-ghost use Rattle.stream_object.specs.Streams.{AreBelow, IsChanged, IsStream, nodes, stream_of};
+ghost use Rattle.stream_object.specs.Loading.{AreAbove, AreLiveUpto, IsFileNode, loaded};
+ghost use Rattle.stream_object.specs.Streams.{AreBelow, AreUpto, IsChanged, IsStream, nodes, stream_of};
 
 use crate::Memory;
 use crate::stream::Stream;
@@ -51,6 +52,7 @@ impl Stream {
         requires short { alone_len (stored entry.now).id (stored entry.now).pairs ≤ 536870000 }
         ensures loaded { OnOk result (IsChanged (B.blocks store.old) (B.blocks store.new) self.old self.new (loaded (stream_of (B.blocks store.old) self.old) (stored entry.now ∷ []))) }
         ensures last { OnOk result (self.new.last ≡ (stored entry.now).id) }
+        ensures upto { OnOk result ((id : Id) → AreUpto id (nodes (B.blocks store.old) self.old) → AreLiveUpto id (stored entry.now ∷ []) → AreUpto id (nodes (B.blocks store.new) self.new)) }
         ensures served { Served B.step store.old store.new }
         ensures err_stream { OnErr result (self.new ≡ self.old) }
         ensures err_blocks { OnErr result (B.blocks store.new ≡ B.blocks store.old) }
@@ -65,7 +67,7 @@ impl Stream {
 
     /// Puts the entries of a file's node behind all others, as `add` writes them, but for those that are marked deleted. The last
     /// id is the greatest of the node then, or stays where the node has no entry; how many were added stays. A node whose entries
-    /// are all marked deleted takes no block.
+    /// are all marked deleted takes no block. No entry that is marked deleted is among those of the nodes then.
     ///
     /// All ids of the node are to be above those of all entries that the stream's nodes hold. After `Memory` the first entries of
     /// the node may be there.
@@ -79,6 +81,7 @@ impl Stream {
         requires is_node { IsFileNode key pack.now }
         requires above { AreAbove (nodes (B.blocks store.old) self.old) (entries_of key (texts pack.now)) }
         ensures loaded { OnOk result (IsChanged (B.blocks store.old) (B.blocks store.new) self.old self.new (loaded (stream_of (B.blocks store.old) self.old) (entries_of key (texts pack.now)))) }
+        ensures upto { OnOk result ((id : Id) → AreUpto id (nodes (B.blocks store.old) self.old) → AreLiveUpto id (entries_of key (texts pack.now)) → AreUpto id (nodes (B.blocks store.new) self.new)) }
         ensures served { Served B.step store.old store.new }
         ensures err_some { OnErr result ((n : ℕ) × (n ≤ length (entries_of key (texts pack.now))) × IsChanged (B.blocks store.old) (B.blocks store.new) self.old self.new (loaded (stream_of (B.blocks store.old) self.old) (take n (entries_of key (texts pack.now))))) }
     {

@@ -1,10 +1,10 @@
 use Rattle.std.proofs.Common.{◌∙◌, ◌<◌, length, refl, sym, ap, subst, arith}
 use Rattle.blocks.proofs.Serve.{Served-same}
-use Rattle.stream_node.specs.Ids.{IsId}
+use Rattle.stream_node.specs.Ids.{IsId, id_number}
 use Rattle.stream_node.specs.Room.{alone_len}
 use Rattle.stream_node.specs.View.{stored}
 use Rattle.stream_object.specs.Streams.{AreBelow, nodes}
-use Rattle.stream_object.proofs.Loads.{last_is, live_loaded, marked_loaded, on_ok}
+use Rattle.stream_object.proofs.Loads.{last_is, live_loaded, marked_loaded, on_ok, upto_later}
 use Rattle.stream_object.proofs.stream.Stream.load_entry.Goals as goal
 
 pub returns-then-deleted-clause-loaded : goal.returns-then-deleted-clause-loaded
@@ -42,3 +42,13 @@ returns-clause-last g c =
     let m = g.B.BlockStore.blocks c.args.store.now in
     let after = g.B.BlockStore.blocks c.append.new.store in
     on_ok c.append.result (λ h. last_is m after c.args.self.now c.append.new.self c.id.result c.in_ok-pairs.pairs h ∙ c.id.ensures) c.append.ensures.appended
+
+pub returns-then-deleted-clause-upto : goal.returns-then-deleted-clause-upto
+returns-then-deleted-clause-upto g c = λ id old live. old
+
+pub returns-clause-upto : goal.returns-clause-upto
+returns-clause-upto g c =
+    let m = g.B.BlockStore.blocks c.args.store.now in
+    let after = g.B.BlockStore.blocks c.append.new.store in
+    let e = stored c.args.entry.now in
+    on_ok c.append.result (λ h. λ id old live. upto_later id c.append.new.self.last (nodes after c.append.new.self) (omega (arith, ap id_number (last_is m after c.args.self.now c.append.new.self c.id.result c.in_ok-pairs.pairs h ∙ c.id.ensures), live.0 (sym c.deleted.ensures ∙ c.if-deleted.false))) h.is_stream.upto) c.append.ensures.appended

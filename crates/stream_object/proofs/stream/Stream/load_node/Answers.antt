@@ -1,13 +1,16 @@
-use Rattle.std.proofs.Common.{◌≡◌, ◌∙◌, ◌<◌, ◌≤◌, [], ◌∷◌, ◌++◌, length, map, refl, sym, ap, subst, arith}
+use Rattle.std.proofs.Common.{◌≡◌, false, ◌∙◌, ◌<◌, ◌≤◌, [], ◌∷◌, ◌++◌, length, map, refl, sym, ap, subst, arith}
 use Rattle.std.proofs.lemmas.List.{append-nil, map-append}
 use Rattle.blocks.specs.Blocks.{no_step}
 use Rattle.blocks.proofs.Serve.{Served-then}
 use Rattle.listpack.specs.Pack.{texts}
 use Rattle.stream_node.specs.Entries.{entries_of}
+use Rattle.stream_node.specs.Entry.{Stored}
+use Rattle.stream_node.specs.Ids.{id_number}
 use Rattle.stream_node.specs.Room.{alone_len}
 use Rattle.stream_node.specs.View.{stored}
 use Rattle.stream_node.specs.Views.{left_of}
-use Rattle.stream_object.specs.Loading.{AreAbove, loaded}
+use Rattle.rax_packed.proofs.Entries.{all-back, all-front}
+use Rattle.stream_object.specs.Loading.{AreAbove, AreLiveUpto, loaded}
 use Rattle.stream_object.specs.Streams.{IsChanged, nodes, stream_of}
 use Rattle.stream_object.proofs.Alone.{alone_short, node_some}
 use Rattle.stream_object.proofs.Loads.{above_more, behind_above, behind_one, first_ones, loaded_none, loaded_then, stopped}
@@ -25,6 +28,7 @@ loop-entry-init g c =
       joined = refl;
       changed = loaded_none m c.args.self.now c.requires.is_stream;
       above = subst (AreAbove (nodes m c.args.self.now)) (sym all) c.requires.above;
+      upto = λ id old live. old;
       served = no_step;
     }
 
@@ -68,6 +72,10 @@ loop-entry-preserved g c =
       changed = subst (λ es. IsChanged m after c.args.self.now c.load_entry.new.self (loaded (stream_of m c.args.self.now) es)) (sym (map-append stored c.loop-entry.yielded (c.in-Some.entry ∷ []))) then;
       above = above_more after c.load_entry.new.self e.id then.is_stream c.in_ok-load_entry.ensures.last (left_of c.next.new.self)
           (behind_above c.loop-entry.yielded c.in-Some.entry (left_of c.loop-entry.entry-iterator) (left_of c.next.new.self) (entries_of c.args.key list) (i.joined ∙ all) c.in-Some.ensures.steps sorted);
+      upto = λ id old live.
+          let each = subst (AreLiveUpto id) (map-append stored c.loop-entry.yielded (c.in-Some.entry ∷ [])) live in
+          c.in_ok-load_entry.ensures.upto id (i.upto id old (all-front (λ (x : Stored). x.deleted ≡ false → id_number x.id ≤ id_number id) (map stored c.loop-entry.yielded) (e ∷ []) each))
+          (all-back (λ (x : Stored). x.deleted ≡ false → id_number x.id ≤ id_number id) (map stored c.loop-entry.yielded) (e ∷ []) each);
       served = Served-then _ _ _ i.served c.load_entry.ensures.served;
     }
 
@@ -90,3 +98,10 @@ returns-clause-loaded g c =
     let es = map stored c.loop-entry.yielded in
     let seen : es ≡ entries_of c.args.key (texts c.args.pack.now) = sym (append-nil es) ∙ ap (λ xs. es ++ xs) (sym c.in-None.ensures.steps.0) ∙ c.loop-entry.invariant.joined ∙ all in
     subst (λ xs. IsChanged m (g.B.BlockStore.blocks c.loop-entry.store) c.args.self.now c.loop-entry.self (loaded (stream_of m c.args.self.now) xs)) seen c.loop-entry.invariant.changed
+
+pub returns-clause-upto : goal.returns-clause-upto
+returns-clause-upto g c =
+    let all = ap left_of c.into_iter-entry-iterator.ensures.into_iter_gives ∙ c.listed-entry-items.ensures in
+    let es = map stored c.loop-entry.yielded in
+    let seen : es ≡ entries_of c.args.key (texts c.args.pack.now) = sym (append-nil es) ∙ ap (λ xs. es ++ xs) (sym c.in-None.ensures.steps.0) ∙ c.loop-entry.invariant.joined ∙ all in
+    λ id old live. c.loop-entry.invariant.upto id old (subst (AreLiveUpto id) (sym seen) live)
