@@ -8,11 +8,13 @@ use Rattle.rdb_grammar.specs.Format.{Format, give, some_bytes, followed, Branch,
 use Rattle.rdb_grammar.specs.Lengths.{a_length}
 use Rattle.rdb_grammar.specs.Strings.{string}
 use Rattle.rdb_grammar.specs.Values.{value_behind}
-use Rattle.rdb_grammar.specs.Items.{Item, Passed, Deadline, Database, End, Key, Part, Whole, Opens, keyed, passed, two, deadline_in, database, whole_behind, opens, packs_in, opens_nodes, part_behind, left_of, item}
+use Rattle.rdb_grammar.specs.Items.{Item, Passed, Deadline, Database, End, Key, Part, Whole, Opens, keyed, passed, two, deadline_in, database, whole_behind, opens, packs_in, opens_nodes, streams, part_behind, left_of, item}
 use Rattle.rdb_grammar.specs.declared.values.Collection.{Collection}
 use Rattle.rdb_grammar.specs.declared.values.Collection.TheVariants as of
 use Rattle.rdb_grammar.specs.declared.values.Packed.{Packed}
 use Rattle.rdb_grammar.specs.declared.values.Packed.TheVariants as packs
+use Rattle.rdb_grammar.specs.declared.values.StreamType.{StreamType}
+use Rattle.rdb_grammar.specs.declared.values.StreamType.TheVariants as types
 use Rattle.rdb_grammar.specs.Places.{Stands}
 
 -- a deadline of 63 bits, and a database of 16
@@ -84,6 +86,9 @@ packs_fit packed p word s = subst PartFits (sym s.5.0) tt
 nodes_fit : PartsFit opens_nodes
 nodes_fit p word s = subst PartFits (sym s.5.5.0) tt
 
+streams_fit : (type : StreamType) → PartsFit (streams type)
+streams_fit type p word s = subst PartFits (sym s.5.0) tt
+
 turned_fits : (branch : Branch Item) → AllFit branch → PartsFit (turned Whole branch)
 turned_fits (Goes one) f p word s = subst PartFits (sym s.5.0) (f s.0 s.1 s.4)
 turned_fits (Refuses is) f p word s = absurd s
@@ -98,7 +103,10 @@ part_fits b =
     (pick_parts (b == code.packed_set) _ _ (packs_fit packs.Texts)
     (pick_parts (b == code.packed_hash) _ _ (packs_fit packs.Pairs)
     (pick_parts (b == code.packed_sorted_set) _ _ (packs_fit packs.Scores)
-    (pick_parts (b == code.list_of_nodes) _ _ nodes_fit (turned_fits (whole_behind b) (behind_fits b))))))))))
+    (pick_parts (b == code.list_of_nodes) _ _ nodes_fit
+    (pick_parts (b == code.stream) _ _ (streams_fit types.First)
+    (pick_parts (b == code.second_stream) _ _ (streams_fit types.Second)
+    (pick_parts (b == code.third_stream) _ _ (streams_fit types.Third) (turned_fits (whole_behind b) (behind_fits b)))))))))))))
 
 -- what is left of an item that fits is an item that fits
 left_fits : (p : Part) (x : Item) (word : List ℕ) → PartFits p → (left_of p).Spells x word → Fits x

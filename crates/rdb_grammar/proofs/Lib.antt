@@ -2,12 +2,11 @@ pub mod Exactly
 pub mod PayloadsExact
 pub mod PackedExact
 pub mod NodesDecided
+pub mod StringsExact
 pub mod PartsExact
 pub mod StreamsExact
-pub mod StreamIds
 pub mod NodesRead
 pub mod NodeLength
-pub mod Greatest
 pub mod Standing
 pub mod Partly
 pub mod Steps

@@ -1,13 +1,12 @@
 -- Each part is exact, by its build.
-use Rattle.std.proofs.Common.{ℕ, zero, suc, ◌==◌, ◌||◌, Bool, true, false}
-use Rattle.std.specs.Int.{Width, w8, w32, w64, byte_len}
+use Rattle.std.proofs.Common.{ℕ, ◌==◌, ◌||◌, Bool, true, false}
+use Rattle.std.specs.Int.{Width, w32, w64}
 use Rattle.plain_world.specs.Worlds.{Value, Str, ListOf, SetOf, HashOf, SortedOf, StreamOf}
-use Rattle.rdb_grammar.specs.declared.fault.LoadKind.{LoadKind}
 use Rattle.rdb_grammar.specs.declared.fault.LoadKind.TheVariants as kinds
 use Rattle.rdb_grammar.specs.Codes as code
-use Rattle.rdb_grammar.specs.Format.{Format, Branch, Goes, Refuses, in_turn, inside}
-use Rattle.rdb_grammar.specs.Lengths.{number, number_le, length_behind, a_length}
-use Rattle.rdb_grammar.specs.Strings.{Head, Len, Num, head_behind, head, is_short, body, string}
+use Rattle.rdb_grammar.specs.Format.{Format, Branch, Goes, Refuses, inside}
+use Rattle.rdb_grammar.specs.Lengths.{a_length}
+use Rattle.rdb_grammar.specs.Strings.{string}
 use Rattle.rdb_grammar.specs.Values.{string_value, is_old, value_behind}
 use Rattle.rdb_grammar.specs.Scores.{is_score, score}
 use Rattle.rdb_grammar.specs.Elements.{Map, fresh, with_one, without_any}
@@ -17,40 +16,15 @@ use Rattle.rdb_grammar.specs.declared.values.Collection.TheVariants as of
 use Rattle.rdb_grammar.specs.declared.values.Packed.{Packed}
 use Rattle.rdb_grammar.specs.declared.values.Packed.TheVariants as packs
 use Rattle.rdb_grammar.specs.declared.values.Layout.{Layout}
+use Rattle.rdb_grammar.specs.declared.values.StreamType.{StreamType}
+use Rattle.rdb_grammar.specs.declared.values.StreamType.TheVariants as types
 use Rattle.rdb_grammar.specs.declared.values.Layout.TheVariants as layouts
 use Rattle.rdb_grammar.proofs.PayloadsExact.{inside-exact}
 use Rattle.rdb_grammar.proofs.PackedExact.{numbers_on-decided, texts_on-decided, pairs_on-decided, scores_on-decided}
-use Rattle.rdb_grammar.specs.Items.{Part, Whole, Opens, keyed, passed, two, deadline_in, database, whole_behind, opens, packs_in, opens_nodes, part_behind, part, left_of, item}
+use Rattle.rdb_grammar.specs.Items.{Part, Whole, Opens, keyed, passed, two, deadline_in, database, whole_behind, opens, packs_in, opens_nodes, streams, part_behind, part, left_of, item}
+pub use Rattle.rdb_grammar.proofs.StringsExact.{number-exact, number_le-exact, length_behind-exact, a_length-exact, head-exact, body-exact, string-exact, in_turn-exact}
+use Rattle.rdb_grammar.proofs.StreamsExact.{stream-exact}
 use Rattle.rdb_grammar.proofs.Exactly.{Exact, BranchExact, goes-exact, refuses-exact, give-exact, some_bytes-exact, followed-exact, checked-exact, pick-exact, turned-exact, by_first-exact}
-
-pub number-exact : (w : Width) → Exact (number w)
-number-exact w = followed-exact _ _ (some_bytes-exact _) λ bytes. give-exact _
-
-pub number_le-exact : (w : Width) → Exact (number_le w)
-number_le-exact w = followed-exact _ _ (some_bytes-exact _) λ bytes. give-exact _
-
-pub length_behind-exact : (refused : LoadKind) (b : ℕ) → BranchExact (length_behind refused b)
-length_behind-exact refused b =
-    pick-exact _ _ _ (goes-exact _ (give-exact _))
-    (pick-exact _ _ _ (goes-exact _ (followed-exact _ _ (number-exact w8) λ low. give-exact _))
-    (pick-exact _ _ _ (goes-exact _ (number-exact w32)) (pick-exact _ _ _ (goes-exact _ (number-exact w64)) (refuses-exact _))))
-
-pub a_length-exact : Exact a_length
-a_length-exact = by_first-exact _ (length_behind-exact kinds.Length)
-
-head_behind-exact : (b : ℕ) → BranchExact (head_behind b)
-head_behind-exact b =
-    search (pick-exact, goes-exact, refuses-exact, give-exact, turned-exact, length_behind-exact) depth 16 fits 2000
-
-pub head-exact : Exact head
-head-exact = by_first-exact head_behind head_behind-exact
-
-pub body-exact : (h : Head) → Exact (body h)
-body-exact (Len n) = some_bytes-exact n
-body-exact (Num w) = followed-exact _ _ (some_bytes-exact (byte_len w)) λ bytes. give-exact _
-
-pub string-exact : Exact string
-string-exact = followed-exact _ _ (checked-exact kinds.TooLong 0 is_short head head-exact) body-exact
 
 string_value-exact : Exact string_value
 string_value-exact = followed-exact _ _ string-exact λ text. give-exact _
@@ -92,12 +66,6 @@ whole_behind-exact b =
 pub score-exact : Exact score
 score-exact = followed-exact _ _ (checked-exact kinds.ScoreRange 0 is_score _ (number_le-exact w64)) λ word. give-exact _
 
--- parts in turn are exact, if each is
-pub in_turn-exact : {S : Type 0} (one : S → Format S) → ((made : S) → Exact (one made)) → (n : ℕ) (made : S) → Exact (in_turn one n made)
-unfolding in_turn
-in_turn-exact one e zero made = give-exact made
-in_turn-exact one e (suc n) made = followed-exact (one made) (λ more. in_turn one n more) (e made) λ more. in_turn-exact one e n more
-
 fresh-exact : {A : Type 0} (before : Map A) → Exact (fresh before)
 fresh-exact before = checked-exact kinds.DuplicateElement 0 _ string string-exact
 
@@ -130,6 +98,7 @@ pub laid_on-exact : (layout : Layout) (made : Value) → Exact (laid_on layout m
 laid_on-exact (layouts.Elements type n) made = in_turn-exact with_one with_one-exact n made
 laid_on-exact (layouts.Packed packed) made = held-exact packed made
 laid_on-exact (layouts.Nodes n) made = in_turn-exact with_node with_node-exact n made
+laid_on-exact (layouts.Stream type) made = stream-exact type
 
 pub laid-exact : (layout : Layout) → Exact (laid layout)
 laid-exact layout = laid_on-exact layout (without_any (started layout))
@@ -143,6 +112,9 @@ packs_in-exact packed = goes-exact _ (followed-exact _ _ string-exact λ name. g
 opens_nodes-exact : BranchExact opens_nodes
 opens_nodes-exact = goes-exact _ (followed-exact _ _ string-exact λ name. followed-exact _ _ a_length-exact λ n. give-exact _)
 
+streams-exact : (type : StreamType) → BranchExact (streams type)
+streams-exact type = goes-exact _ (followed-exact _ _ string-exact λ name. give-exact _)
+
 part_behind-exact : (b : ℕ) → BranchExact (part_behind b)
 part_behind-exact b =
     pick-exact (b == code.list) _ _ (opens-exact of.List)
@@ -153,7 +125,10 @@ part_behind-exact b =
     (pick-exact (b == code.packed_set) _ _ (packs_in-exact packs.Texts)
     (pick-exact (b == code.packed_hash) _ _ (packs_in-exact packs.Pairs)
     (pick-exact (b == code.packed_sorted_set) _ _ (packs_in-exact packs.Scores)
-    (pick-exact (b == code.list_of_nodes) _ _ opens_nodes-exact (turned-exact Whole _ (whole_behind-exact b))))))))))
+    (pick-exact (b == code.list_of_nodes) _ _ opens_nodes-exact
+    (pick-exact (b == code.stream) _ _ (streams-exact types.First)
+    (pick-exact (b == code.second_stream) _ _ (streams-exact types.Second)
+    (pick-exact (b == code.third_stream) _ _ (streams-exact types.Third) (turned-exact Whole _ (whole_behind-exact b)))))))))))))
 
 pub part-exact : Exact part
 part-exact = by_first-exact part_behind part_behind-exact

@@ -16,7 +16,7 @@ use Rattle.rdb_grammar.proofs.Exactly.{Exact, give-exact, some_bytes-exact, foll
 use Rattle.rdb_grammar.proofs.PayloadsExact.{Decided, told-decided, refined-decided, inside-exact}
 use Rattle.rdb_grammar.proofs.PackedExact.{texts_in-decided}
 use Rattle.rdb_grammar.proofs.NodesDecided.{node_in-decided}
-use Rattle.rdb_grammar.proofs.PartsExact.{number-exact, number_le-exact, a_length-exact, head-exact, body-exact, string-exact, in_turn-exact}
+use Rattle.rdb_grammar.proofs.StringsExact.{number-exact, number_le-exact, a_length-exact, head-exact, body-exact, string-exact, in_turn-exact}
 
 pub two_lengths-exact : Exact two_lengths
 two_lengths-exact = followed-exact _ _ a_length-exact λ ms. followed-exact _ _ a_length-exact λ seq. give-exact _

@@ -102,6 +102,16 @@ packed_sorted_set = 17
 abbrev pub packed_set : ℕ
 packed_set = 20
 
+-- a stream, in one of three versions
+abbrev pub stream : ℕ
+stream = 15
+
+abbrev pub second_stream : ℕ
+second_stream = 19
+
+abbrev pub third_stream : ℕ
+third_stream = 21
+
 -- a list in nodes
 abbrev pub list_of_nodes : ℕ
 list_of_nodes = 18

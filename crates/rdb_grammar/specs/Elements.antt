@@ -36,3 +36,4 @@ without_any of.List = ListOf []
 without_any of.Set = SetOf empty
 without_any of.Hash = HashOf empty
 without_any of.SortedSet = SortedOf empty
+without_any of.Stream = StreamOf (record { entries = []; last = (0, 0); deleted = (0, 0); added = 0; groups = empty })

@@ -10,6 +10,8 @@ use Rattle.rdb_grammar.specs.declared.values.Packed.{Packed}
 use Rattle.rdb_grammar.specs.declared.values.Packed.TheVariants as packs
 use Rattle.rdb_grammar.specs.declared.values.Layout.{Layout}
 use Rattle.rdb_grammar.specs.declared.values.Layout.TheVariants as layouts
+use Rattle.rdb_grammar.specs.declared.values.StreamType.{StreamType}
+use Rattle.rdb_grammar.specs.declared.values.StreamType.TheVariants as types
 use Rattle.rdb_grammar.specs.Codes as code
 use Rattle.rdb_grammar.specs.Format.{Format, give, some_bytes, followed, checked, Branch, Goes, Refuses, pick, turned, by_first}
 use Rattle.rdb_grammar.specs.Lengths.{number_le, a_length}
@@ -69,7 +71,7 @@ whole_behind b =
     (pick (b == code.eof) (Goes (give End)) (keyed (value_behind b)))))))))))
 
 -- The first part of an item: all of it, or of a key with a collection what stands before its elements, its string or its
--- nodes, and how they follow.
+-- nodes, or the parts of a stream, and how they follow.
 pub data Part : Type 0 where
   Whole : Item → Part
   Opens : List ℕ → Layout → Part
@@ -86,6 +88,10 @@ packs_in packed = Goes (followed string λ name. give (Opens name (layouts.Packe
 abbrev pub opens_nodes : Branch Part
 opens_nodes = Goes (followed string λ name. followed a_length λ n. give (Opens name (layouts.Nodes n)))
 
+-- a key's string, behind which a stream of a type stands
+abbrev pub streams : StreamType → Branch Part
+streams type = Goes (followed string λ name. give (Opens name (layouts.Stream type)))
+
 abbrev pub part_behind : ℕ → Branch Part
 part_behind b =
     pick (b == code.list) (opens of.List)
@@ -96,7 +102,10 @@ part_behind b =
     (pick (b == code.packed_set) (packs_in packs.Texts)
     (pick (b == code.packed_hash) (packs_in packs.Pairs)
     (pick (b == code.packed_sorted_set) (packs_in packs.Scores)
-    (pick (b == code.list_of_nodes) opens_nodes (turned Whole (whole_behind b))))))))))
+    (pick (b == code.list_of_nodes) opens_nodes
+    (pick (b == code.stream) (streams types.First)
+    (pick (b == code.second_stream) (streams types.Second)
+    (pick (b == code.third_stream) (streams types.Third) (turned Whole (whole_behind b)))))))))))))
 
 abbrev pub part : Format Part
 part = by_first part_behind

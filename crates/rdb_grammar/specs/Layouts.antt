@@ -12,6 +12,7 @@ use Rattle.rdb_grammar.specs.Format.{Format, Payload, followed, checked, in_turn
 use Rattle.rdb_grammar.specs.Lengths.{a_length}
 use Rattle.rdb_grammar.specs.Strings.{string}
 use Rattle.rdb_grammar.specs.Elements.{with_one, without_any}
+use Rattle.rdb_grammar.specs.StreamParts.{stream}
 use Rattle.rdb_grammar.specs.Payloads.{numbers_on, texts_on, pairs_on, scores_on}
 
 -- what a string holds more of a value
@@ -45,12 +46,14 @@ started (layouts.Packed packs.Texts) = of.Set
 started (layouts.Packed packs.Pairs) = of.Hash
 started (layouts.Packed packs.Scores) = of.SortedSet
 started (layouts.Nodes n) = of.List
+started (layouts.Stream type) = of.Stream
 
--- what is laid out, put into a value
+-- what is laid out, put into a value; a stream is read whole
 abbrev pub laid_on : Layout → Value → Format Value
 laid_on (layouts.Elements type n) made = in_turn with_one n made
 laid_on (layouts.Packed packed) made = inside string (held packed made)
 laid_on (layouts.Nodes n) made = in_turn with_node n made
+laid_on (layouts.Stream type) made = stream type
 
 -- a collection that is laid out
 abbrev pub laid : Layout → Format Value

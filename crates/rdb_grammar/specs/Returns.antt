@@ -14,7 +14,7 @@ abbrev pub Returns : {X Y : Type 0} → (X → Y) → Result X Refused → Resul
 Returns view (Ok x) read = read ≡ Ok (view x)
 Returns view (Err e) read = read ≡ Err (e.kind, e.left)
 
--- an item stands at a place, up to the next one; of a key with a collection what stands before the elements does
+-- an item stands at a place, up to the next one; of a key with a collection what stands before its parts does
 abbrev pub IsPartAt : List ℕ → ℕ → ℕ → Part → Type 0
 IsPartAt bytes at next (Whole x) = Stands item x bytes at next
 IsPartAt bytes at next (Opens name layout) = Stands part (Opens name layout) bytes at next

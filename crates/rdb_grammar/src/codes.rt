@@ -58,6 +58,12 @@ pub(crate) const PACKED_HASH: u8 = 16;
 pub(crate) const PACKED_SORTED_SET: u8 = 17;
 
 pub(crate) const PACKED_SET: u8 = 20;
+/// A stream, in one of three versions.
+pub(crate) const STREAM: u8 = 15;
+
+pub(crate) const SECOND_STREAM: u8 = 19;
+
+pub(crate) const THIRD_STREAM: u8 = 21;
 /// A list in nodes.
 pub(crate) const LIST_OF_NODES: u8 = 18;
 

@@ -2,7 +2,7 @@
 
 ghost use Rattle.std.specs.Prelude.{◌≡◌, ℕ, List};
 ghost use Rattle.rdb_grammar.specs.Format.{Goes, Refuses, turned, branch_read};
-ghost use Rattle.rdb_grammar.specs.Items.{Whole, key_with, opens, packs_in, opens_nodes, whole_behind as whole_behind_of, part_behind as part_behind_of, part};
+ghost use Rattle.rdb_grammar.specs.Items.{Whole, key_with, opens, packs_in, opens_nodes, streams, whole_behind as whole_behind_of, part_behind as part_behind_of, part};
 ghost use Rattle.rdb_grammar.specs.Values.{string_value};
 ghost use Rattle.rdb_grammar.specs.Views.{part_said};
 ghost use Rattle.rdb_grammar.specs.Returns.{Returns};
@@ -14,7 +14,7 @@ use crate::opcodes::{
     database, deadline_in_ms, deadline_in_seconds, frequency, idle_time, name_and_text, sizes,
 };
 use crate::strings::{Chunk, string_of};
-use crate::values::{Collection, FileValue, Layout, Packed};
+use crate::values::{Collection, FileValue, Layout, Packed, StreamType};
 
 /// What an item says.
 #[derive(Clone, Copy, Debug)]
@@ -73,6 +73,15 @@ fn nodes_of(bytes: &[u8]) -> Result<(Meaning<'_>, &[u8]), Refused>
     Ok((Meaning::Key { name, value }, rest))
 }
 
+/// A key, behind which a stream of a type stands.
+fn stream_of(stream: StreamType, bytes: &[u8]) -> Result<(Meaning<'_>, &[u8]), Refused>
+    ensures { Returns (λ x. (part_said x.0, x.1.now)) result (branch_read (streams stream) bytes.now) }
+{
+    let (name, rest) = string_of(bytes)?;
+    let value = FileValue::Laid(Layout::Stream(stream));
+    Ok((Meaning::Key { name, value }, rest))
+}
+
 // The byte before these is refused.
 fn refused(kind: LoadKind, rest: &[u8]) -> Result<(Meaning<'_>, &[u8]), Refused>
     ensures { Returns (λ x. (part_said x.0, x.1.now)) result (branch_read (turned Whole (Refuses kind)) rest.now) }
@@ -121,11 +130,14 @@ fn part_behind(first: u8, rest: &[u8]) -> Result<(Meaning<'_>, &[u8]), Refused>
         codes::PACKED_HASH => packed_of(Packed::Pairs, rest),
         codes::PACKED_SORTED_SET => packed_of(Packed::Scores, rest),
         codes::LIST_OF_NODES => nodes_of(rest),
+        codes::STREAM => stream_of(StreamType::First, rest),
+        codes::SECOND_STREAM => stream_of(StreamType::Second, rest),
+        codes::THIRD_STREAM => stream_of(StreamType::Third, rest),
         _ => whole_behind(first, rest),
     }
 }
 
-/// The item that the bytes begin with; of a key with a collection what stands before the elements.
+/// The item that the bytes begin with; of a key with a collection what stands before its parts.
 pub(crate) fn first_part(bytes: &[u8]) -> Result<(Meaning<'_>, &[u8]), Refused>
     ensures { Returns (λ x. (part_said x.0, x.1.now)) result (part.read bytes.now) }
 {

@@ -13,6 +13,7 @@ mod scores;
 mod stream_nodes;
 mod streams;
 mod strings;
+mod texts;
 mod values;
 
 pub use elements::{next_container, next_score, next_string};
@@ -26,6 +27,7 @@ pub use streams::{
     next_node, next_times,
 };
 pub use strings::Chunk;
+pub use texts::text;
 pub use values::{Collection, Container, FileValue, Layout, Packed, StreamType};
 
 /// Memory was refused.

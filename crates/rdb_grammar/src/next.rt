@@ -11,8 +11,8 @@ use crate::file::check_sum;
 use crate::items::{Meaning, first_part};
 use std::alloc::Global;
 
-/// An item, and the offset of the byte behind it; of a key with a collection the offset of the first element, which
-/// [`next_string`](crate::next_string) reads.
+/// An item, and the offset of the byte behind it; of a key with a collection the offset of its first part, as an element,
+/// which [`next_string`](crate::next_string) reads.
 #[derive(Clone, Copy, Debug)]
 pub struct Item<'a> {
     /// What it says.
@@ -50,8 +50,8 @@ fn refused(fault: FileFault) -> ItemFault
 }
 
 /// The item that begins at the offset `at` of a file's bytes; behind the end of the items its checksum field stands, and
-/// the offset behind that is the next. Of a key with a collection the elements are left to read; whoever builds it finds a
-/// member or field that stands twice. Refused exactly by the first fault of the item up to there, or of that field; it wants no
+/// the offset behind that is the next. Of a key with a collection its parts are left to read; whoever builds it finds a
+/// member or field that stands twice, and what breaks the rules of a stream. Refused exactly by the first fault of the item up to there, or of that field; it wants no
 /// memory, since the strings of an item lie in the file's bytes.
 pub fn next_item<'a>(_alloc: Global, bytes: &'a [u8], at: usize) -> Result<Item<'a>, ItemFault>
     requires { at ≤ length bytes.now }

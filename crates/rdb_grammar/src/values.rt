@@ -2,7 +2,7 @@
 
 use crate::strings::Chunk;
 
-/// What a collection is.
+/// What a collection is; a stream counts as one here.
 #[derive(Clone, Copy, Debug)]
 pub enum Collection {
     /// A list.
@@ -13,6 +13,8 @@ pub enum Collection {
     Hash,
     /// A sorted set.
     SortedSet,
+    /// A stream.
+    Stream,
 }
 
 /// What is packed in a string.
@@ -28,17 +30,6 @@ pub enum Packed {
     Scores,
 }
 
-/// How a collection stands behind its key.
-#[derive(Clone, Copy, Debug)]
-pub enum Layout {
-    /// So many elements, one behind the other: strings, pairs of strings for a hash, strings with their scores for a sorted set.
-    Elements(Collection, u64),
-    /// A string that it is packed in: a set, a hash or a sorted set.
-    Packed(Packed),
-    /// A list in so many nodes, each a container and a string.
-    Nodes(u64),
-}
-
 /// How a stream is written: each type has parts that those before it have not.
 #[derive(Clone, Copy, Debug)]
 pub enum StreamType {
@@ -48,6 +39,19 @@ pub enum StreamType {
     Second,
     /// Beside these when each consumer was active.
     Third,
+}
+
+/// How a collection stands behind its key.
+#[derive(Clone, Copy, Debug)]
+pub enum Layout {
+    /// So many elements, one behind the other: strings, pairs of strings for a hash, strings with their scores for a sorted set.
+    Elements(Collection, u64),
+    /// A string that it is packed in: a set, a hash or a sorted set.
+    Packed(Packed),
+    /// A list in so many nodes, each a container and a string.
+    Nodes(u64),
+    /// A stream of a type: its nodes, its marks and its groups.
+    Stream(StreamType),
 }
 
 /// A value of a file.

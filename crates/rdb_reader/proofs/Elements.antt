@@ -6,7 +6,7 @@ use Rattle.std.specs.FinMap.{get, insert}
 use Rattle.plain_world.specs.Worlds.{World, Value, ListOf, SetOf, HashOf, SortedOf}
 use Rattle.rdb_grammar.specs.declared.fault.LoadKind.{LoadKind}
 use Rattle.rdb_grammar.specs.declared.fault.LoadKind.TheVariants as kinds
-use Rattle.rdb_grammar.specs.Format.{Format, in_turn}
+use Rattle.rdb_grammar.specs.Format.{Format, give, in_turn}
 use Rattle.rdb_grammar.proofs.Exactly.{Exact}
 use Rattle.rdb_grammar.specs.Strings.{string}
 use Rattle.rdb_grammar.specs.Scores.{score}
@@ -14,7 +14,8 @@ use Rattle.rdb_grammar.specs.declared.values.Layout.{Layout}
 use Rattle.rdb_grammar.specs.Elements.{Map, fresh, with_one, without_any}
 use Rattle.rdb_grammar.specs.Layouts.{started, laid_on}
 use Rattle.rdb_grammar.specs.Places.{Stands, Fails}
-use Rattle.rdb_grammar.proofs.PartsExact.{string-exact, score-exact, with_one-exact}
+use Rattle.rdb_grammar.proofs.StringsExact.{string-exact}
+use Rattle.rdb_grammar.proofs.PartsExact.{score-exact, with_one-exact}
 use Rattle.rdb_grammar.proofs.Standing.{reads, reads_fault}
 use Rattle.rdb_grammar.proofs.Partly.{stands_read, fails_read}
 use Rattle.rdb_grammar.proofs.Turns.{GoesOn, one_fails}
@@ -119,6 +120,12 @@ module _ (bytes : List ℕ) (at : ℕ) (which : LoadKind) (place : ℕ) (f : Fai
 
   pub scored_fails : (scores : Map ℤ) → Fails (with_one (SortedOf scores)) bytes at which place
   scored_fails scores = record { onward = f.onward; inside = f.inside; faulty = inl (inl f.faulty) }
+
+-- where nothing is read, nothing is added
+pub nothing_added : (value : Value) (bytes : List ℕ) (at : ℕ) → at ≤ length bytes → Stands (give value) value bytes at at
+nothing_added value bytes at le =
+    let none : at - at ≡ 0 = omega arith in
+    record { onward = omega arith; inside = le; spelled = (refl, ap (λ (n : ℕ). take n (drop at bytes)) none) }
 
 -- what is put in behind all others is at the end
 pub appended : (xs : List (List ℕ)) (i : ℕ) (x y : List ℕ) → i ≡ length xs → x ≡ y → take i xs ++ x ∷ drop i xs ≡ xs ++ y ∷ []

@@ -6,6 +6,7 @@ pub mod Living
 pub mod Elements
 pub mod Numbers
 pub mod Noded
+pub mod Streamed
 pub mod Paired
 pub mod Unpacked
 pub mod Rising

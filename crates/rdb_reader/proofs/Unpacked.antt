@@ -27,7 +27,7 @@ use Rattle.rdb_grammar.specs.Places.{Stands, Fails}
 use Rattle.rdb_grammar.specs.Strings.{string}
 use Rattle.rdb_grammar.proofs.Exactly.{Exact}
 use Rattle.rdb_grammar.proofs.PackedExact.{texts_in-decided, numbers_in-decided}
-use Rattle.rdb_grammar.proofs.PartsExact.{string-exact}
+use Rattle.rdb_grammar.proofs.StringsExact.{string-exact}
 use Rattle.rdb_grammar.proofs.Standing.{reads}
 use Rattle.rdb_grammar.proofs.Partly.{stands_read, fails_read}
 use Rattle.rdb_reader.specs.Building.{Makes, Reads}

@@ -50,6 +50,7 @@ IsOf of.List (kinds.List list) = Unit {0}
 IsOf of.Set (kinds.Set members) = Unit {0}
 IsOf of.Hash (kinds.Hash fields) = Unit {0}
 IsOf of.SortedSet (kinds.Zset scored) = Unit {0}
+IsOf of.Stream (kinds.Stream log) = Unit {0}
 IsOf type other = ⊥
 
 -- members of a set are packed so
@@ -65,9 +66,3 @@ Suits (kinds.Set members) packed = HasMembers packed
 Suits (kinds.Hash fields) packed = packed ≡ packs.Pairs
 Suits (kinds.Zset scored) packed = packed ≡ packs.Scores
 Suits other packed = ⊥
-
--- it is a list, a set, a hash or a sorted set
-abbrev pub IsCollection : Value → Type 0
-IsCollection (kinds.Text text) = ⊥
-IsCollection (kinds.Stream b) = ⊥
-IsCollection other = Unit {0}

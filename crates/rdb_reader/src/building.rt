@@ -17,19 +17,19 @@ ghost use Rattle.zset_object.specs.Scored as zset;
 ghost use Rattle.keyspace.specs.Values.{value_of, value_refs, IsSound};
 ghost use Rattle.rdb_grammar.specs.Elements.{without_any};
 ghost use Rattle.rdb_reader.specs.Building.{Adds, Fills};
-ghost use Rattle.rdb_reader.specs.Forms.{IsCollection, IsNew, IsOf};
+ghost use Rattle.rdb_reader.specs.Forms.{IsNew, IsOf};
 
 use crate::fault::LoadFault;
-use crate::texts::text;
 use blocks::{BlockStore, Memory};
 use hash_object::Fields;
 use itoa::Buffer;
 use keyspace::Value;
 use object_codec::Limits;
 use quicklist::Quick;
-use rdb_grammar::{Collection, FileFault, LoadKind, next_score, next_string};
+use rdb_grammar::{Collection, FileFault, LoadKind, next_score, next_string, text};
 use set_object::Members;
 use std::alloc::Global;
+use stream_object::Stream;
 use zset_object::Scored;
 
 // The fault of a part.
@@ -188,7 +188,7 @@ fn set_score<B: BlockStore>(
     }
 }
 
-// Puts the next element into a collection.
+// Puts the next element into a collection. No other value has elements.
 #[tactic(auto, using(keyspace::proofs::Serving::nothing, keyspace::proofs::Serving::both))]
 fn add_element<B: BlockStore>(
     value: &mut Value,
@@ -197,17 +197,17 @@ fn add_element<B: BlockStore>(
     at: usize,
 ) -> Result<usize, LoadFault>
     requires sound { (limits : Limits) × (seed : ℕ) × IsSound limits seed (B.blocks store.old) value.old }
-    requires some { IsCollection value.old }
+    requires owned { Owned (value_refs (B.blocks store.old) value.old) (B.blocks store.old) }
     requires at { at ≤ length bytes.now }
     ensures adds { Adds bytes.now at (value_of (B.blocks store.old) value.old) (value_of (B.blocks store.new) value.new) result }
     ensures sound { (limits : Limits) (seed : ℕ) → IsSound limits seed (B.blocks store.old) value.old → IsSound limits seed (B.blocks store.new) value.new }
-    ensures some { IsCollection value.new }
     ensures form { IfOk result (λ next. (limits : Limits) (seed : ℕ) → IsSound limits seed (B.blocks store.old) value.old → IsNew limits (B.blocks store.old) value.old → IsNew limits (B.blocks store.new) value.new) }
     ensures changes { Changes (B.blocks store.old) (B.blocks store.new) (value_refs (B.blocks store.old) value.old) (value_refs (B.blocks store.new) value.new) }
     ensures served { Served B.step store.old store.new }
 {
     match value {
-        Value::Text(_) | Value::Stream(_) => unreachable!(),
+        Value::Text(_) => Ok(at),
+        Value::Stream(_) => Ok(at),
         Value::List(list) => push_element(list, store, bytes, at),
         Value::Set(members) => add_member(members, store, bytes, at),
         Value::Hash(fields) => set_field(fields, store, bytes, at),
@@ -226,7 +226,6 @@ pub(crate) fn fill<B: BlockStore>(
 ) -> Result<usize, LoadFault>
     requires sound { (limits : Limits) × (seed : ℕ) × IsSound limits seed (B.blocks store.old) value.old }
     requires owned { Owned (value_refs (B.blocks store.old) value.old) (B.blocks store.old) }
-    requires some { IsCollection value.old }
     requires at { at ≤ length bytes.now }
     ensures fills { Fills bytes.now at count (value_of (B.blocks store.old) value.old) (value_of (B.blocks store.new) value.new) result }
     ensures sound { (limits : Limits) (seed : ℕ) → IsSound limits seed (B.blocks store.old) value.old → IsSound limits seed (B.blocks store.new) value.new }
@@ -244,7 +243,7 @@ pub(crate) fn fill<B: BlockStore>(
     Ok(next)
 }
 
-// A collection without an element.
+// A collection without an element, or a stream without one.
 pub(crate) fn begin(
     alloc: Global,
     limits: Limits,
@@ -255,7 +254,6 @@ pub(crate) fn begin(
     ensures means { IfOk result (λ made. (m : Blocks) → value_of m made ≡ without_any collection) }
     ensures refs { IfOk result (λ made. (m : Blocks) → value_refs m made ≡ []) }
     ensures sound { IfOk result (λ made. (m : Blocks) → IsSound limits seed m made) }
-    ensures some { IfOk result (λ made. IsCollection made) }
     ensures kind { IfOk result (λ made. IsOf collection made) }
     ensures form { IfOk result (λ made. (m : Blocks) → IsNew limits m made) }
 {
@@ -267,5 +265,6 @@ pub(crate) fn begin(
             alloc,
             Scored::new(alloc, limits, seed),
         )?)),
+        Collection::Stream => Ok(Value::Stream(Box::new(alloc, Stream::new(alloc))?)),
     }
 }

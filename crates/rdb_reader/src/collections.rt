@@ -18,11 +18,10 @@ use crate::building::begin;
 use crate::fault::LoadFault;
 use crate::keys::{Put, is_in_time, is_there};
 use crate::layouts::{kind_of, read_laid};
-use crate::texts::text;
 use blocks::{BlockStore, Memory};
 use itoa::Buffer;
 use keyspace::{Keyspace, Value};
-use rdb_grammar::{Chunk, Layout};
+use rdb_grammar::{Chunk, Layout, text};
 use stored::Stored;
 
 // Whether a value is a collection without an element.
@@ -104,7 +103,7 @@ fn put_made<B: BlockStore>(
     }
 }
 
-/// Reads a key's collection, which is laid out from an offset on, and puts the key into a database, unless it is passed
+/// Reads a key's collection or stream, which is laid out from an offset on, and puts the key into a database, unless it is passed
 /// over or was there before. The offset behind it is answered. A collection that is passed over is built too, since a
 /// member or field that stands twice is found by its table.
 #[tactic(none)]
@@ -134,7 +133,7 @@ pub fn put_collection<B: BlockStore>(
         Ok(made) => made,
         Err(_) => return Err(LoadFault::Memory),
     };
-    let next = match read_laid(&mut made, &mut keyspace.store, bytes, at, layout) {
+    let next = match read_laid(alloc, &mut made, &mut keyspace.store, bytes, at, layout) {
         Ok(next) => next,
         Err(fault) => {
             made.release(&mut keyspace.store);

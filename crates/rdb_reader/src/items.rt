@@ -10,16 +10,17 @@ ghost use Rattle.keyspace.specs.Scopes.{Within};
 ghost use Rattle.rdb_grammar.specs.Returns.{IsPartAt};
 ghost use Rattle.rdb_grammar.specs.Views.{text_of, key_of};
 ghost use Rattle.rdb_reader.specs.Forms.{AreNew};
-ghost use Rattle.rdb_reader.specs.Loads.{Holds, ReadsKey, ReadsItem, ReadsAll, any_key, load_fault};
+ghost use Rattle.rdb_reader.specs.Loads.{Holds, ReadsKey, ReadsItem, ReadsAll, any_key};
 
 use crate::building::refused;
 use crate::collections::put_collection;
 use crate::fault::LoadFault;
 use crate::keys::{Put, put_key};
 use crate::loading::Loaded;
+use crate::streams::not_read;
 use blocks::BlockStore;
 use keyspace::Keyspace;
-use rdb_grammar::{Chunk, FileValue, ItemFault, LoadKind, Meaning, check_header, next_item};
+use rdb_grammar::{Chunk, FileValue, LoadKind, Meaning, check_header, next_item};
 use std::alloc::Global;
 
 /// How far a file is read.
@@ -44,16 +45,6 @@ pub enum Read {
     More(Progress),
     /// The file ended.
     End,
-}
-
-// The fault of an item.
-fn not_read(fault: ItemFault) -> LoadFault
-    ensures { result ≡ load_fault fault }
-{
-    match fault {
-        ItemFault::Memory => LoadFault::Memory,
-        ItemFault::Refused { kind, at } => LoadFault::Refused { kind, at },
-    }
 }
 
 // Reads what is left of a key from an offset on, and puts the key.

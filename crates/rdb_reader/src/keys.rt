@@ -13,11 +13,10 @@ ghost use Rattle.rdb_grammar.specs.Views.{text_of};
 ghost use Rattle.rdb_reader.specs.Forms.{AreNew};
 ghost use Rattle.rdb_reader.specs.Loads.{Puts, any_key};
 
-use crate::texts::text;
 use blocks::{BlockStore, Memory};
 use itoa::Buffer;
 use keyspace::{Keyspace, Value};
-use rdb_grammar::Chunk;
+use rdb_grammar::{Chunk, text};
 use string_object::Text;
 
 // Makes a string of the file over the blocks of a store. For want of memory no block changes.

@@ -4,17 +4,20 @@ ghost use Rattle.std.specs.Prelude.{◌≡◌, ◌≤◌, ℕ, length, IfOk};
 ghost use Rattle.blocks.specs.Blocks.{Changes, Owned, Served};
 ghost use Rattle.object_codec.specs.declared.limits.Limits.{Limits};
 ghost use Rattle.keyspace.specs.Values.{value_of, value_refs, IsSound};
+ghost use Rattle.rdb_grammar.specs.Elements.{without_any};
 ghost use Rattle.rdb_grammar.specs.Layouts.{started};
 ghost use Rattle.rdb_reader.specs.Building.{FillsLaid};
-ghost use Rattle.rdb_reader.specs.Forms.{IsCollection, IsNew, IsOf};
+ghost use Rattle.rdb_reader.specs.Forms.{IsNew, IsOf};
 
 use crate::building::fill;
 use crate::fault::LoadFault;
 use crate::nodes::read_nodes;
 use crate::payloads::read_payload;
+use crate::streams::read_whole;
 use blocks::BlockStore;
 use keyspace::Value;
 use rdb_grammar::{Collection, Layout, Packed};
+use std::alloc::Global;
 
 /// What is laid out.
 pub(crate) fn kind_of(layout: Layout) -> Collection
@@ -26,12 +29,14 @@ pub(crate) fn kind_of(layout: Layout) -> Collection
         Layout::Packed(Packed::Pairs) => Collection::Hash,
         Layout::Packed(Packed::Scores) => Collection::SortedSet,
         Layout::Nodes(_) => Collection::List,
+        Layout::Stream(_) => Collection::Stream,
     }
 }
 
-/// Reads what is laid out from an offset on into a collection of its kind. The offset behind it is answered.
+/// Reads what is laid out from an offset on into a collection of its kind without an element. The offset behind it is answered.
 #[tactic(auto, using(keyspace::proofs::Serving::nothing, keyspace::proofs::Serving::both))]
 pub(crate) fn read_laid<B: BlockStore>(
+    alloc: Global,
     value: &mut Value,
     store: &mut B,
     bytes: &[u8],
@@ -40,8 +45,8 @@ pub(crate) fn read_laid<B: BlockStore>(
 ) -> Result<usize, LoadFault>
     requires sound { (limits : Limits) × (seed : ℕ) × IsSound limits seed (B.blocks store.old) value.old }
     requires owned { Owned (value_refs (B.blocks store.old) value.old) (B.blocks store.old) }
-    requires some { IsCollection value.old }
     requires kind { IsOf (started layout) value.old }
+    requires begun { value_of (B.blocks store.old) value.old ≡ without_any (started layout) }
     requires at { at ≤ length bytes.now }
     ensures fills { FillsLaid bytes.now at layout (value_of (B.blocks store.old) value.old) (value_of (B.blocks store.new) value.new) result }
     ensures sound { (limits : Limits) (seed : ℕ) → IsSound limits seed (B.blocks store.old) value.old → IsSound limits seed (B.blocks store.new) value.new }
@@ -53,5 +58,6 @@ pub(crate) fn read_laid<B: BlockStore>(
         Layout::Elements(_, count) => fill(value, store, bytes, at, count),
         Layout::Packed(packed) => read_payload(value, store, bytes, at, packed),
         Layout::Nodes(count) => read_nodes(value, store, bytes, at, count),
+        Layout::Stream(stream_type) => read_whole(alloc, value, store, bytes, at, stream_type),
     }
 }

@@ -12,7 +12,7 @@ mod loading;
 mod nodes;
 mod pairs;
 mod payloads;
-mod texts;
+mod streams;
 
 pub use fault::LoadFault;
 pub use loading::{Loaded, load};

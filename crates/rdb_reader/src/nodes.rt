@@ -20,14 +20,13 @@ ghost use Rattle.rdb_reader.specs.Forms.{IsNew, IsOf};
 use crate::building::{push_element, refused};
 use crate::fault::LoadFault;
 use crate::payloads::no_payload;
-use crate::texts::text;
 use blocks::BlockStore;
 use itoa::Buffer;
 use keyspace::Value;
 use listpack::Pack;
 use pack_pairs::text as element_text;
 use quicklist::Quick;
-use rdb_grammar::{Container, LoadKind, next_container, next_string};
+use rdb_grammar::{Container, LoadKind, next_container, next_string, text};
 
 // Puts a text behind the elements of a list.
 #[tactic(auto, using(keyspace::proofs::Serving::nothing, keyspace::proofs::Serving::both))]

@@ -20,14 +20,13 @@ ghost use Rattle.rdb_reader.specs.Building.{Makes, Reads};
 use crate::building::{refused, twice};
 use crate::fault::LoadFault;
 use crate::payloads::no_payload;
-use crate::texts::text;
 use blocks::BlockStore;
 use hash_object::Fields;
 use int_text::{ScoreFault, read_score};
 use itoa::Buffer;
 use listpack::{Element, Pack};
 use pack_pairs::text as element_text;
-use rdb_grammar::{LoadKind, next_string};
+use rdb_grammar::{LoadKind, next_string, text};
 use zset_object::Scored;
 
 // A pair of a listpack's elements, and the offset of the next one.

@@ -20,14 +20,13 @@ ghost use Rattle.rdb_reader.specs.Forms.{IsNew, HasMembers, Suits};
 use crate::building::{refused, twice};
 use crate::fault::LoadFault;
 use crate::pairs::{read_fields, read_scored};
-use crate::texts::text;
 use blocks::BlockStore;
 use intset::Ints;
 use itoa::Buffer;
 use keyspace::Value;
 use listpack::Pack;
 use pack_pairs::text as element_text;
-use rdb_grammar::{Chunk, LoadKind, Packed, next_string};
+use rdb_grammar::{Chunk, LoadKind, Packed, next_string, text};
 use set_object::Members;
 
 // The payload of the string at an offset is refused.

@@ -1,8 +1,9 @@
 use Rattle.std.proofs.Common.{sym, ap, subst, ◌∙◌}
+use Rattle.blocks.proofs.Change.{Changes-same}
 use Rattle.object_codec.specs.declared.limits.Limits.{Limits}
 use Rattle.object_codec.specs.Forms.{IsLeast, FitsList}
 use Rattle.quicklist.specs.Nodes.{pack_len}
-use Rattle.plain_world.specs.Worlds.{ListOf, SetOf, HashOf, SortedOf}
+use Rattle.plain_world.specs.Worlds.{Str, ListOf, SetOf, HashOf, SortedOf, StreamOf}
 use Rattle.plain_world.specs.Worlds as model
 use Rattle.quicklist.specs.Chain as chain
 use Rattle.set_object.specs.Members as set
@@ -13,8 +14,20 @@ use Rattle.keyspace.specs.declared.value.Value.{Value}
 use Rattle.keyspace.specs.Values.{value_of, IsSound}
 use Rattle.rdb_reader.specs.Building.{Adds}
 use Rattle.rdb_reader.specs.Forms.{IsNew}
-use Rattle.rdb_reader.proofs.Elements.{on_ok}
+use Rattle.rdb_reader.proofs.Elements.{nothing_added, on_ok}
 use Rattle.rdb_reader.proofs.building.add_element.Goals as goal
+
+pub returns-in-Text-clause-adds : goal.returns-in-Text-clause-adds
+returns-in-Text-clause-adds g c = rw c.in-Text.is (nothing_added (Str _) c.args.bytes.now c.args.at c.requires.at)
+
+pub returns-in-Text-clause-changes : goal.returns-in-Text-clause-changes
+returns-in-Text-clause-changes g c = Changes-same _ _ c.requires.owned
+
+pub returns-in-Stream-clause-adds : goal.returns-in-Stream-clause-adds
+returns-in-Stream-clause-adds g c = rw c.in-Stream.is (nothing_added (StreamOf _) c.args.bytes.now c.args.at c.requires.at)
+
+pub returns-in-Stream-clause-changes : goal.returns-in-Stream-clause-changes
+returns-in-Stream-clause-changes g c = Changes-same _ _ c.requires.owned
 
 pub returns-in-List-clause-adds : goal.returns-in-List-clause-adds
 returns-in-List-clause-adds g c =

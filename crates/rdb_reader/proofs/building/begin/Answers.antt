@@ -16,3 +16,6 @@ returns-in_ok-new-in-Hash-clause-sound c m = rw c.in_ok-new-in-Hash.ensures.ok (
 
 pub returns-in_ok-new-in-SortedSet-clause-sound : goal.returns-in_ok-new-in-SortedSet-clause-sound
 returns-in_ok-new-in-SortedSet-clause-sound c m = rw c.in_ok-new-in-SortedSet.ensures.ok (c.new-in-SortedSet.ensures.sound m, c.new-in-SortedSet.ensures.limits, c.new-in-SortedSet.ensures.seed)
+
+pub returns-in_ok-new-in-Stream-clause-sound : goal.returns-in_ok-new-in-Stream-clause-sound
+returns-in_ok-new-in-Stream-clause-sound c m = rw c.in_ok-new-in-Stream.ensures.ok (c.new-in-Stream.ensures.is_stream m)

@@ -1,6 +1,6 @@
 use Rattle.std.proofs.Common.{◌≡◌, ℕ, suc, ◌-◌, ◌+◌, sym, ap, subst, ◌∙◌, drop, arith}
 use Rattle.blocks.specs.Blocks.{no_step}
-use Rattle.blocks.proofs.Change.{Changes-same, Changes-then}
+use Rattle.blocks.proofs.Change.{Changes-owned, Changes-same, Changes-then}
 use Rattle.blocks.proofs.Serve.{Served-then}
 use Rattle.keyspace.specs.Values.{value_of}
 use Rattle.rdb_grammar.specs.Format.{in_turn}
@@ -16,7 +16,6 @@ elements-init g c =
     record {
       sound = λ limits seed sound. sound;
       form = λ limits seed sound news. news;
-      some = c.requires.some;
       turns = ap (λ (n : ℕ). (in_turn with_one n (value_of (g.B.BlockStore.blocks c.args.store.now) c.args.value.now)).read (drop c.args.at c.args.bytes.now)) (sym none);
       inside = c.requires.at;
       changes = Changes-same _ _ c.requires.owned;
@@ -25,6 +24,9 @@ elements-init g c =
 
 pub add_element-requires-clause-sound : goal.add_element-requires-clause-sound
 add_element-requires-clause-sound g c = (c.requires.sound.0, c.requires.sound.1, c.elements.invariant.sound c.requires.sound.0 c.requires.sound.1 c.requires.sound.2)
+
+pub add_element-requires-clause-owned : goal.add_element-requires-clause-owned
+add_element-requires-clause-owned g c = Changes-owned _ _ _ _ c.elements.invariant.changes
 
 pub elements-preserved : goal.elements-preserved
 elements-preserved g c =
@@ -39,7 +41,6 @@ elements-preserved g c =
     record {
       sound = λ limits seed sound. c.add_element.ensures.sound limits seed (inv.sound limits seed sound);
       form = λ limits seed sound news. c.in-Ok.ensures.form limits seed (inv.sound limits seed sound) (inv.form limits seed sound news);
-      some = c.add_element.ensures.some;
       turns = turns ∙ one_on with_one with_one-exact c.args.bytes.now c.elements.next rest made c.in-Ok.behind more c.in-Ok.ensures.adds;
       inside = c.in-Ok.ensures.adds.inside;
       changes = Changes-then _ _ _ _ _ _ inv.changes c.add_element.ensures.changes;

@@ -4,7 +4,7 @@ use Rattle.object_codec.specs.declared.limits.Limits.{Limits}
 use Rattle.keyspace.specs.Values.{value_of, value_refs, IsSound}
 use Rattle.rdb_grammar.specs.Elements.{with_one}
 use Rattle.rdb_grammar.proofs.Turns.{GoesOn}
-use Rattle.rdb_reader.specs.Forms.{IsCollection, IsNew}
+use Rattle.rdb_reader.specs.Forms.{IsNew}
 use Rattle.rdb_reader.proofs.building.fill.Given as goal
 
 abbrev pub invariant-elements : goal.invariant-elements
@@ -14,7 +14,6 @@ invariant-elements g l =
     record {
       sound : (limits : Limits) (seed : ℕ) → IsSound limits seed m l.fn.value → IsSound limits seed (blocks l.store) l.value;
       form : (limits : Limits) (seed : ℕ) → IsSound limits seed m l.fn.value → IsNew limits m l.fn.value → IsNew limits (blocks l.store) l.value;
-      some : IsCollection l.value;
       turns : GoesOn with_one l.bytes l.at l.count (value_of m l.fn.value) l.next (l.count - l.counter) (value_of (blocks l.store) l.value);
       inside : l.next ≤ length l.bytes;
       changes : Changes m (blocks l.store) (value_refs m l.fn.value) (value_refs (blocks l.store) l.value);

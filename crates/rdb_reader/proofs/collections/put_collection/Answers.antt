@@ -46,11 +46,11 @@ read_laid-requires-clause-owned g c =
     let bases = c.args.keyspace.now.bases in
     subst (λ (xs : List BlockRef). Owned xs m) (sym (c.in-Ok.ensures.refs m)) (none_owned m)
 
-pub read_laid-requires-clause-some : goal.read_laid-requires-clause-some
-read_laid-requires-clause-some g c = c.in-Ok.ensures.some
-
 pub read_laid-requires-clause-kind : goal.read_laid-requires-clause-kind
 read_laid-requires-clause-kind g c = subst (λ (type : Collection). IsOf type c.in-Ok.made) c.kind_of.ensures c.in-Ok.ensures.kind
+
+pub read_laid-requires-clause-begun : goal.read_laid-requires-clause-begun
+read_laid-requires-clause-begun g c = c.in-Ok.ensures.means (g.B.BlockStore.blocks c.args.keyspace.now.store) ∙ ap without_any c.kind_of.ensures
 
 pub read_laid-requires-clause-at : goal.read_laid-requires-clause-at
 read_laid-requires-clause-at g c = c.requires.at

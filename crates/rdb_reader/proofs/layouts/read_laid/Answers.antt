@@ -15,3 +15,12 @@ read_nodes-requires-clause-kind g c = rw c.in-Nodes.is at c.requires.kind
 
 pub returns-in-Nodes-clause-fills : goal.returns-in-Nodes-clause-fills
 returns-in-Nodes-clause-fills g c = rw c.in-Nodes.is c.read_nodes.ensures.fills
+
+pub read_whole-requires-clause-kind : goal.read_whole-requires-clause-kind
+read_whole-requires-clause-kind g c = rw c.in-Stream.is at c.requires.kind
+
+pub read_whole-requires-clause-begun : goal.read_whole-requires-clause-begun
+read_whole-requires-clause-begun g c = rw c.in-Stream.is at c.requires.begun
+
+pub returns-in-Stream-clause-fills : goal.returns-in-Stream-clause-fills
+returns-in-Stream-clause-fills g c = rw c.in-Stream.is c.read_whole.ensures.fills

@@ -6,7 +6,7 @@ use Rattle.rdb_grammar.specs.Strings.{string}
 use Rattle.rdb_grammar.specs.Views.{text_of}
 use Rattle.rdb_grammar.proofs.PackedExact.{texts_on-decided}
 use Rattle.rdb_grammar.proofs.PayloadsExact.{inside-exact}
-use Rattle.rdb_grammar.proofs.PartsExact.{string-exact}
+use Rattle.rdb_grammar.proofs.StringsExact.{string-exact}
 use Rattle.rdb_reader.specs.Building.{Makes}
 use Rattle.rdb_reader.proofs.Unpacked.{string_fails, payload_stands, payload_broken}
 use Rattle.rdb_reader.proofs.nodes.read_elements.Goals as goal

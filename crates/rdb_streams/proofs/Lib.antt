@@ -1,0 +1,10 @@
+pub mod Placed
+pub mod Counted
+pub mod Ordered
+pub mod Newest
+pub mod Sights
+pub mod NodeParts
+pub mod Marked
+pub mod Claims
+pub mod Grouped
+pub mod Claimed

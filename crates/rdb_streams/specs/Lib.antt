@@ -1,0 +1,4 @@
+pub mod Reading
+pub mod Seeing
+pub mod Claims
+pub mod Grouped
