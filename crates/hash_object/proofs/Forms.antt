@@ -64,6 +64,18 @@ new_least limits = record {
     least Quicklist fits = absurd fits
     least Stream fits = absurd fits
 
+-- what is few and short has the packed form
+pub packed_least : (limits : Limits) (map : FieldMap) → len map ≤ limits.hash_entries → longest (entries map) ≤ limits.hash_value → IsLeast (FitsFields limits map) Listpack
+packed_least limits map few short = record { fitting = (few, short); least = least }
+  where
+    least : (other : Form) → FitsFields limits map other → 1 ≤ rank other
+    least Intset fits = absurd fits
+    least Listpack fits = omega arith
+    least Hashtable fits = omega arith
+    least Skiplist fits = absurd fits
+    least Quicklist fits = absurd fits
+    least Stream fits = absurd fits
+
 pub table_stays : (limits : Limits) (map : FieldMap) → IsRisen limits Hashtable map Hashtable
 table_stays limits map = record { fitting = tt; from_old = omega arith; least = λ other fits from. from }
 

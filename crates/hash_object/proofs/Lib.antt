@@ -10,3 +10,4 @@ pub mod Marks
 pub mod Settling
 pub mod Moving
 pub mod Depends
+pub mod Whole

@@ -1,5 +1,5 @@
 -- What contracts see of a hash over a store.
-use Rattle.std.specs.Prelude.{◌≡◌, ℕ, ◌≤◌, ◌++◌, List, [], ◌∷◌, length, Option, Some, None, MatchOption}
+use Rattle.std.specs.Prelude.{◌≡◌, ℕ, ◌*◌, ◌≤◌, ◌++◌, List, [], ◌∷◌, length, Option, Some, None, MatchOption}
 use Rattle.std.specs.FinMap.{empty}
 use Rattle.blocks.specs.declared.BlockRef.{BlockRef}
 use Rattle.blocks.specs.Blocks.{Blocks, bytes_at, Changes, Owned}
@@ -7,7 +7,7 @@ use Rattle.object_codec.specs.Limits.{AreInRange}
 use Rattle.object_codec.specs.declared.limits.Limits.{Limits}
 use Rattle.object_codec.specs.declared.form.Form.{Form}
 use Rattle.object_codec.specs.declared.form.Form.TheVariants.{Listpack, Hashtable}
-use Rattle.pack_pairs.specs.Pairs.{Pair, IsPairPack, IsOnce, IsFirst, pairs, second_of, seconded, map_of_pairs, longest}
+use Rattle.pack_pairs.specs.Pairs.{Pair, IsPairPack, IsOnce, IsFirst, pairs, paired, second_of, seconded, map_of_pairs, longest}
 use Rattle.rehash_dict.specs.Keyed.{Keyed, hash_of, key_tables}
 use Rattle.rehash_dict.specs.Tables.{Tables}
 use Rattle.rehash_dict.specs.Grown.{Grown}
@@ -119,3 +119,24 @@ IsIndex list field index = MatchOption index (second_of field list ≡ None) (λ
 abbrev pub put_in : List Pair → Option ℕ → List ℕ → List ℕ → List Pair
 put_in list None field value = list ++ (field, value) ∷ []
 put_in list (Some i) field value = seconded list i value
+
+-- These texts may be, two by two, the fields and values of a packed hash: they come in twos, the pairs are not too many
+-- nor too long, and no field stands twice.
+pub record ArePackable (limits : Limits) (texts : List (List ℕ)) : Type 0 where
+  pub even : length texts ≡ 2 * length (paired texts)
+  pub few : length (paired texts) ≤ limits.hash_entries
+  pub short : longest (paired texts) ≤ limits.hash_value
+  pub once : IsOnce (paired texts)
+
+-- A packed hash without a field, of which these texts may be the fields and values.
+pub record CanTake (blocks : Blocks) (f : Fields) (texts : List (List ℕ)) : Type 0 where
+  pub packed : form_of f ≡ Listpack
+  pub fresh : fields blocks f ≡ empty
+  pub packable : ArePackable f.limits texts
+
+-- A packed body that has these texts as its fields and values, in their order, was placed.
+pub record IsPlacedWhole (before after : Blocks) (f : Fields) (texts : List (List ℕ)) (body : Body) : Type 0 where
+  pub packable : ArePackable f.limits texts
+  pub form : form_of_body body ≡ Listpack
+  pub listed_are : listed_of after body ≡ paired texts
+  pub placed : IsPlacedBody before after f body (map_of_pairs (paired texts))

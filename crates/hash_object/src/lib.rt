@@ -14,6 +14,7 @@ mod relocating;
 mod removing;
 mod scanning;
 mod setting;
+mod taking;
 
 pub use blocks::{Memory, Moved};
 pub use cursor::Cursor;

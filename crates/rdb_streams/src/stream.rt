@@ -32,8 +32,8 @@ fn bounded(id: Option<Id>) -> Option<Id>
 /// Reads a stream of a type at an offset, its nodes, marks and groups, into a stream without an entry and a group. The offset
 /// behind it is answered.
 ///
-/// `Refused` comes exactly by the stream's first fault, and `Memory` for want of memory. The nodes that were read before stay in
-/// the stream then.
+/// `Refused` comes exactly by the stream's first fault, and `Memory` for want of memory. The stream is sound over the store then
+/// too, to be released.
 pub fn read_stream<B: BlockStore>(
     alloc: Global,
     stream: &mut Stream,

@@ -18,3 +18,4 @@ pub mod Shortest
 pub mod Trims
 pub mod Walkings
 pub mod Walks
+pub mod Wholes

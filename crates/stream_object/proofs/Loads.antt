@@ -26,7 +26,7 @@ use Rattle.stream_object.proofs.Losing.{Sorted, sorted_split}
 use Rattle.stream_object.proofs.Marking.{live-append, live-one, live-none, node_ids}
 use Rattle.stream_object.proofs.Parts.{refs_are}
 
-last-append : (last : ℕ × ℕ) (es : List Stored) (e : Stored) → last_of last (es ++ e ∷ []) ≡ pair_of e.id
+pub last-append : (last : ℕ × ℕ) (es : List Stored) (e : Stored) → last_of last (es ++ e ∷ []) ≡ pair_of e.id
 last-append last [] e = refl
 last-append last (x ∷ es) e = last-append (pair_of x.id) es e
 

@@ -10,3 +10,4 @@ pub mod Parts
 pub mod Ranges
 pub mod Relocation
 pub mod Streams
+pub mod Whole

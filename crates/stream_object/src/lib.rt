@@ -25,6 +25,7 @@ mod spot;
 mod stream;
 mod trimming;
 mod wanted;
+mod whole;
 
 pub use again::Again;
 pub use fault::AddFault;

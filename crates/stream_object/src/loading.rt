@@ -1,6 +1,6 @@
 // Nodes of a file put behind all entries.
 
-ghost use Rattle.std.specs.Prelude.{◌≡◌, ◌↔◌, ◌<◌, ◌≤◌, ◌∷◌, [], ℕ, length, take, IsTrue, OnOk, OnErr};
+ghost use Rattle.std.specs.Prelude.{◌≡◌, ◌↔◌, ◌<◌, ◌≤◌, ◌∷◌, [], ℕ, length, take, IsTrue, IfOk, IfSome, OnOk, OnErr};
 ghost use Rattle.std.specs.List.{AllByRecursion};
 ghost use Rattle.blocks.specs.Blocks.{Blocks, Served};
 ghost use Rattle.listpack.specs.Pack.{texts};
@@ -9,26 +9,18 @@ ghost use Rattle.stream_node.specs.Entry.{IsBelow};
 ghost use Rattle.stream_node.specs.declared.id.Id.{Id};
 ghost use Rattle.stream_node.specs.Room.{alone_len};
 ghost use Rattle.stream_node.specs.View.{stored};
-ghost use Rattle.stream_node.specs.Views.{left_of};
 ghost use Rattle.stream_object.specs.Loading.{AreAbove, AreLiveUpto, IsFileNode, loaded};
 ghost use Rattle.stream_object.specs.Streams.{AreBelow, AreUpto, IsChanged, IsStream, nodes, stream_of};
+ghost use Rattle.stream_object.specs.Whole.{IsWhole};
 
 use crate::Memory;
+use crate::node::entries;
+use crate::nodes::put_last;
 use crate::stream::Stream;
+use crate::whole::{end_of, listed};
 use blocks::BlockStore;
-use listpack::known;
-use stream_node::{Entries, Entry, Id, check};
-
-// All entries of a file's node, those that are marked deleted among them.
-fn listed<'a>(key: Id, pack: &'a [u8]) -> Entries<'a>
-    requires { IsFileNode key pack.now }
-    ensures { left_of result ≡ entries_of key (texts pack.now) }
-{
-    match check(key, &known(pack)) {
-        Ok(node) => node.entries(),
-        Err(_) => unreachable!(),
-    }
-}
+use std::alloc::AllocError;
+use stream_node::{Entry, Id};
 
 impl Stream {
     /// Whether each id of a file's node is above the last one. `load_node` asks for no more than that.
@@ -65,13 +57,9 @@ impl Stream {
         self.append(store, entry.id(), &pairs)
     }
 
-    /// Puts the entries of a file's node behind all others, as `add` writes them, but for those that are marked deleted. The last
-    /// id is the greatest of the node then, or stays where the node has no entry; how many were added stays. A node whose entries
-    /// are all marked deleted takes no block. No entry that is marked deleted is among those of the nodes then.
-    ///
-    /// All ids of the node are to be above those of all entries that the stream's nodes hold. After `Memory` the first entries of
-    /// the node may be there.
-    pub fn load_node<B: BlockStore>(
+    // Puts the entries of a node behind all others one by one, but for those that are marked deleted. After `Memory` some of the
+    // first are there.
+    fn load_each<B: BlockStore>(
         &mut self,
         store: &mut B,
         key: Id,
@@ -89,5 +77,76 @@ impl Stream {
             self.load_entry(store, &entry)?;
         }
         Ok(())
+    }
+
+    // Places a node as it is, in one block behind all others. `last` is the id of its last entry. `Memory` leaves all as before.
+    fn load_whole<B: BlockStore>(
+        &mut self,
+        store: &mut B,
+        key: Id,
+        pack: &[u8],
+        last: Id,
+    ) -> Result<(), Memory>
+        requires is_stream { IsStream (B.blocks store.old) self.old }
+        requires below { IsBelow self.old.last key }
+        requires whole { IsWhole key pack.now last }
+        ensures loaded { OnOk result (IsChanged (B.blocks store.old) (B.blocks store.new) self.old self.new (loaded (stream_of (B.blocks store.old) self.old) (entries_of key (texts pack.now)))) }
+        ensures upto { OnOk result ((id : Id) → AreUpto id (nodes (B.blocks store.old) self.old) → AreLiveUpto id (entries_of key (texts pack.now)) → AreUpto id (nodes (B.blocks store.new) self.new)) }
+        ensures served { Served B.step store.old store.new }
+        ensures err_stream { OnErr result (self.new ≡ self.old) }
+        ensures err_blocks { OnErr result (B.blocks store.new ≡ B.blocks store.old) }
+    {
+        let count = entries(key, pack).len() as u64;
+        let Some(len) = self.len.checked_add(count) else {
+            return Err(AllocError);
+        };
+        put_last(store, &mut self.tree, key, pack)?;
+        self.len = len;
+        self.last = last;
+        Ok(())
+    }
+
+    // The id of the last entry of a file's node, where the node may stand behind all others as it is.
+    fn end_behind(&self, key: Id, pack: &[u8]) -> Result<Option<Id>, Memory>
+        requires { IsFileNode key pack.now }
+        ensures whole { IfOk result (λ end. IfSome end (λ last. IsWhole key pack.now last)) }
+        ensures below { IfOk result (λ end. IfSome end (λ _. IsBelow self.now.last key)) }
+    {
+        if self.last.is_below(key) {
+            end_of(self.alloc, key, pack)
+        } else {
+            Ok(None)
+        }
+    }
+
+    /// Puts the entries of a file's node behind all others, but for those that are marked deleted. The last id is the greatest
+    /// of the node then, or stays where the node has no entry; how many were added stays. A node whose entries are all marked
+    /// deleted takes no block. Its entries that are marked deleted bound nothing: the nodes are up to each id then that both the
+    /// nodes before and the node's other entries were up to.
+    ///
+    /// A node that may stand as it is becomes one of the stream's: its key is above the last id and not above its first entry, it
+    /// has at most 100 entries, none of them marked deleted, and each element is spelled as a writer spells it. Else its
+    /// entries are put in one by one, as `add` writes them.
+    ///
+    /// All ids of the node are to be above those of all entries that the stream's nodes hold. After `Memory` the first entries of
+    /// the node may be there.
+    pub fn load_node<B: BlockStore>(
+        &mut self,
+        store: &mut B,
+        key: Id,
+        pack: &[u8],
+    ) -> Result<(), Memory>
+        requires is_stream { IsStream (B.blocks store.old) self.old }
+        requires is_node { IsFileNode key pack.now }
+        requires above { AreAbove (nodes (B.blocks store.old) self.old) (entries_of key (texts pack.now)) }
+        ensures loaded { OnOk result (IsChanged (B.blocks store.old) (B.blocks store.new) self.old self.new (loaded (stream_of (B.blocks store.old) self.old) (entries_of key (texts pack.now)))) }
+        ensures upto { OnOk result ((id : Id) → AreUpto id (nodes (B.blocks store.old) self.old) → AreLiveUpto id (entries_of key (texts pack.now)) → AreUpto id (nodes (B.blocks store.new) self.new)) }
+        ensures served { Served B.step store.old store.new }
+        ensures err_some { OnErr result ((n : ℕ) × (n ≤ length (entries_of key (texts pack.now))) × IsChanged (B.blocks store.old) (B.blocks store.new) self.old self.new (loaded (stream_of (B.blocks store.old) self.old) (take n (entries_of key (texts pack.now))))) }
+    {
+        match self.end_behind(key, pack)? {
+            Some(last) => self.load_whole(store, key, pack, last),
+            None => self.load_each(store, key, pack),
+        }
     }
 }

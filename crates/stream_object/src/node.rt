@@ -19,7 +19,7 @@ use std::alloc::Global;
 use stream_node::{Entries, Entry, Id, Pairs, append, mark_deleted, opened, with_entry};
 
 /// The most entries of a node.
-const MOST_ENTRIES: usize = 100;
+pub(crate) const MOST_ENTRIES: usize = 100;
 
 /// A node of more bytes gets no further entry.
 const MOST_BYTES: usize = 4096;

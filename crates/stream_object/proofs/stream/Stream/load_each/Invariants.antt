@@ -5,7 +5,7 @@ use Rattle.stream_node.specs.View.{stored}
 use Rattle.stream_node.specs.Views.{left_of}
 use Rattle.stream_object.specs.Loading.{AreAbove, AreLiveUpto, loaded}
 use Rattle.stream_object.specs.Streams.{AreUpto, IsChanged, nodes, stream_of}
-use Rattle.stream_object.proofs.stream.Stream.load_node.Given as goal
+use Rattle.stream_object.proofs.stream.Stream.load_each.Given as goal
 
 abbrev pub invariant-loop-entry : goal.invariant-loop-entry
 invariant-loop-entry g l = record {

@@ -1,0 +1,158 @@
+-- Nodes of a file that stand as they are.
+use Rattle.std.proofs.Common.{◌≡◌, ◌∙◌, ℕ, suc, ◌+◌, ◌*◌, ◌^◌, ◌<◌, ◌≤◌, false, List, [], ◌∷◌, ◌++◌, length, map, refl, sym, ap, subst, arith, length-append}
+use Rattle.std.specs.Prelude.{not, Result, Ok, Err, OnErr}
+use Rattle.std.specs.List.{AllByRecursion, filter}
+use Rattle.std.proofs.lemmas.Bool.{cond-true}
+use Rattle.std.proofs.lemmas.Bool.Decides.{nat_tests}
+use Rattle.std.proofs.lemmas.List.{append-nil, map-append}
+use Rattle.blocks.specs.declared.BlockRef.{BlockRef}
+use Rattle.blocks.specs.Blocks.{Blocks}
+use Rattle.listpack.specs.Edits.{IsEdited}
+use Rattle.listpack.specs.Entry.{back_length}
+use Rattle.listpack.specs.Pack.{spellings_of, texts}
+use Rattle.listpack.specs.Writing.{entry, spelling}
+use Rattle.stream_node.specs.declared.entry.Entry.{Entry}
+use Rattle.stream_node.specs.declared.id.Id.{Id}
+use Rattle.stream_node.specs.Entries.{entries_of}
+use Rattle.stream_node.specs.Entry.{Stored}
+use Rattle.stream_node.specs.Ids.{IsId, id_number}
+use Rattle.stream_node.specs.Room.{IsWritten}
+use Rattle.stream_node.specs.View.{stored}
+use Rattle.rax_packed.proofs.Entries.{all-append, all-weaker}
+use Rattle.stream_object.specs.declared.stream.Stream.{Stream as Log}
+use Rattle.stream_object.specs.Found.{Comes, Exchanges}
+use Rattle.stream_object.specs.Loading.{AreLiveUpto, IsFileNode, last_of, loaded}
+use Rattle.stream_object.specs.Parts.{Part, part, stored_in, is_live, plain, live_of, entries_in}
+use Rattle.stream_object.specs.Streams.{AreBelow, AreUpto, IsChanged, IsStream, entries, nodes, pair_of, stream_of}
+use Rattle.stream_object.specs.Whole.{IsSpelled, IsWhole, MayStand}
+use Rattle.stream_object.proofs.Grows.{entries-append, rising_push}
+use Rattle.stream_object.proofs.Loads.{last-append}
+use Rattle.stream_object.proofs.Losing.{Sorted, node_sorted}
+use Rattle.stream_object.proofs.Parts.{its_own, parts_are}
+use Rattle.stream_object.proofs.Shortest.{head_most, text_most}
+
+-- an element takes few bytes beside its text
+back_most : (n : ℕ) → length (back_length n) ≤ 5
+unfolding back_length
+back_most n = grind (arith, nat_tests)
+
+pub entry_most : (text : List ℕ) → length (entry text) ≤ length text + 10
+entry_most text =
+    let s = spelling text in
+    omega (arith, text_most text 5 (omega arith) (head_most (length text)), back_most (length s), length-append s (back_length (length s)))
+
+-- a text put behind elements that a writer has spelled
+pub spelled_more : (old new text : List ℕ) (count : ℕ) → IsSpelled old → IsEdited new (spellings_of old ++ spelling text ∷ []) count → IsSpelled new
+spelled_more old new text count is e = record {
+  pack = e.pack;
+  each = subst (AllByRecursion IsWritten) (sym e.entries) (all-append IsWritten (spellings_of old) (spelling text ∷ []) is.each ((text, refl), tt));
+}
+
+pub spelled_none : (new : List ℕ) (count : ℕ) → IsEdited new [] count → IsSpelled new
+spelled_none new count e = record { pack = e.pack; each = subst (AllByRecursion IsWritten) (sym e.entries) tt }
+
+-- one entry more of those that may stand, which is the last one then
+pub stand_more : (key : Id) (xs : List Entry) (x : Entry) → AllByRecursion (MayStand key) (map stored xs) → MayStand key (stored x) → AllByRecursion (MayStand key) (map stored (xs ++ x ∷ []))
+stand_more key xs x all one = subst (AllByRecursion (MayStand key)) (sym (map-append stored xs (x ∷ []))) (all-append (MayStand key) (map stored xs) (stored x ∷ []) all (one, tt))
+
+pub last_more : (first : ℕ × ℕ) (xs : List Entry) (x : Entry) (id : Id) → id ≡ (stored x).id → pair_of id ≡ last_of first (map stored (xs ++ x ∷ []))
+last_more first xs x id is = ap pair_of is ∙ sym (ap (last_of first) (map-append stored xs (x ∷ [])) ∙ last-append first (map stored xs) (stored x))
+
+-- as many are live as there are
+live_count : (es : List Stored) → AllByRecursion (λ e. e.deleted ≡ false) es → length (live_of es) ≡ length es
+live_count [] h = refl
+live_count (e ∷ es) h = ap (λ (xs : List Stored). length (map plain xs)) (cond-true _ (e ∷ filter is_live es) (filter is_live es) (ap not h.0)) ∙ ap suc (live_count es h.1)
+
+-- the last of entries that rise is the highest
+last_highest : (es : List Stored) (first : ℕ × ℕ) (last : Id) → Sorted es → pair_of last ≡ last_of first es → AllByRecursion (λ e. id_number e.id ≤ id_number last) es
+last_highest [] first last s is = tt
+last_highest (e ∷ []) first last s is =
+    let same : id_number last ≡ id_number e.id = ap (λ (p : ℕ × ℕ). p.0 * 2 ^ 64 + p.1) is in
+    (omega (arith, same), tt)
+last_highest (e ∷ f ∷ es) first last s is = let more = last_highest (f ∷ es) (pair_of e.id) last s.1 is in (omega (arith, s.0.0, more.0), more)
+
+-- the key isn't above the last of some entries that aren't below it
+from_last : (es : List Stored) (key last : Id) → 0 < length es → AllByRecursion (λ e. id_number key ≤ id_number e.id) es → AllByRecursion (λ e. id_number e.id ≤ id_number last) es → id_number key ≤ id_number last
+from_last [] key last some low high = absurd (omega arith)
+from_last (e ∷ es) key last some low high = omega (arith, low.0, high.0)
+
+below_upto : (key last : Id) (ps : List Part) → id_number key ≤ id_number last → AreBelow key ps → AreUpto last ps
+below_upto key last [] le h = tt
+below_upto key last (p ∷ ps) le h =
+    (all-weaker (λ (e : Stored). id_number e.id < id_number key) (λ (e : Stored). id_number e.id ≤ id_number last) (stored_in p) (λ e less. omega (arith, less, le)) h.0, below_upto key last ps le h.1)
+
+live_upto : (id : Id) (es : List Stored) → AllByRecursion (λ e. e.deleted ≡ false) es → AreLiveUpto id es → AllByRecursion (λ e. id_number e.id ≤ id_number id) es
+live_upto id [] live upto = tt
+live_upto id (e ∷ es) live upto = (upto.0 live.0, live_upto id es live.1 upto.1)
+
+-- what the last of some entries is, whatever was before them
+last_whatever : (a b : ℕ × ℕ) (es : List Stored) → 0 < length es → last_of a es ≡ last_of b es
+last_whatever a b [] some = absurd (omega arith)
+last_whatever a b (e ∷ es) some = refl
+
+-- what the tests tell of a node
+pub whole_node : (key : Id) (bytes : List ℕ) (last : Id) → IsFileNode key bytes → 0 < length (entries_of key (texts bytes)) → length (entries_of key (texts bytes)) ≤ 100 → AllByRecursion (MayStand key) (entries_of key (texts bytes))
+    → pair_of last ≡ last_of (pair_of key) (entries_of key (texts bytes)) → AllByRecursion IsWritten (spellings_of bytes) → IsWhole key bytes last
+whole_node key bytes last f some few stand end written =
+    let es = entries_of key (texts bytes) in
+    let live = all-weaker (MayStand key) (λ (e : Stored). e.deleted ≡ false) es (λ e h. h.0) stand in
+    record {
+      is_node = record {
+        pack = f.pack;
+        node = f.node;
+        some = omega (arith, some, live_count es live);
+        few = few;
+        written = written;
+        short = f.short;
+        from = all-weaker (MayStand key) (λ (e : Stored). id_number key ≤ id_number e.id) es (λ e h. h.1) stand;
+      };
+      live = live;
+      last_is = end;
+    }
+
+-- a node placed behind all others as it is
+module _ (m after : Blocks) (old new : Log) (key : Id) (bytes : List ℕ) (last : Id) (is : IsStream m old) (below : AreBelow key (nodes m old)) (w : IsWhole key bytes last) (comes : Comes m after old.tree new.tree key bytes) where
+  placed : (at : BlockRef) × Exchanges m after old.tree new.tree (nodes m old ++ part key at bytes ∷ [])
+  placed = comes w.is_node (λ at. rising_push (nodes m old) (part key at bytes) is.parts.rising below)
+
+  now : nodes after new ≡ nodes m old ++ part key placed.0 bytes ∷ []
+  now = parts_are after new.tree (nodes m old ++ part key placed.0 bytes ∷ []) placed.1.parts
+
+  seen : entries after new ≡ entries m old ++ live_of (entries_of key (texts bytes))
+  seen = ap entries_in now ∙ entries-append (nodes m old) (part key placed.0 bytes ∷ []) ∙ ap (λ xs. entries m old ++ xs) (append-nil (live_of (entries_of key (texts bytes))))
+
+  some : 0 < length (entries_of key (texts bytes))
+  some = omega (arith, w.is_node.some, live_count (entries_of key (texts bytes)) w.live)
+
+  high : AllByRecursion (λ e. id_number e.id ≤ id_number last) (entries_of key (texts bytes))
+  high = last_highest (entries_of key (texts bytes)) (pair_of key) last (node_sorted key (texts bytes) w.is_node.node) w.last_is
+
+  upto : AreUpto last (nodes m old ++ part key placed.0 bytes ∷ [])
+  upto =
+      all-append (λ (p : Part). AllByRecursion (λ e. id_number e.id ≤ id_number last) (stored_in p)) (nodes m old) (part key placed.0 bytes ∷ [])
+      (below_upto key last (nodes m old) (from_last (entries_of key (texts bytes)) key last some w.is_node.from high) below) (high, tt)
+
+  pub whole_loaded : IsId last → new.len ≡ old.len + length (entries_of key (texts bytes)) → new.last ≡ last → new.deleted ≡ old.deleted → new.added ≡ old.added → new.groups ≡ old.groups → IsChanged m after old new (loaded (stream_of m old) (entries_of key (texts bytes)))
+  whole_loaded fits len end deleted count groups =
+      let es = entries_of key (texts bytes) in
+      let last_now : pair_of new.last ≡ last_of (pair_of old.last) es = ap pair_of end ∙ w.last_is ∙ last_whatever (pair_of key) (pair_of old.last) es some in
+      record {
+        is_stream = record {
+          parts = its_own after new.tree (nodes m old ++ part key placed.0 bytes ∷ []) placed.1.parts;
+          counted = omega (arith, len, is.counted, ap length seen, length-append (entries m old) (live_of es), live_count es w.live);
+          fits = subst IsId (sym end) fits;
+          upto = subst (λ ps. AreUpto new.last ps) (sym now) (subst (λ i. AreUpto i (nodes m old ++ part key placed.0 bytes ∷ [])) (sym end) upto);
+        };
+        value_is = λ i. record { entries = seen i; last = last_now i; deleted = ((deleted i).ms, (deleted i).seq); added = count i; groups = groups i };
+        changes = placed.1.changes;
+      }
+
+  pub whole_upto : (id : Id) → AreUpto id (nodes m old) → AreLiveUpto id (entries_of key (texts bytes)) → AreUpto id (nodes after new)
+  whole_upto id before live =
+      subst (AreUpto id) (sym now)
+      (all-append (λ (p : Part). AllByRecursion (λ e. id_number e.id ≤ id_number id) (stored_in p)) (nodes m old) (part key placed.0 bytes ∷ []) before (live_upto id (entries_of key (texts bytes)) w.live live, tt))
+
+-- what two things that a refusal tells make together
+pub on_err : {A E P Q R : Type 0} (r : Result A E) → (P → Q → R) → OnErr r P → OnErr r Q → OnErr r R
+on_err (Ok x) f p q = tt
+on_err (Err e) f p q = f p q
