@@ -31,7 +31,7 @@ use Rattle.cmd_streams.proofs.Rests.{same_changes}
 
 -- other groups leave a stream sound
 pub regrouped_sound : (m : Blocks) (old new : Log) (others : Groups) → IsStream m old → new ≡ record old { groups = others } → IsStream m new
-regrouped_sound m old new others sound is = subst (IsStream m) (sym is) (record { parts = sound.parts; counted = sound.counted; fits = sound.fits; upto = sound.upto })
+regrouped_sound m old new others sound is = subst (IsStream m) (sym is) (record { parts = sound.parts; counted = sound.counted; fits = sound.fits; upto = sound.upto; kept = sound.kept })
 
 -- and change no block
 pub regrouped_changes : (m : Blocks) (old new : Log) (others : Groups) → IsStream m old → new ≡ record old { groups = others } → Changes m m (refs m old) (refs m new)

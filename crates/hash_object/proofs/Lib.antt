@@ -11,3 +11,4 @@ pub mod Settling
 pub mod Moving
 pub mod Depends
 pub mod Whole
+pub mod Overwritten

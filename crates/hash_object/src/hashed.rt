@@ -2,10 +2,12 @@
 
 ghost use Rattle.std.specs.Prelude.{◌≡◌, ◌≢◌, [], IfOk, OnOk, OnErr, Ok, IsSome, not, true, false, length};
 ghost use Rattle.std.specs.FinMap.{insert, remove, contains_key};
-ghost use Rattle.blocks.specs.Blocks.{Changes, Owned, Served};
+ghost use Rattle.blocks.specs.declared.BlockRef.{BlockRef};
+ghost use Rattle.blocks.specs.Blocks.{bytes_at, Changes, Owned, Served};
 ghost use Rattle.listpack.specs.Element.{element_text};
 ghost use Rattle.pack_pairs.specs.Pairs.{IsPairPack, IsOnce, pairs, map_of_pairs};
 ghost use Rattle.rehash_dict.specs.Table.{item};
+ghost use Rattle.rehash_dict.specs.Steps.{Holds};
 ghost use Rattle.rehash_dict.specs.Keyed.{Keyed, Lacks, key_of, key_tables};
 ghost use Rattle.rehash_dict.specs.Tables.{IsSettled};
 ghost use Rattle.hash_object.specs.Hashed.{IsHashed, fields_in, blocks_of, no_fields};
@@ -78,6 +80,49 @@ fn swap_value<B: BlockStore>(
     Ok(())
 }
 
+// Writes a value over that of an item number, which has as many bytes.
+fn overwrite_value<B: BlockStore>(
+    store: &mut B,
+    table: &Dict<BlockRef>,
+    at: usize,
+    old: BlockRef,
+    value: &[u8],
+)
+    requires keyed { Keyed (B.blocks store.old) table.now }
+    requires owned { Owned (blocks_of table.now) (B.blocks store.old) }
+    requires entry { (key : BlockRef) × Holds table.now at key old }
+    requires same { length (bytes_at (B.blocks store.old) old) ≡ length value.now }
+    ensures hashed { IsHashed (B.blocks store.old) (B.blocks store.new) table.now table.now (insert (fields_in (B.blocks store.old) table.now) (key_of (B.blocks store.old) (item table.now at)) value.now) }
+    ensures served { Served B.step store.old store.new }
+{
+    store.write(old, 0, value);
+}
+
+// Gives the field of an item number another value, in the old value's block where that is just as long. `Memory` leaves dictionary
+// and blocks.
+fn put_value<B: BlockStore>(
+    store: &mut B,
+    table: &mut Dict<BlockRef>,
+    at: usize,
+    value: &[u8],
+) -> Result<(), Memory>
+    requires keyed { Keyed (B.blocks store.old) table.old }
+    requires owned { Owned (blocks_of table.old) (B.blocks store.old) }
+    requires entry { IsSome (item table.old at) }
+    ensures hashed { OnOk result (IsHashed (B.blocks store.old) (B.blocks store.new) table.old table.new (insert (fields_in (B.blocks store.old) table.old) (key_of (B.blocks store.old) (item table.old at)) value.now)) }
+    ensures served { Served B.step store.old store.new }
+    ensures err_table { OnErr result (table.new ≡ table.old) }
+    ensures err_blocks { OnErr result (B.blocks store.new ≡ B.blocks store.old) }
+{
+    let (_, old) = table.entry(at);
+    let old = *old;
+    if store.bytes(old).len() != value.len() {
+        return swap_value(store, table, at, value);
+    }
+    overwrite_value(store, table, at, old, value);
+    Ok(())
+}
+
 /// Gives a field this value, and answers whether the field is new. `Memory` leaves dictionary and blocks.
 pub(crate) fn set_field<B: BlockStore>(
     store: &mut B,
@@ -95,7 +140,7 @@ pub(crate) fn set_field<B: BlockStore>(
 {
     match table.find(store, field) {
         Some(at) => {
-            swap_value(store, table, at, value)?;
+            put_value(store, table, at, value)?;
             Ok(false)
         }
         None => {

@@ -158,7 +158,8 @@ impl Fields {
     }
 
     /// Gives a field this value, and answers whether the field is new. The form is then the least one that the fields and values fit
-    /// and that isn't below the old one. A value that is overwritten is given back.
+    /// and that isn't below the old one. The block of a value that is overwritten in a dictionary is written over where the new one
+    /// is just as long, and else given back.
     ///
     /// `Memory` leaves the hash and all blocks.
     pub fn set<B: BlockStore>(

@@ -1,6 +1,7 @@
 //! A list in its store.
 
 use blocks::Moved;
+use listpack::check;
 use quicklist::{End, Memory, Quick, is_text};
 use scarce_store::ScarceStore;
 use std::alloc::Global;
@@ -67,6 +68,14 @@ impl Held {
 
     pub fn remove_equal(&mut self, text: &[u8], end: End, wanted: usize) -> Result<usize, Memory> {
         self.quick.remove_equal(&mut self.store, text, end, wanted)
+    }
+
+    /// Whether the list takes these bytes whole, where they are a listpack.
+    pub fn take_pack(&mut self, bytes: &[u8]) -> Result<bool, Memory> {
+        match check(bytes) {
+            Ok(pack) => self.quick.take_pack(&mut self.store, &pack),
+            Err(_) => Ok(false),
+        }
     }
 
     /// How many blocks were placed since all placings were allowed.

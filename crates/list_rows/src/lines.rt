@@ -1,7 +1,7 @@
 //! What each line answers.
 
 use crate::held::Held;
-use crate::texts::{fill, holds, push};
+use crate::texts::{fill, holds, push, take_whole};
 use crate::twin::{edits, removals};
 use quicklist::{End, Memory, quick_laws};
 use row_words::{bytes_of, done, number, shown, told, unknown};
@@ -56,6 +56,10 @@ fn on_texts(held: &mut Held, alloc: Global, name: &str, words: &[&str]) -> Resul
         "push" => {
             push(held, alloc, words)?;
             done(alloc)
+        }
+        "whole" => {
+            let taken = take_whole(held, alloc, words)?;
+            told(alloc, taken)
         }
         "holds" => {
             let same = holds(held, alloc, words)?;
@@ -122,7 +126,7 @@ fn copies(held: &mut Held, alloc: Global, first: &str, second: &str) -> Result<b
 pub fn answer(held: &mut Held, alloc: Global, line: &str) -> Result<String, Memory> {
     let words: Vec<&str> = line.split(' ').collect(alloc)?;
     match words.as_slice() {
-        [name, words @ ..] if matches!(*name, "push" | "holds") => {
+        [name, words @ ..] if matches!(*name, "push" | "holds" | "whole") => {
             on_texts(held, alloc, name, words)
         }
         ["take", word, end, wanted] => {

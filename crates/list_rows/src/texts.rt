@@ -1,6 +1,7 @@
 //! Lines that name several texts.
 
 use crate::held::Held;
+use listpack::{append, empty, fits};
 use quicklist::Memory;
 use row_words::bytes_of;
 use std::alloc::Global;
@@ -12,6 +13,18 @@ pub fn push(held: &mut Held, alloc: Global, words: &[&str]) -> Result<(), Memory
         held.insert(held.len(), text.as_slice())?;
     }
     Ok(())
+}
+
+/// Whether the list takes a listpack of these texts whole.
+pub fn take_whole(held: &mut Held, alloc: Global, words: &[&str]) -> Result<bool, Memory> {
+    let mut pack = empty(alloc)?;
+    for word in words {
+        let text = bytes_of(alloc, word)?;
+        if fits(&pack, text.as_slice()) {
+            append(&mut pack, text.as_slice())?;
+        }
+    }
+    held.take_pack(&pack)
 }
 
 /// Puts a text behind all others so many times.

@@ -29,6 +29,21 @@ pub(crate) fn back_length_of(size: usize) -> FewBytes
     }
 }
 
+/// How many bytes the back length of an entry takes whose encoding and content take `size` bytes.
+#[tactic(auto, using(crate::proofs::Backs::by_size))]
+pub(crate) fn back_len(size: usize) -> usize
+    ensures count { result ≡ length (back_length size) }
+    ensures few { result ≤ 5 }
+{
+    match size {
+        0..=127 => 1,
+        128..=16_382 => 2,
+        16_383..=2_097_150 => 3,
+        2_097_151..=268_435_454 => 4,
+        _ => 5,
+    }
+}
+
 // The k-th byte from the end.
 fn from_end(bytes: &[u8], k: usize) -> usize
     requires some { 0 < k }

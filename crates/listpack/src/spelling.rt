@@ -6,7 +6,7 @@ ghost use Rattle.byteorder.specs.Endian.{little_bytes, low_bytes};
 ghost use Rattle.listpack.specs.Entry.{IsSpelling, text_of};
 ghost use Rattle.listpack.specs.Writing.{magnitude, thirteen_low, number_spelling, text_head, spelling, entry, Fits};
 
-use crate::back::back_length_of;
+use crate::back::back_len;
 use crate::few::FewBytes;
 use byteorder::{ByteOrder, LittleEndian};
 use int_text::read_i64;
@@ -102,7 +102,7 @@ pub fn entry_size(element: &[u8]) -> usize
 {
     let (head, content) = spell(element);
     let size = head.len() + content.len();
-    size + back_length_of(size).len()
+    size + back_len(size)
 }
 
 /// Whether a listpack stays below 2^32 bytes when the element is put into it.

@@ -5,7 +5,7 @@ ghost use Rattle.listpack.specs.Entry.{IsSpelling};
 ghost use Rattle.listpack.specs.Element.{element_text, is_number, IsNumberByte};
 ghost use Rattle.listpack.specs.Pack.{IsPack, IsOffset, IsAt, texts, spellings_of, offset_of};
 
-use crate::back::{back_length_of, entry_len_before};
+use crate::back::{back_len, entry_len_before};
 use crate::encoding::{Element, element_of, split_spelling};
 use crate::entry::count_entries;
 use crate::header::{NOT_TOLD, told_count};
@@ -90,14 +90,25 @@ impl<'a> Pack<'a> {
         }
     }
 
+    // How many bytes the entry at an offset takes that is spelled so.
+    fn len_spelled(&self, at: usize, spelling: &[u8]) -> usize
+        requires offset { IsOffset (bytes_of self.now) at }
+        requires spelling { (i : ℕ) → IsAt (bytes_of self.now) i at → spelling.now ≡ get_or (spellings_of (bytes_of self.now)) i [] }
+        ensures next { (i : ℕ) → IsAt (bytes_of self.now) i at → offset_of (bytes_of self.now) (i + 1) ≡ at + result }
+        ensures inside { at + result < length (bytes_of self.now) }
+    {
+        let size = spelling.len();
+        size + back_len(size)
+    }
+
     // How many bytes the entry at an offset takes.
     pub(crate) fn entry_len(&self, at: usize) -> usize
         requires { IsOffset (bytes_of self.now) at }
         ensures next { (i : ℕ) → IsAt (bytes_of self.now) i at → offset_of (bytes_of self.now) (i + 1) ≡ at + result }
         ensures inside { at + result < length (bytes_of self.now) }
     {
-        let size = self.spelling_at(at).len();
-        size + back_length_of(size).len()
+        let spelling = self.spelling_at(at);
+        self.len_spelled(at, spelling)
     }
 
     // The offset of the entry at an index, or behind all entries that of the last byte, by a step for each entry before it.
@@ -178,6 +189,24 @@ impl<'a> Pack<'a> {
             None
         } else {
             Some(to)
+        }
+    }
+
+    /// The element at an offset, and the offset of the entry behind it.
+    pub fn step(&self, at: usize) -> (Element<'a>, Option<usize>)
+        requires { IsOffset (bytes_of self.now) at }
+        ensures text { (i : ℕ) → IsAt (bytes_of self.now) i at → element_text result.0 ≡ get_or (list_of self.now) i [] }
+        ensures place { (i : ℕ) → IsAt (bytes_of self.now) i at
+            → MatchOption result.1 (i + 1 ≡ length (list_of self.now)) (λ to. IsAt (bytes_of self.now) (i + 1) to) }
+        ensures offset { IfSome result.1 (λ to. IsOffset (bytes_of self.now) to) }
+    {
+        let spelling = self.spelling_at(at);
+        let element = element_of(spelling);
+        let to = at + self.len_spelled(at, spelling);
+        if to + 1 == self.bytes.len() {
+            (element, None)
+        } else {
+            (element, Some(to))
         }
     }
 

@@ -11,4 +11,5 @@ pub mod Places
 pub mod Rebuilding
 pub mod Retelling
 pub mod Rising
+pub mod Behind
 pub mod Written

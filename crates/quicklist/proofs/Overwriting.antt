@@ -5,18 +5,20 @@ use Rattle.std.proofs.lemmas.List.{append-nil, length-map, map-append, take-map,
 use Rattle.std.proofs.lemmas.List.Concat.{flat_map-append}
 use Rattle.std.proofs.lemmas.List.Elements.{All-cons, All-append, All-take, All-drop}
 use Rattle.blocks.specs.declared.BlockRef.{BlockRef}
-use Rattle.blocks.specs.Blocks.{Blocks, with_block, bytes_at, times, Changes, Owned}
+use Rattle.blocks.specs.Blocks.{Blocks, with_block, overwritten, bytes_at, times, Changes, Owned}
 use Rattle.blocks.proofs.Change.{live-once, Counts-written, Changes-counted, Changes-owned, Changes-beside, Owned-others}
 use Rattle.blocks.proofs.Written.{bytes_at-placed}
 use Rattle.object_codec.specs.declared.form.Form.{Form}
 use Rattle.quicklist.specs.declared.node.Container.{Container}
 use Rattle.quicklist.specs.declared.node.Node.{Node}
 use Rattle.quicklist.specs.declared.piece.Piece.{Piece}
-use Rattle.quicklist.specs.Nodes.{IsNode, IsChain, IsPiece, IsRewritten, Exchanged, pack_len, filled, node_list, bytes_of, piece_list, refs_of, elements_of, container_of}
+use Rattle.listpack.specs.Pack.{texts}
+use Rattle.quicklist.specs.Nodes.{IsNode, IsChain, IsPiece, IsPacked, IsRewritten, Exchanged, pack_len, filled, node_list, bytes_of, piece_list, refs_of, elements_of, container_of}
 use Rattle.quicklist.specs.declared.node.Container.TheVariants.{Packed}
 use Rattle.quicklist.specs.Chain.{Chain, IsQuick, IsWritten, IsRisen, respelled}
 use Rattle.quicklist.proofs.Rising.{written_by, changed_by, formed_rewrite, stays_rewrite, one_piece}
 use Rattle.quicklist.proofs.Written.{packed_len}
+use Rattle.quicklist.proofs.Filling.{filled_pack}
 use Rattle.quicklist.proofs.Chains.{times-refs, elements-same, each-same, cut_at, one_self, node_live, part_one, Owned-part, node_of_piece}
 
 -- a node in the place of another, under the same reference
@@ -73,6 +75,12 @@ node_written m n nodes new k node piece block c h is put p bytes now =
           ∙ ap (λ (xs : List Container). xs ++ (piece.container ∷ map container_of back)) (sym (take-map container_of k nodes))
           ∙ ap (λ (xs : List Container). take k (map container_of nodes) ++ (piece.container ∷ xs)) (sym (drop-map container_of (k + 1) nodes));
     }
+
+-- a listpack written over the front of a block
+pub rewritten_over : (m n : Blocks) (node : Node) (bytes : List ℕ) → IsPacked bytes → n ≡ with_block m node.at (Some (overwritten (bytes_at m node.at) 0 bytes)) → IsRewritten m n node (texts bytes)
+rewritten_over m n node bytes p put =
+    let fills = filled_pack bytes (drop (0 + length bytes) (bytes_at m node.at)) p in
+    record { block = overwritten (bytes_at m node.at) 0 bytes; put = put; packed = subst IsPacked (sym fills) p; list_is = ap texts fills }
 
 -- the list whose node k was written over, with so many elements now
 pub node_rewritten : (m n : Blocks) (old new : Chain) (k count : ℕ) (node : Node) (list : List (List ℕ)) → IsQuick m old → k < length old.nodes → node ≡ get_or old.nodes k node → IsRewritten m n node list → 0 < count → count ≡ length list

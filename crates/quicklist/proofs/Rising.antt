@@ -80,7 +80,7 @@ respelled_alone m nodes k list h t =
     one_alone m nodes k list one.0 (omega (arith, ap length one.1, length-map nodes container_of))
 
 -- the form stays where all elements still fit one listpack, and rises where they don't
-stays : (f : Form) (list : List (List ℕ)) (cs : List Container) → IsFormed f cs → (f ≡ Listpack → pack_len list ≤ 8192) → IsRisen f list f
+pub stays : (f : Form) (list : List (List ℕ)) (cs : List Container) → IsFormed f cs → (f ≡ Listpack → pack_len list ≤ 8192) → IsRisen f list f
 stays Intset list cs t h = absurd t
 stays Listpack list cs t h = record { fitting = h refl; from_old = omega arith; least = λ other fits from. from }
 stays Hashtable list cs t h = absurd t

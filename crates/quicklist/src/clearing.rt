@@ -58,8 +58,8 @@ fn append_element(pack: &mut Vec<u8>, element: Element<'_>) -> Result<(), Memory
     }
 }
 
-// Puts an element of this text behind those of a packed node.
-fn append_text(pack: &mut Vec<u8>, text: &[u8]) -> Result<(), Memory>
+/// Puts an element of this text behind those of a packed node.
+pub(crate) fn append_text(pack: &mut Vec<u8>, text: &[u8]) -> Result<(), Memory>
     requires packed { IsPacked pack.old.items }
     requires room { length pack.old.items + pack_len (text.now ∷ []) ≤ 8199 }
     ensures packed { OnOk result (IsPacked pack.new.items) }

@@ -12,14 +12,14 @@ use crate::node::{Container, Node};
 use crate::packs::{joined, pack_of, packed_piece, piece_of, replaced, without};
 use crate::piece::Piece;
 use crate::quick::Quick;
-use crate::within::has_space;
+use crate::within::{has_room, has_space};
 use blocks::{BlockStore, Memory};
 use object_codec::Form;
 use std::alloc::AllocError;
 
 impl Quick {
-    // One packed node of these bytes in the place of the node k.
-    fn rewrite<B: BlockStore>(
+    // One packed node of these bytes in the place of the node k: in its block where they fill that well enough.
+    pub(crate) fn rewrite<B: BlockStore>(
         &mut self,
         store: &mut B,
         k: usize,
@@ -39,6 +39,11 @@ impl Quick {
         ensures err_list { OnErr result (self.new ≡ self.old) }
         ensures err_blocks { OnErr result (B.blocks store.new ≡ B.blocks store.old) }
     {
+        let node = self.nodes[k];
+        if has_room(store, node, bytes.len()) {
+            self.overwrite(store, k, bytes, count, len);
+            return Ok(());
+        }
         let form = self.form;
         let piece = Piece {
             container: Container::Packed,

@@ -16,6 +16,7 @@ mod quick;
 mod ranges;
 mod reach;
 mod rebuilt;
+mod taking;
 mod within;
 
 pub use blocks::Memory;

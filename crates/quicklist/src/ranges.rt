@@ -91,6 +91,7 @@ impl Quick {
     {
         let form = self.form;
         match rest {
+            Some(bytes) if gone == 1 => self.rewrite(store, k, bytes, count as u32, len),
             Some(bytes) => {
                 let piece = Piece {
                     container: Container::Packed,

@@ -1,4 +1,4 @@
-// Elements put behind those of a packed node, or taken off there, in its block.
+// Nodes that are written over in their blocks: elements put behind those of a packed node, or taken off there, or a listpack anew.
 
 ghost use Rattle.std.specs.Prelude.{◌≡◌, ◌∷◌, ◌++◌, ◌<◌, ◌≤◌, ◌+◌, ◌^◌, [], Some, IsSome, IsTrue, OnOk, OnErr, length, take};
 ghost use Rattle.byteorder.specs.Endian.{little_bytes};
@@ -73,6 +73,15 @@ fn write_behind<B: BlockStore>(store: &mut B, node: Node, alone: &[u8])
     write_from(store, node.at, end, &alone[6..], node.count as u16 + 1);
 }
 
+/// Whether the block of a node has room for a listpack of so many bytes, and no more than half of it is then without use.
+pub(crate) fn has_room<B: BlockStore>(store: &B, node: Node, len: usize) -> bool
+    requires { IsReadable (B.blocks store.now) node }
+    ensures { IsTrue result → len ≤ length (bytes_at (B.blocks store.now) node.at) }
+{
+    let room = store.bytes(node.at).len();
+    len <= room && room / 2 <= len
+}
+
 /// Whether the elements from an index of a node on are its last ones, behind others, and may be taken off it in its block: no more
 /// than half of that is without use.
 pub(crate) fn is_back<B: BlockStore>(store: &B, node: Node, from: usize, to: usize) -> bool
@@ -84,7 +93,7 @@ pub(crate) fn is_back<B: BlockStore>(store: &B, node: Node, from: usize, to: usi
     }
     match node.container {
         Container::Plain => false,
-        Container::Packed => store.bytes(node.at).len() / 2 <= node.bytes(store).len(),
+        Container::Packed => has_room(store, node, node.bytes(store).len()),
     }
 }
 
@@ -149,6 +158,36 @@ impl Quick {
         self.nodes[k] = Node {
             at: node.at,
             count: i as u32,
+            container: Container::Packed,
+        };
+        self.len = len;
+    }
+
+    // A listpack in the place of the node k, in its block.
+    pub(crate) fn overwrite<B: BlockStore>(
+        &mut self,
+        store: &mut B,
+        k: usize,
+        bytes: &[u8],
+        count: u32,
+        len: usize,
+    )
+        requires quick { IsQuick (B.blocks store.old) self.old }
+        requires inside { k < length self.old.nodes }
+        requires packed { IsPacked bytes.now }
+        requires room { length bytes.now ≤ length (bytes_at (B.blocks store.old) (node_at self.old.nodes k).at) }
+        requires count { count ≡ length (texts bytes.now) }
+        requires some { 0 < count }
+        requires len { len ≡ length (respelled (B.blocks store.old) self.old k (texts bytes.now) (k + 1)) }
+        ensures written { IsWritten (B.blocks store.old) (B.blocks store.new) self.old self.new (respelled (B.blocks store.old) self.old k (texts bytes.now) (k + 1)) }
+        ensures form { self.new.form ≡ self.old.form }
+        ensures served { Served B.step store.old store.new }
+    {
+        let node = self.nodes[k];
+        store.write(node.at, 0, bytes);
+        self.nodes[k] = Node {
+            at: node.at,
+            count,
             container: Container::Packed,
         };
         self.len = len;

@@ -11,3 +11,4 @@ pub mod Paired
 pub mod Unpacked
 pub mod Rising
 pub mod Anew
+pub mod AtOnce

@@ -1,7 +1,7 @@
 -- Payloads, read out of their strings and put in.
 use Rattle.std.proofs.Common.{◌≡◌, inl, ℕ, ◌+◌, ◌-◌, ◌<◌, ◌≤◌, true, false, not, List, [], ◌∷◌, ◌++◌, length, map, drop, get_or, Result, Ok, Err, refl, sym, ap, subst, ◌∙◌, arith}
 use Rattle.std.specs.Prelude.{ℤ, is_none, is_some}
-use Rattle.std.proofs.lemmas.List.{drop_more, drop_all, length-drop}
+use Rattle.std.proofs.lemmas.List.{append_assoc, append-nil, drop_more, drop_all, length-drop}
 use Rattle.std.specs.FinMap.{get, insert}
 use Rattle.int_text.specs.Decimal.{canonical}
 use Rattle.intset.specs.declared.ints.IntsetFault.{IntsetFault}
@@ -51,6 +51,11 @@ joins_twice old text there = let h : is_none (get old text) ≡ false = none_not
 -- a text behind those of a list
 pub list_more : (old new : List (List ℕ)) (text : List ℕ) → new ≡ old ++ text ∷ [] → with_text (ListOf old) text ≡ Ok (ListOf new)
 list_more old new text is = ap (λ (xs : List (List ℕ)). Ok (ListOf xs)) (sym is)
+
+-- texts behind those of a list
+pub list_all : (xs ys new : List (List ℕ)) → new ≡ xs ++ ys → all_in with_text (ListOf xs) ys ≡ Ok (ListOf new)
+list_all xs [] new is = ap (λ (zs : List (List ℕ)). Ok (ListOf zs)) (sym (is ∙ append-nil xs))
+list_all xs (y ∷ ys) new is = list_all (xs ++ y ∷ []) ys new (is ∙ sym (append_assoc xs (y ∷ []) ys))
 
 -- a field that wasn't there, and one that was
 pub field_joins : (old new : Map (List ℕ)) (p : Pair) → true ≡ not (is_some (get old (p.0))) → new ≡ insert old (p.0) (p.1) → with_pair (HashOf old) p ≡ Ok (HashOf new)

@@ -77,6 +77,28 @@ fn push_texts<B: BlockStore>(
     Ok(())
 }
 
+// Puts the elements of a listpack, the payload at an offset, behind those of a list: as one node where the list takes it whole.
+#[tactic(auto, using(keyspace::proofs::Serving::nothing, keyspace::proofs::Serving::both))]
+fn take_texts<B: BlockStore>(
+    list: &mut Quick,
+    store: &mut B,
+    pack: &Pack<'_>,
+    at: usize,
+) -> Result<(), LoadFault>
+    requires { chain.IsQuick (B.blocks store.old) list.old }
+    ensures makes { Makes (all_in with_text (ListOf (chain.elements (B.blocks store.old) list.old)) (list_of pack.now)) at (ListOf (chain.elements (B.blocks store.new) list.new)) result }
+    ensures sound { chain.IsQuick (B.blocks store.new) list.new }
+    ensures form { OnOk result (IsLeast (FitsList (pack_len (chain.elements (B.blocks store.old) list.old))) list.old.form → IsLeast (FitsList (pack_len (chain.elements (B.blocks store.new) list.new))) list.new.form) }
+    ensures changes { Changes (B.blocks store.old) (B.blocks store.new) (chain.refs list.old) (chain.refs list.new) }
+    ensures served { Served B.step store.old store.new }
+{
+    match list.take_pack(store, pack) {
+        Ok(true) => Ok(()),
+        Ok(false) => push_texts(list, store, pack, at),
+        Err(_) => Err(LoadFault::Memory),
+    }
+}
+
 // Puts the elements that are packed in the payload at an offset behind those of a list.
 #[tactic(auto, using(keyspace::proofs::Serving::nothing, keyspace::proofs::Serving::both))]
 fn unpack_texts<B: BlockStore>(
@@ -93,7 +115,7 @@ fn unpack_texts<B: BlockStore>(
     ensures served { Served B.step store.old store.new }
 {
     match listpack::check(payload) {
-        Ok(pack) => push_texts(list, store, &pack, at),
+        Ok(pack) => take_texts(list, store, &pack, at),
         Err(_) => Err(no_payload(LoadKind::Listpack, at)),
     }
 }

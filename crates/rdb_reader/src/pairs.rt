@@ -117,6 +117,29 @@ fn set_pairs<B: BlockStore>(
     Ok(())
 }
 
+// Gives the fields of a listpack, the payload at an offset, their values: all at once where the hash takes it whole.
+#[tactic(auto, using(keyspace::proofs::Serving::nothing, keyspace::proofs::Serving::both))]
+fn take_pairs<B: BlockStore>(
+    fields: &mut Fields,
+    store: &mut B,
+    pack: &Pack<'_>,
+    at: usize,
+) -> Result<(), LoadFault>
+    requires { hash.IsFields (B.blocks store.old) fields.old }
+    ensures makes { Makes (next_found (paired (list_of pack.now)) (all_in with_pair (HashOf (hash.fields (B.blocks store.old) fields.old)))) at (HashOf (hash.fields (B.blocks store.new) fields.new)) result }
+    ensures sound { hash.IsFields (B.blocks store.new) fields.new }
+    ensures settings { hash.KeepsSettings fields.old fields.new }
+    ensures form { OnOk result (IsLeast (FitsFields fields.old.limits (hash.fields (B.blocks store.old) fields.old)) (hash.form_of fields.old) → IsLeast (FitsFields fields.old.limits (hash.fields (B.blocks store.new) fields.new)) (hash.form_of fields.new)) }
+    ensures changes { Changes (B.blocks store.old) (B.blocks store.new) (hash.refs fields.old) (hash.refs fields.new) }
+    ensures served { Served B.step store.old store.new }
+{
+    match fields.take_pack(store, pack) {
+        Ok(true) => Ok(()),
+        Ok(false) => set_pairs(fields, store, pack, at),
+        Err(_) => Err(LoadFault::Memory),
+    }
+}
+
 // Puts the fields and values that are packed in the payload at an offset into a hash.
 #[tactic(auto, using(keyspace::proofs::Serving::nothing, keyspace::proofs::Serving::both))]
 fn unpack_pairs<B: BlockStore>(
@@ -134,7 +157,7 @@ fn unpack_pairs<B: BlockStore>(
     ensures served { Served B.step store.old store.new }
 {
     match listpack::check(payload) {
-        Ok(pack) => set_pairs(fields, store, &pack, at),
+        Ok(pack) => take_pairs(fields, store, &pack, at),
         Err(_) => Err(no_payload(LoadKind::Listpack, at)),
     }
 }

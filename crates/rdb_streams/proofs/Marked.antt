@@ -104,7 +104,7 @@ module _ (type : StreamType) (bytes : List ℕ) (at mid : ℕ) (m : Blocks) (s :
 -- what a stream is with other marks and groups
 module _ (m : Blocks) (old new : Log) (last deleted : Id) (added : ℕ) (groups : Groups) (is : IsStream m old) (now : new ≡ record old { last = last; deleted = deleted; added = added; groups = groups }) where
   pub marked_sound : IsId last → AreUpto last (nodes m old) → IsStream m new
-  marked_sound fits upto = subst (IsStream m) (sym now) (record { parts = is.parts; counted = is.counted; fits = fits; upto = upto })
+  marked_sound fits upto = subst (IsStream m) (sym now) (record { parts = is.parts; counted = is.counted; fits = fits; upto = upto; kept = is.kept })
 
   pub marked_refs : refs m new ≡ refs m old
   marked_refs = ap (refs m) now

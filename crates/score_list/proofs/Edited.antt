@@ -1,5 +1,5 @@
 -- A tower joins or leaves a row.
-use Rattle.std.proofs.Common.{◌≡◌, ◌≢◌, ℕ, suc, Bool, List, [], ◌∷◌, ◌++◌, refl, sym, ap, ◌∙◌, subst, arith, inl, inr}
+use Rattle.std.proofs.Common.{◌≡◌, ◌≢◌, ℕ, suc, Bool, List, [], ◌∷◌, ◌++◌, refl, sym, ap, ◌∙◌, arith, inl, inr}
 use Rattle.score_list.specs.Rows.{IsRow, Reaches, Lacks, IsDistinct, Hung, Unhung}
 use Rattle.score_list.proofs.Moved.{decide, never, Same, moved, reached_other}
 

@@ -9,3 +9,4 @@ pub mod Sortings
 pub mod Renaming
 pub mod Walks
 pub mod Taken
+pub mod Between

@@ -1,6 +1,6 @@
 -- The laws of one level's row.
 use Rattle.std.proofs.Common.{◌≡◌, ◌≢◌, ℕ, suc, ◌+◌, ◌<◌, ◌≤◌, Bool, true, false, List, [], ◌∷◌, ◌++◌, length, refl, sym, ap, ◌∙◌, subst, append_assoc, arith, ◌⊎◌, inl, inr}
-use Rattle.score_list.specs.Rows.{IsRow, Reaches, Stands, Lacks, IsDistinct, AllTall}
+use Rattle.score_list.specs.Rows.{IsRow, Reaches, Stands, Lacks, AllTall}
 use Rattle.score_list.specs.Rows.Stands.{at_head, at_tower}
 
 pub decide : (b : Bool) → (b ≡ true) ⊎ (b ≡ false)

@@ -1,7 +1,8 @@
 -- A tower's member is named by another block.
 use Rattle.std.proofs.Common.{◌≡◌, ◌≢◌, ℕ, zero, suc, ◌<◌, ℤ, List, [], ◌∷◌, length, get_or, map, Option, Some, None, IsSome, unwrap_or, refl, sym, ap, ◌∙◌, subst, arith, inl, inr}
 use Rattle.std.proofs.Math.Path.{fun_ext}
-use Rattle.std.proofs.lemmas.List.{get_or-set_other, get_or-set_same}
+use Rattle.std.specs.Prelude.{slice_set}
+use Rattle.std.proofs.lemmas.List.{get_or-map, get_or-set_other, get_or-set_same}
 use Rattle.slab.specs.Slab.{get, with_value}
 use Rattle.blocks.specs.declared.BlockRef.{BlockRef}
 use Rattle.blocks.specs.Blocks.{Blocks, bytes_at}
@@ -9,7 +10,7 @@ use Rattle.score_list.specs.declared.towers.Link.{Link}
 use Rattle.score_list.specs.declared.towers.Tower.{Tower}
 use Rattle.score_list.specs.declared.towers.Towers.{Towers}
 use Rattle.score_list.specs.Rows.{Lacks, IsDistinct}
-use Rattle.score_list.specs.Linked.{Element, no_link, no_element, links_of, link_at, height_at, element_of, element_at, order, items, LinkedAs, IsLinked, renamed_at}
+use Rattle.score_list.specs.Linked.{Element, no_link, no_element, links_of, link_at, height_at, element_of, element_at, order, items, LinkedAs, IsLinked, IsAt, renamed_at}
 use Rattle.score_list.specs.Sorted.{Key, key_of, key_cmp, AllBehind, IsSorted, Carries, AllFrom, IsRising}
 use Rattle.score_list.proofs.Places.{apart, there}
 use Rattle.score_list.proofs.Threading.{level_kept, all_kept}
@@ -26,58 +27,63 @@ module _ (f g : ℕ → Element) (key : ℕ) (same : (k : ℕ) → k ≢ key →
   others_same [] l = refl
   others_same (k ∷ ks) l = (let e = same k (λ q. l.0 (ap suc (sym q))) in let r = others_same ks l.1 in cc)
 
-  one_renamed : (ks : List ℕ) (rank : ℕ) (new : BlockRef) → IsDistinct ks → rank < length ks → get_or ks rank 0 ≡ key → g key ≡ ((f key).0, new) → map g ks ≡ renamed_at (map f ks) rank new
-  one_renamed [] rank new d lt is e = absurd (omega arith)
-  one_renamed (k ∷ ks) zero new d lt is e =
+  one_set : (ks : List ℕ) (rank : ℕ) (x : Element) → IsDistinct ks → rank < length ks → get_or ks rank 0 ≡ key → g key ≡ x → map g ks ≡ slice_set (map f ks) rank x
+  one_set [] rank x d lt is e = absurd (omega arith)
+  one_set (k ∷ ks) zero x d lt is e =
       let r = others_same ks (subst (λ n. Lacks (suc n) ks) is d.0) in
-      let h : g k ≡ ((f k).0, new) = ap g is ∙ e ∙ ap (λ n. let p : Element = ((f n).0, new) in p) (sym is) in
+      let h : g k ≡ x = ap g is ∙ e in
       cc
-  one_renamed (k ∷ ks) (suc rank) new d lt is e =
+  one_set (k ∷ ks) (suc rank) x d lt is e =
       let h = same k (further k ks rank key d.0 (omega arith) is) in
-      let r = one_renamed ks rank new d.1 (omega arith) is e in
-      ap (λ x. x ∷ map g ks) h ∙ ap (λ xs. f k ∷ xs) r
+      let r = one_set ks rank x d.1 (omega arith) is e in
+      ap (λ y. y ∷ map g ks) h ∙ ap (λ xs. f k ∷ xs) r
 
-module _ (t : Towers) (key : ℕ) (tower : Tower) (new : BlockRef) (found : get t.slab key ≡ Some tower) (linked : IsLinked t) where
-  abbrev pub renamed : Towers
-  renamed = record t { slab = with_value t.slab key (record tower { member = new }) }
+-- a tower of the same links in a tower's place
+module _ (t : Towers) (key : ℕ) (tower after : Tower) (found : get t.slab key ≡ Some tower) (links : after.links.items ≡ tower.links.items) (linked : IsLinked t) where
+  abbrev pub changed : Towers
+  changed = record t { slab = with_value t.slab key after }
 
-  now : get renamed.slab key ≡ Some (record tower { member = new })
-  now = get_or-set_same t.slab.slots key (Some (record tower { member = new })) None (there t.slab.slots key tower found)
+  now : get changed.slab key ≡ Some after
+  now = get_or-set_same t.slab.slots key (Some after) None (there t.slab.slots key tower found)
 
-  elsewhere : (k : ℕ) → k ≢ key → get renamed.slab k ≡ get t.slab k
-  elsewhere k ne = get_or-set_other t.slab.slots key k (Some (record tower { member = new })) None ne
+  elsewhere : (k : ℕ) → k ≢ key → get changed.slab k ≡ get t.slab k
+  elsewhere k ne = get_or-set_other t.slab.slots key k (Some after) None ne
 
-  kept : {A : Type 0} (f : Option Tower → A) → f (Some (record tower { member = new })) ≡ f (Some tower) → (k : ℕ) → f (get renamed.slab k) ≡ f (get t.slab k)
+  kept : {A : Type 0} (f : Option Tower → A) → f (Some after) ≡ f (Some tower) → (k : ℕ) → f (get changed.slab k) ≡ f (get t.slab k)
   kept f same k =
       elim (apart k key) [
-        | inl e ↦ ap (λ n. f (get renamed.slab n)) e ∙ ap f now ∙ same ∙ ap f (sym found) ∙ ap (λ n. f (get t.slab n)) (sym e)
+        | inl e ↦ ap (λ n. f (get changed.slab n)) e ∙ ap f now ∙ same ∙ ap f (sym found) ∙ ap (λ n. f (get t.slab n)) (sym e)
         | inr ne ↦ ap f (elsewhere k ne)
       ]
 
-  heights : height_at renamed ≡ height_at t
-  heights = fun_ext (kept (λ s. length (links_of s)) refl)
+  heights : height_at changed ≡ height_at t
+  heights = fun_ext (kept (λ s. length (links_of s)) (ap length links))
 
-  same_links : (l o : ℕ) → link_at renamed l o ≡ link_at t l o
+  same_links : (l o : ℕ) → link_at changed l o ≡ link_at t l o
   same_links l zero = refl
-  same_links l (suc k) = kept (λ s. get_or {A = Link} (links_of s) l no_link) refl k
+  same_links l (suc k) = kept (λ s. get_or {A = Link} (links_of s) l no_link) (ap (λ ls. get_or {A = Link} ls l no_link) links) k
 
-  renamed_as : LinkedAs renamed (order t)
-  renamed_as = record {
-    rows = λ level lt. level_kept t renamed level (order t) heights (same_links level) (linked.rows level lt);
-    based = all_kept t renamed (order t) heights linked.based;
+  changed_as : LinkedAs changed (order t)
+  changed_as = record {
+    rows = λ level lt. level_kept t changed level (order t) heights (same_links level) (linked.rows level lt);
+    based = all_kept t changed (order t) heights linked.based;
     distinct = linked.distinct;
     counted = linked.counted;
     full_head = linked.full_head;
     short = linked.short;
   }
 
-  pub renamed_linked : IsLinked renamed
-  renamed_linked = linked_is renamed (order t) renamed_as
+  pub changed_linked : IsLinked changed
+  changed_linked = linked_is changed (order t) changed_as
 
-  pub renamed_items : (rank : ℕ) → rank < length (order t) → get_or (order t) rank 0 ≡ key → items renamed ≡ renamed_at (items t) rank new
-  renamed_items rank lt is =
-      ap (map (element_at renamed)) (ordered_as renamed (order t) renamed_as)
-      ∙ one_renamed (element_at t) (element_at renamed) key (λ k ne. ap element_of (elsewhere k ne)) (order t) rank new linked.distinct lt is (ap element_of now ∙ ap (λ s. let p : Element = ((element_of s).0, new) in p) (sym found))
+  pub changed_items : (rank : ℕ) → IsAt t rank (Some key) → items changed ≡ slice_set (items t) rank (after.score, after.member)
+  changed_items rank at =
+      ap (map (element_at changed)) (ordered_as changed (order t) changed_as)
+      ∙ one_set (element_at t) (element_at changed) key (λ k ne. ap element_of (elsewhere k ne)) (order t) rank (after.score, after.member) linked.distinct at.0 at.1 (ap element_of now)
+
+-- the element of the tower at a rank
+pub element_found : (t : Towers) (key rank : ℕ) (tower : Tower) → get t.slab key ≡ Some tower → IsAt t rank (Some key) → get_or (items t) rank no_element ≡ (tower.score, tower.member)
+element_found t key rank tower found at = get_or-map (element_at t) (order t) rank 0 no_element at.0 ∙ ap (element_at t) at.1 ∙ ap element_of found
 
 from_renamed : (s : ℤ) (xs : List Element) (rank : ℕ) (new : BlockRef) → AllFrom s xs → AllFrom s (renamed_at xs rank new)
 from_renamed s [] rank new a = a

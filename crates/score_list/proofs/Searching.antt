@@ -7,10 +7,10 @@ use Rattle.score_list.specs.declared.towers.Towers.{Towers}
 use Rattle.score_list.specs.declared.towers.Place.{Place}
 use Rattle.score_list.specs.Rows.{IsRow, Reaches, Stands, AllTall}
 use Rattle.score_list.specs.Rows.Stands.{at_head, at_tower}
-use Rattle.score_list.specs.Linked.{Element, links_at, next_at, span_at, height_at, tall, order, IsLevel, IsLinked, StandsAt, Arrives, no_place, IsPath}
+use Rattle.score_list.specs.Linked.{Element, next_at, span_at, height_at, tall, order, IsLevel, IsLinked, StandsAt, Arrives, no_place, IsPath}
 use Rattle.score_list.specs.Sorted.{AllAre, IsParted, EachIs}
 use Rattle.score_list.proofs.Moved.{decide, never, ahead, reach_stands, stands_below, all_next}
-use Rattle.score_list.proofs.Threading.{lower, row_reached, reaches_of}
+use Rattle.score_list.proofs.Threading.{lower, row_reached}
 use Rattle.score_list.proofs.Places.{row_at}
 
 module _ {X : Type 0} (f : X → Bool) where

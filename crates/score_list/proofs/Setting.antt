@@ -1,5 +1,5 @@
 -- A link of one owner is set.
-use Rattle.std.proofs.Common.{◌≡◌, ◌≢◌, ℕ, zero, suc, ◌<◌, length, get_or, set, Option, Some, None, refl, sym, ap, ◌∙◌, subst, length-set, inl, inr}
+use Rattle.std.proofs.Common.{◌≡◌, ◌≢◌, ℕ, zero, suc, ◌<◌, length, get_or, Option, Some, None, refl, sym, ap, ◌∙◌, subst, length-set, inl, inr}
 use Rattle.std.proofs.Math.Path.{fun_ext}
 use Rattle.std.proofs.lemmas.List.{get_or-set_other, get_or-set_same}
 use Rattle.std.specs.Vec.{with_item}

@@ -5,8 +5,8 @@ use Rattle.std.proofs.lemmas.List.{take-append-drop}
 use Rattle.score_list.specs.declared.towers.Towers.{Towers}
 use Rattle.score_list.specs.Rows.{IsRow, Reaches, Stands, Lacks, IsDistinct, AllTall}
 use Rattle.score_list.specs.Rows.Stands.{at_head, at_tower}
-use Rattle.score_list.specs.Linked.{links_at, link_at, next_at, span_at, height_at, tall, chain, order, IsLevel, LinkedAs, StandsAt, Arrives, Keeps, Hangs, Unhangs, with_at, without_at}
-use Rattle.score_list.proofs.Moved.{never, beyond, within, row_on, reach_stands, stands_below, reached_other, decide}
+use Rattle.score_list.specs.Linked.{links_at, link_at, next_at, span_at, height_at, tall, chain, order, IsLevel, LinkedAs, Arrives, Keeps, Hangs, Unhangs, with_at, without_at}
+use Rattle.score_list.proofs.Moved.{never, beyond, within, row_on, reach_stands, reached_other, decide}
 use Rattle.score_list.proofs.Edited.{joined, left}
 use Rattle.score_list.proofs.Places.{chain_is}
 

@@ -1,8 +1,8 @@
 //! Elements join and leave the towers at a rank.
 
-ghost use Rattle.std.specs.Prelude.{◌≡◌, ◌≢◌, ℕ, suc, ◌+◌, ◌<◌, ◌^◌, length, get_or, true, List, [], Some, None, IfOk, OnOk, OnErr, count_by, slice_set, slice_index_or};
-ghost use Rattle.score_list.specs.Linked.{Element, no_element, element_at, order, items, IsLinked, IsPath, Adds, with_at, without_at, renamed_at};
-ghost use Rattle.score_list.specs.Sorted.{IsParted, EachIs};
+ghost use Rattle.std.specs.Prelude.{◌≡◌, ◌≢◌, ℕ, suc, ◌+◌, ◌<◌, ◌^◌, length, take, drop, get_or, true, false, List, [], Some, None, IfOk, OnOk, OnErr, IsTrue, count_by, slice_set, slice_index_or};
+ghost use Rattle.score_list.specs.Linked.{Element, no_element, element_at, order, items, IsLinked, IsPath, IsAt, Adds, with_at, without_at, renamed_at};
+ghost use Rattle.score_list.specs.Sorted.{AllAre, IsParted, EachIs};
 
 use crate::search::Probe;
 use crate::towers::{LEVELS, Link, Place, START, Tower, Towers};
@@ -99,8 +99,8 @@ impl Towers {
         tower.score = score;
     }
 
-    /// Gives the element at a rank, to which a path leads, another score, and the place where a probe stands among the others.
-    pub(crate) fn move_to<P: Probe>(
+    // Gives the element at a rank, to which a path leads, another score, and the place where a probe stands among the others.
+    fn move_to<P: Probe>(
         &mut self,
         rank: usize,
         key: usize,
@@ -123,6 +123,78 @@ impl Towers {
         let (to, _) = self.find(probe, &mut way);
         self.thread(key, to, &way);
         self.len += 1;
+    }
+
+    // Whether a probe stands above the element in front of a rank, to which a path leads, and so above all there.
+    fn passes_front<P: Probe>(&self, rank: usize, path: &[Place; LEVELS], probe: &P) -> bool
+        requires linked { IsLinked self.now }
+        requires path { IsPath self.now rank path.now }
+        requires rank { rank < length (order self.now) }
+        requires parted { IsParted (P.above probe.now) (without_at (items self.now) rank) }
+        requires compares { EachIs (P.compares probe.now) (without_at (items self.now) rank) }
+        ensures { IsTrue result → AllAre (P.above probe.now) true (take rank (items self.now)) }
+    {
+        if rank == 0 {
+            return true;
+        }
+        let before = path[0];
+        probe.is_above(self.element(before.owner - 1))
+    }
+
+    // Whether a probe doesn't stand above the element behind that of a tower, and so above none there.
+    fn stops_behind<P: Probe>(&self, rank: usize, key: usize, probe: &P) -> bool
+        requires linked { IsLinked self.now }
+        requires at { IsAt self.now rank (Some key) }
+        requires fits { key + 1 < 2 ^ 64 }
+        requires parted { IsParted (P.above probe.now) (without_at (items self.now) rank) }
+        requires compares { EachIs (P.compares probe.now) (without_at (items self.now) rank) }
+        ensures { IsTrue result → AllAre (P.above probe.now) false (drop (suc rank) (items self.now)) }
+    {
+        if rank + 1 == self.len {
+            return true;
+        }
+        let link = self.link(0, key + 1);
+        !probe.is_above(self.element(link.next - 1))
+    }
+
+    // Gives the element of the tower at a rank another score, and leaves its place.
+    fn set_score(&mut self, rank: usize, key: usize, score: i64)
+        requires linked { IsLinked self.old }
+        requires at { IsAt self.old rank (Some key) }
+        ensures linked { IsLinked self.new }
+        ensures items { items self.new ≡ slice_set (items self.old) rank (score, (slice_index_or (items self.old) rank no_element).1) }
+    {
+        let Some(staying) = self.slab.get_mut(key) else {
+            unreachable!()
+        };
+        staying.score = score;
+    }
+
+    /// Gives the element at a rank, to which a path leads, another score, and the place where a probe stands among the others: it
+    /// stays where it is, if that is its place.
+    pub(crate) fn rescore<P: Probe>(
+        &mut self,
+        rank: usize,
+        key: usize,
+        path: &[Place; LEVELS],
+        probe: &P,
+        score: i64,
+    )
+        requires linked { IsLinked self.old }
+        requires path { IsPath self.old rank path.now }
+        requires rank { rank < length (order self.old) }
+        requires key { get_or (order self.old) rank 0 ≡ key }
+        requires fits { key + 1 < 2 ^ 64 }
+        requires parted { IsParted (P.above probe.now) (without_at (items self.old) rank) }
+        requires compares { EachIs (P.compares probe.now) (without_at (items self.old) rank) }
+        ensures linked { IsLinked self.new }
+        ensures items { items self.new ≡ with_at (without_at (items self.old) rank) (count_by (P.above probe.now) (without_at (items self.old) rank)) (score, (slice_index_or (items self.old) rank no_element).1) }
+    {
+        if self.passes_front(rank, path, probe) && self.stops_behind(rank, key, probe) {
+            self.set_score(rank, key, score);
+            return;
+        }
+        self.move_to(rank, key, path, probe, score);
     }
 
     /// Names the member of the element at a rank by another block.

@@ -122,7 +122,7 @@ impl Scores {
                     score: new,
                     member,
                 };
-                self.towers.move_to(rank, key, &path, &probe, new);
+                self.towers.rescore(rank, key, &path, &probe, new);
                 true
             }
         }

@@ -64,14 +64,30 @@ impl<'a> Rest<'a> {
         ensures none { IfNone result (rest_of self.now ≡ []) }
     {
         match self.at {
-            Some(at) => Some((
-                self.pack.get(at),
-                Rest {
+            Some(at) => {
+                let (element, next) = self.pack.step(at);
+                let behind = Rest {
                     pack: self.pack,
-                    at: self.pack.next(at),
+                    at: next,
                     left: self.left - 1,
-                },
-            )),
+                };
+                Some((element, behind))
+            }
+            None => None,
+        }
+    }
+
+    // The elements behind the first one.
+    fn behind_first(&self) -> Option<Rest<'a>>
+        ensures some { IfSome result (λ x. (text : List ℕ) × (rest_of self.now ≡ text ∷ rest_of x)) }
+        ensures none { IfNone result (rest_of self.now ≡ []) }
+    {
+        match self.at {
+            Some(at) => Some(Rest {
+                pack: self.pack,
+                at: self.pack.next(at),
+                left: self.left - 1,
+            }),
             None => None,
         }
     }
@@ -121,8 +137,7 @@ impl<'a> Rest<'a> {
         }
         let mut rest = *self;
         for _ in 0..count {
-            let (_, behind) = rest.split_first()?;
-            rest = behind;
+            rest = rest.behind_first()?;
         }
         Some(rest)
     }

@@ -1,21 +1,19 @@
 -- An entry alone in a node is no longer than the node that it was read from.
-use Rattle.std.proofs.Common.{◌≡◌, ◌∙◌, ℕ, suc, ◌+◌, ◌-◌, ◌*◌, ◌%◌, ◌^◌, ◌<◌, ◌≤◌, Bool, true, false, List, [], ◌∷◌, ◌++◌, length, map, take, drop, sym, ap, subst, inl, inr, arith, length-append, pos}
+use Rattle.std.proofs.Common.{◌≡◌, ◌∙◌, ℕ, ◌+◌, ◌-◌, ◌*◌, ◌%◌, ◌^◌, ◌<◌, ◌≤◌, Bool, true, false, List, [], ◌∷◌, ◌++◌, length, map, take, drop, sym, ap, subst, inl, inr, arith, length-append, pos}
 use Rattle.std.specs.Prelude.{Option, Some, None}
 use Rattle.std.specs.Int.{w64, cast_signed}
 use Rattle.std.specs.List.{AllByRecursion}
 use Rattle.std.proofs.lemmas.Bool.{cases_lt}
-use Rattle.std.proofs.lemmas.Bool.Decides.{nat_tests}
-use Rattle.std.proofs.lemmas.Int.{ints}
 use Rattle.std.proofs.lemmas.List.{length-map, take-append-drop}
 use Rattle.int_text.specs.Decimal.{canonical}
 use Rattle.int_text.proofs.NumberOf.{number_back}
-use Rattle.listpack.specs.Entry.{back_length, entry_of}
+use Rattle.listpack.specs.Entry.{back_length}
 use Rattle.listpack.specs.Pack.{IsPack, entries, region, spellings_of, texts}
 use Rattle.listpack.specs.Writing.{number_spelling, text_head, spelling, entry}
 use Rattle.listpack.proofs.Backs.{back_one}
 use Rattle.listpack.proofs.ReadBack.{number_spelled}
 use Rattle.listpack.proofs.Spellings.{spelling-pos}
-use Rattle.listpack.proofs.Writings.{number_small, head_short, head_medium, head_long, number_cases, spelling_as}
+use Rattle.listpack.proofs.Writings.{head_short, head_medium, head_long, number_cases, spelling_as}
 use Rattle.stream_node.specs.declared.id.Id.{Id}
 use Rattle.stream_node.specs.Entry.{Pair, Stored, number, flags, fields_of, body, size, IsBody, IsEntry}
 use Rattle.stream_node.specs.Node.{Begins}
@@ -27,6 +25,7 @@ use Rattle.stream_node.proofs.Lists.{Texts}
 use Rattle.stream_node.proofs.Same.{flat, fits_count}
 use Rattle.stream_node.proofs.Written.{written, written-append, length-pack, length-values}
 use Rattle.rax_packed.proofs.Entries.{all-front, all-back, all-weaker}
+use Rattle.stream_object.proofs.Lighter.{entry_two, some_back}
 use Rattle.stream_object.proofs.Marking.{node_ids}
 use Rattle.stream_object.proofs.Shortest.{Bytes, five_bytes, written_shortest}
 
@@ -46,10 +45,6 @@ some_spelling text = elim (number_cases text) [
   | inr is ↦ omega (arith, ap length (spelling_as text (Some is.0) is.1), spelling-pos (number_spelling is.0) (number_spelled is.0 is.2).0)
 ]
 
-some_back : (n : ℕ) → 1 ≤ length (back_length n)
-unfolding back_length
-some_back n = grind (arith, nat_tests)
-
 entry_least : (text : List ℕ) → 2 ≤ length (entry text)
 entry_least text = omega (arith, some_spelling text, some_back (length (spelling text)), length-append (spelling text) (back_length (length (spelling text))))
 
@@ -63,11 +58,6 @@ written_least (x ∷ xs) = omega (arith, written_least xs, entry_least x, writte
 -- a number takes few bytes
 number_as : (n : ℕ) → n < 2 ^ 63 → spelling (number n) ≡ number_spelling (pos n)
 number_as n h = spelling_as (number n) (Some (pos n)) (number_back (pos n) (fits_count n h))
-
-entry_two : (n : ℕ) → n < 128 → length (entry (number n)) ≡ 2
-entry_two n small =
-    let one : spelling (number n) ≡ n ∷ [] = number_as n (omega (arith, small)) ∙ number_small (pos n) (omega (arith, ints)) small in
-    ap (λ s. length (entry_of s)) one ∙ ap (λ b. suc (length b)) (back_one 1 (omega arith))
 
 entry_six : (n : ℕ) → n < 2 ^ 31 → length (entry (number n)) ≤ 6
 entry_six n small =

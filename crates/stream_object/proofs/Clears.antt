@@ -20,7 +20,9 @@ use Rattle.stream_object.specs.declared.stream.Stream.{Stream as Log}
 use Rattle.stream_object.specs.Parts.{Part, part_of, entries_in, refs_of, parts_of, all_refs, HasParts}
 use Rattle.stream_object.specs.Found.{Misses, Exchanges}
 use Rattle.stream_object.specs.Streams.{IsStream, AreUpto, nodes, refs, marks as all_marks}
+use Rattle.stream_object.specs.Block.{pack_in}
 use Rattle.stream_object.specs.Laws.{Stays, StreamLaws}
+use Rattle.stream_object.specs.Tail.{IsKept}
 use Rattle.stream_object.proofs.Parts.{parts_are, its_own, refs_are, parts_stay}
 
 pub exchanges_none : (m : Blocks) (tree : PackedTree) (ps : List Part) → HasParts m tree ps → Exchanges m m tree tree ps
@@ -59,7 +61,7 @@ module _ (a b : Blocks) (s : Log) (same : (r : BlockRef) → IsIn r (refs a s) �
   read_same (e ∷ es) h =
       let counted : one e.value e.value ≡ 1 = ap one_if (ref_eq-refl e.value) in
       let here : b e.value ≡ a e.value = h e.value (omega (arith, counted)) in
-      λ i. record { key = key_id e.key; at = e.value; bytes = ap (λ (o : Option (List ℕ)). unwrap_or o []) here i } ∷ read_same es (λ r isin. h r (omega (arith, isin))) i
+      λ i. record { key = key_id e.key; at = e.value; bytes = ap (λ (o : Option (List ℕ)). pack_in (unwrap_or o [])) here i } ∷ read_same es (λ r isin. h r (omega (arith, isin))) i
 
   pub parts_same : parts_of b s.tree ≡ parts_of a s.tree
   unfolding parts_of
@@ -87,6 +89,7 @@ module _ (a b : Blocks) (s : Log) (same : (r : BlockRef) → IsIn r (refs a s) �
         counted = is.counted ∙ ap (λ qs. length (entries_in qs)) (sym parts_same);
         fits = is.fits;
         upto = subst (AreUpto s.last) (sym parts_same) is.upto;
+        kept = subst (λ qs. IsKept qs s.tail) (sym parts_same) is.kept;
       }
 
   pub stays : Stays a b s
@@ -133,6 +136,6 @@ stream_laws_hold = record {
   others = λ a b s old new o p. stays a b s (beside a b (refs a s) old new o p);
   owned = λ m s is. subst (λ rs. Owned rs m) (sym (refs_are m s.tree (nodes m s) is.parts)) is.parts.owned;
   marked = marked;
-  regrouped = λ m s groups is. record { parts = is.parts; counted = is.counted; fits = is.fits; upto = is.upto };
-  remarked = λ m s last deleted added is fits upto. record { parts = is.parts; counted = is.counted; fits = fits; upto = upto };
+  regrouped = λ m s groups is. record { parts = is.parts; counted = is.counted; fits = is.fits; upto = is.upto; kept = is.kept };
+  remarked = λ m s last deleted added is fits upto. record { parts = is.parts; counted = is.counted; fits = fits; upto = upto; kept = is.kept };
 }

@@ -1,5 +1,5 @@
 -- Nodes copied one after the other.
-use Rattle.std.proofs.Common.{◌≡◌, ◌∙◌, ℕ, ◌+◌, ◌<◌, ◌≤◌, ◌^◌, Bool, true, false, List, [], ◌∷◌, ◌++◌, length, refl, sym, ap, subst, arith}
+use Rattle.std.proofs.Common.{◌≡◌, ◌∙◌, ℕ, ◌+◌, ◌<◌, ◌≤◌, ◌^◌, Bool, true, false, List, [], ◌∷◌, ◌++◌, length, None, refl, sym, ap, subst, arith}
 use Rattle.std.specs.List.{AllByRecursion, filter}
 use Rattle.std.specs.Ordering.{nat_cmp, is_lt}
 use Rattle.std.proofs.lemmas.Bool.{cond-true}
@@ -26,6 +26,7 @@ use Rattle.stream_object.proofs.Exchanging.{outside}
 use Rattle.stream_object.proofs.Grows.{rising_push}
 use Rattle.stream_object.proofs.Later.{not_less}
 use Rattle.stream_object.proofs.Parts.{parts_are}
+use Rattle.stream_object.proofs.Tails.{kept_none}
 use Rattle.stream_object.proofs.Walks.{filter_none, filter_all, keys_before, keys_after, up_from, up_behind}
 
 -- the same nodes, and one more
@@ -133,7 +134,7 @@ module _ (m mid : Blocks) (s : Log) (is : IsStream m s) (old new : PackedTree) (
   nodes_still = parts_same m mid s kept
 
   -- one more is copied
-  module _ (at : Id) (p : Part) (n : IsNear true (nodes m s) at p) (same : AreSame (filter (is_behind at) (nodes m s)) qs) (after : Blocks) (now : PackedTree) (key : Id) (bytes : List ℕ) (is_key : key ≡ p.key) (is_bytes : bytes ≡ p.bytes) (here : parts_of mid new ≡ qs) (comes : Comes mid after new now key bytes) where
+  module _ (at : Id) (p : Part) (n : IsNear true (nodes m s) at p) (same : AreSame (filter (is_behind at) (nodes m s)) qs) (after : Blocks) (now : PackedTree) (key : Id) (bytes : List ℕ) (is_key : key ≡ p.key) (is_bytes : bytes ≡ p.bytes) (here : parts_of mid new ≡ qs) (block : BlockRef) (comes : Comes mid after new now key bytes block) where
     before_same : AreSame n.before qs
     before_same = subst (λ ps. AreSame ps qs) (behind_here m s is at p n) same
 
@@ -143,32 +144,31 @@ module _ (m mid : Blocks) (s : Log) (is : IsStream m s) (old new : PackedTree) (
     is_node : IsNodeOf key bytes
     is_node = subst (λ b. IsNodeOf key b) (sym is_bytes) (subst (λ (k : Id). IsNodeOf k p.bytes) (sym is_key) mine.is_node)
 
-    rises : (block : BlockRef) → Rising (qs ++ part key block bytes ∷ [])
-    rises block = rising_push qs (part key block bytes) x.parts.rising (same_ends n.before qs p (part key block bytes) before_same is_key (ends_before n.before n.after p (rising m s is at p n)))
+    rises : Rising (qs ++ part key block bytes ∷ [])
+    rises = rising_push qs (part key block bytes) x.parts.rising (same_ends n.before qs p (part key block bytes) before_same is_key (ends_before n.before n.after p (rising m s is at p n)))
 
-    placed : (block : BlockRef) × Exchanges mid after new now (qs ++ part key block bytes ∷ [])
-    placed =
-        let c = comes is_node (λ block. subst (λ ps. Rising (ps ++ part key block bytes ∷ [])) (sym here) (rises block)) in
-        (c.0, subst (λ ps. Exchanges mid after new now (ps ++ part key c.0 bytes ∷ [])) here c.1)
+    placed : Exchanges mid after new now (qs ++ part key block bytes ∷ [])
+    placed = subst (λ ps. Exchanges mid after new now (ps ++ part key block bytes ∷ [])) here (comes is_node (subst (λ ps. Rising (ps ++ part key block bytes ∷ [])) (sym here) rises))
 
     pub made_more : Exchanges m after old now (parts_of after now)
     made_more =
-        subst (Exchanges m after old now) (sym (parts_are after now (qs ++ part key placed.0 bytes ∷ []) placed.1.parts))
-        (exchanges_then m mid after old new now qs (qs ++ part key placed.0 bytes ∷ []) x placed.1)
+        subst (Exchanges m after old now) (sym (parts_are after now (qs ++ part key block bytes ∷ []) placed.parts))
+        (exchanges_then m mid after old new now qs (qs ++ part key block bytes ∷ []) x placed)
 
     pub same_more : AreSame (n.before ++ p ∷ []) (parts_of after now)
     same_more =
-        subst (AreSame (n.before ++ p ∷ [])) (sym (parts_are after now (qs ++ part key placed.0 bytes ∷ []) placed.1.parts))
-        (same_push n.before qs p (part key placed.0 bytes) before_same is_key is_bytes)
+        subst (AreSame (n.before ++ p ∷ [])) (sym (parts_are after now (qs ++ part key block bytes ∷ []) placed.parts))
+        (same_push n.before qs p (part key block bytes) before_same is_key is_bytes)
 
 -- the copy as a whole
-module _ (m after : Blocks) (s copy : Log) (is : IsStream m s) (old : PackedTree) (none : all_refs m old ≡ []) (x : Exchanges m after old copy.tree (parts_of after copy.tree)) (same : AreSame (nodes m s) (parts_of after copy.tree)) (len : copy.len ≡ s.len) (last : copy.last ≡ s.last) where
+module _ (m after : Blocks) (s copy : Log) (is : IsStream m s) (old : PackedTree) (none : all_refs m old ≡ []) (x : Exchanges m after old copy.tree (parts_of after copy.tree)) (same : AreSame (nodes m s) (parts_of after copy.tree)) (len : copy.len ≡ s.len) (last : copy.last ≡ s.last) (tail : copy.tail ≡ None) where
   pub copy_stream : IsStream after copy
   copy_stream = record {
     parts = x.parts;
     counted = len ∙ is.counted ∙ ap length (sym (same_entries (nodes m s) (parts_of after copy.tree) same));
     fits = subst (λ i. IsId i) (sym last) is.fits;
     upto = subst (λ i. AreUpto i (nodes after copy)) (sym last) (same_upto s.last (nodes m s) (nodes after copy) same is.upto);
+    kept = kept_none (nodes after copy) copy.tail tail;
   }
 
   pub copy_value : copy.deleted ≡ s.deleted → copy.added ≡ s.added → copy.groups ≡ s.groups → stream_of after copy ≡ stream_of m s

@@ -1,12 +1,12 @@
 -- A node that comes, goes, or gets other bytes: one call on the store and one on the tree after another.
-use Rattle.std.proofs.Common.{◌≡◌, ◌∙◌, ℕ, List, [], ◌∷◌, ◌++◌, Some, None, IsSome, refl, sym, ap, subst, arith}
-use Rattle.std.proofs.lemmas.List.{append-nil}
+use Rattle.std.proofs.Common.{◌≡◌, ◌∙◌, ℕ, List, [], ◌∷◌, ◌++◌, map, Some, None, IsSome, is_some, refl, sym, ap, subst, arith}
+use Rattle.std.proofs.lemmas.List.{append-nil, map-append}
 use Rattle.std.specs.List.{AllByRecursion}
 use Rattle.blocks.specs.declared.BlockRef.{BlockRef}
 use Rattle.blocks.specs.Blocks.{Blocks, with_block, times, IsIn, Changes, Owned}
 use Rattle.blocks.proofs.Refs.{ref_eq-refl, with_block-same}
 use Rattle.blocks.proofs.Times.{times-append}
-use Rattle.blocks.proofs.Change.{one, one_if, live-once, live-is, Counts-ended, Changes-counted, Changes-beside, Changes-owned, Changes-then, Owned-others}
+use Rattle.blocks.proofs.Change.{one, one_if, live-once, live-is, Counts-ended, Counts-written, Changes-counted, Changes-beside, Changes-owned, Changes-then, Owned-others}
 use Rattle.stream_node.specs.declared.id.Id.{Id}
 use Rattle.stream_node.specs.Ids.{IsId, id_key}
 use Rattle.rax_packed.specs.declared.tree.PackedTree.{PackedTree}
@@ -15,8 +15,10 @@ use Rattle.rax_packed.specs.Packed.{with_entry, without, value_at}
 use Rattle.rax_packed.specs.Maps as rax
 use Rattle.rax_packed.proofs.Depends.{packed_laws_hold}
 use Rattle.rax_packed.proofs.Entries.{all-front, all-back}
-use Rattle.stream_object.specs.Parts.{Part, part, IsNodeOf, IsPart, Rising, refs_of, HasParts}
+use Rattle.stream_object.specs.Parts.{Part, part, IsNodeOf, IsPart, Rising, entry_of, refs_of, HasParts}
+use Rattle.stream_object.specs.Block.{Holds, IsPut}
 use Rattle.stream_object.specs.Found.{Stands, Exchanges}
+use Rattle.stream_object.proofs.Holdings.{pack_front}
 use Rattle.stream_object.proofs.Parts.{rising_without, exchanged, times-refs, value_there, with_there, without_there, with_last}
 
 -- what others own stays
@@ -90,26 +92,30 @@ module _ (m mid : Blocks) (tree : PackedTree) (xs : List BlockRef) (at : BlockRe
       (λ r. omega (arith, times-append r (rax.refs_of m tree) (at ∷ xs), times-append r (rax.refs_of m tree) xs)))
 
 -- a node comes behind all others
-module _ (m mid after : Blocks) (old new : PackedTree) (ps : List Part) (key : Id) (at : BlockRef) (bytes : List ℕ) (h : HasParts m old ps) (id : IsId key) (is : mid ≡ with_block m at (Some bytes)) (c : Changes m mid [] (at ∷ [])) where
+module _ (m mid after : Blocks) (old new : PackedTree) (ps : List Part) (key : Id) (at : BlockRef) (bytes : List ℕ) (h : HasParts m old ps) (id : IsId key) (is : IsPut m mid at bytes) (c : Changes m mid [] (at ∷ [])) where
+  abbrev block : List ℕ
+  block = bytes ++ is.spare
+
   own_tree : Owned (rax.refs_of m old ++ []) m
   own_tree r = omega (arith, h.stands.owned r, times-append r (rax.refs_of m old) [])
 
   pub comes_tree : rax.IsSound mid old
-  comes_tree = placed_tree m mid old [] at bytes own_tree h.stands is c
+  comes_tree = placed_tree m mid old [] at block own_tree h.stands is.put c
 
   first : Changes m mid (rax.refs_of m old ++ []) (rax.refs_of mid old ++ (at ∷ []))
-  first = placed_changes m mid old [] at bytes own_tree h.stands is c
+  first = placed_changes m mid old [] at block own_tree h.stands is.put c
 
   pub comes : rax.IsSound after new → rax.entries_of after new ≡ with_entry (rax.entries_of mid old) (id_key key) at → Changes mid after (rax.refs_of mid old) (rax.refs_of after new)
-      → IsNodeOf key bytes → ((a : BlockRef) → Rising (ps ++ part key a bytes ∷ [])) → Exchanges m after old new (ps ++ part key at bytes ∷ [])
+      → IsNodeOf key bytes → Rising (ps ++ part key at bytes ∷ []) → Exchanges m after old new (ps ++ part key at bytes ∷ [])
   comes sound inserted changes is_node rising =
       let own = Changes-owned m mid (rax.refs_of m old ++ []) (rax.refs_of mid old ++ (at ∷ [])) first in
       let second = beside_tree mid after old new (at ∷ []) own changes in
       let core = Changes-then m mid after (rax.refs_of m old ++ []) (rax.refs_of mid old ++ (at ∷ [])) (rax.refs_of after new ++ (at ∷ [])) first second in
-      let block : after at ≡ Some bytes = outside mid after (rax.refs_of mid old) (rax.refs_of after new) (at ∷ []) own changes at (omega (arith, counts_itself at)) ∙ placed_block m mid old [] at bytes own_tree h.stands is c in
-      let there : HasParts m old (ps ++ ([] ++ [])) = subst (HasParts m old) (sym (append-nil ps)) h in
-      let named = inserted ∙ ap (λ es. with_entry es (id_key key) at) (placed_entries m mid old [] at bytes own_tree h.stands is c ∙ h.named) ∙ with_last m ps key at bytes id h.each (rising at) in
-      exchanged m after old new ps [] (part key at bytes ∷ []) [] there core sound named (record { id = id; block = block; is_node = is_node }, tt) (rising at)
+      let there : after at ≡ Some block = outside mid after (rax.refs_of mid old) (rax.refs_of after new) (at ∷ []) own changes at (omega (arith, counts_itself at)) ∙ placed_block m mid old [] at block own_tree h.stands is.put c in
+      let held : Holds after at bytes = record { block = block; there = there; begins = pack_front bytes is.spare is_node.pack } in
+      let before : HasParts m old (ps ++ ([] ++ [])) = subst (HasParts m old) (sym (append-nil ps)) h in
+      let named = inserted ∙ ap (λ es. with_entry es (id_key key) at) (placed_entries m mid old [] at block own_tree h.stands is.put c ∙ h.named) ∙ with_last m ps key at bytes id h.each rising in
+      exchanged m after old new ps [] (part key at bytes ∷ []) [] before core sound named (record { id = id; block = held; is_node = is_node }, tt) rising
 
 -- one node among the others
 module _ (m : Blocks) (old : PackedTree) (ps : List Part) (key : Id) (was : BlockRef) (h : HasParts m old ps) (s : Stands ps key was) where
@@ -128,8 +134,11 @@ module _ (m : Blocks) (old : PackedTree) (ps : List Part) (key : Id) (was : Bloc
   pub stands_id : IsId key
   stands_id = back.0.id
 
-  pub stands_block : m was ≡ Some s.bytes
+  pub stands_block : Holds m was s.bytes
   stands_block = back.0.block
+
+  pub stands_node : IsNodeOf key s.bytes
+  stands_node = back.0.is_node
 
   pub stands_value : value_at (rax.entries_of m old) (id_key key) ≡ Some was
   stands_value = ap (λ es. value_at es (id_key key)) parts.named ∙ value_there m s.before s.after (part key was s.bytes) back.0 front back.1 parts.rising
@@ -162,15 +171,18 @@ module _ (m : Blocks) (old : PackedTree) (ps : List Part) (key : Id) (was : Bloc
         tt (rising_without s.before s.after (part key was s.bytes) parts.rising)
 
   -- it gets other bytes
-  module _ (mid later after : Blocks) (new : PackedTree) (at : BlockRef) (bytes : List ℕ) (is : mid ≡ with_block m at (Some bytes)) (c : Changes m mid [] (at ∷ [])) where
+  module _ (mid later after : Blocks) (new : PackedTree) (at : BlockRef) (bytes : List ℕ) (is : IsPut m mid at bytes) (c : Changes m mid [] (at ∷ [])) where
+    abbrev whole : List ℕ
+    whole = bytes ++ is.spare
+
     pub set_tree : rax.IsSound mid old
-    set_tree = placed_tree m mid old (was ∷ []) at bytes own_was h.stands is c
+    set_tree = placed_tree m mid old (was ∷ []) at whole own_was h.stands is.put c
 
     pub set_value : value_at (rax.entries_of mid old) (id_key key) ≡ Some was
-    set_value = ap (λ es. value_at es (id_key key)) (placed_entries m mid old (was ∷ []) at bytes own_was h.stands is c) ∙ stands_value
+    set_value = ap (λ es. value_at es (id_key key)) (placed_entries m mid old (was ∷ []) at whole own_was h.stands is.put c) ∙ stands_value
 
     placing : Changes m mid (rax.refs_of m old ++ (was ∷ [])) (rax.refs_of mid old ++ (at ∷ (was ∷ [])))
-    placing = placed_changes m mid old (was ∷ []) at bytes own_was h.stands is c
+    placing = placed_changes m mid old (was ∷ []) at whole own_was h.stands is.put c
 
     module _ (sound : rax.IsSound later new) (set : rax.entries_of later new ≡ with_entry (rax.entries_of mid old) (id_key key) at) (change : Changes mid later (rax.refs_of mid old) (rax.refs_of later new)) where
       own_placed : Owned (rax.refs_of mid old ++ (at ∷ (was ∷ []))) mid
@@ -185,16 +197,43 @@ module _ (m : Blocks) (old : PackedTree) (ps : List Part) (key : Id) (was : Bloc
       pub set_live : IsSome (later was)
       set_live = was_live m later new (rax.refs_of m old ++ (was ∷ [])) (at ∷ []) was setting
 
-      pub becomes : after ≡ with_block later was None → IsNodeOf key bytes → ((a : BlockRef) → Rising (s.before ++ part key a bytes ∷ s.after)) → Exchanges m after old new (s.before ++ part key at bytes ∷ s.after)
+      pub becomes : after ≡ with_block later was None → IsNodeOf key bytes → Rising (s.before ++ part key at bytes ∷ s.after) → Exchanges m after old new (s.before ++ part key at bytes ∷ s.after)
       becomes gone is_node rising =
           let mine : IsIn at (at ∷ []) = omega (arith, counts_itself at) in
-          let block : after at ≡ Some bytes =
+          let there : after at ≡ Some whole =
           ended_block m later after new (rax.refs_of m old ++ (was ∷ [])) (at ∷ []) was setting gone at mine
           ∙ outside mid later (rax.refs_of mid old) (rax.refs_of later new) (at ∷ (was ∷ [])) own_placed change at (omega (arith, counts_itself at))
-          ∙ placed_block m mid old (was ∷ []) at bytes own_was h.stands is c in
+          ∙ placed_block m mid old (was ∷ []) at whole own_was h.stands is.put c in
+          let held : Holds after at bytes = record { block = whole; there = there; begins = pack_front bytes is.spare is_node.pack } in
           exchanged m after old new s.before (part key was s.bytes ∷ []) (part key at bytes ∷ []) s.after parts (ended_changes m later after new (rax.refs_of m old ++ (was ∷ [])) (at ∷ []) was setting gone)
           (ended_tree m later after new (rax.refs_of m old ++ (was ∷ [])) (at ∷ []) was setting gone sound)
           (ended_entries m later after new (rax.refs_of m old ++ (was ∷ [])) (at ∷ []) was setting gone ∙ set
-          ∙ ap (λ es. with_entry es (id_key key) at) (placed_entries m mid old (was ∷ []) at bytes own_was h.stands is c ∙ parts.named)
+          ∙ ap (λ es. with_entry es (id_key key) at) (placed_entries m mid old (was ∷ []) at whole own_was h.stands is.put c ∙ parts.named)
           ∙ with_there m s.before s.after (part key was s.bytes) back.0 front back.1 parts.rising at bytes)
-          (record { id = stands_id; block = block; is_node = is_node }, tt) (rising at)
+          (record { id = stands_id; block = held; is_node = is_node }, tt) rising
+
+  -- it gets other bytes in its block
+  module _ (after : Blocks) (bytes : List ℕ) (is : IsPut m after was bytes) where
+    written : Changes m after (was ∷ []) (was ∷ [])
+    written =
+        Changes-counted m after (was ∷ []) (was ∷ []) (λ r. omega (arith, own_was r, times-append r (rax.refs_of m old) (was ∷ [])))
+        (Counts-written m after was (bytes ++ is.spare) (was ∷ []) (was ∷ []) (ap is_some stands_block.there) is.put (omega (arith, counts_itself was)) (λ r. refl))
+
+    settled : Stays m after old
+    settled = tree_stays m after old (was ∷ []) (was ∷ []) own_was written
+
+    named : rax.entries_of after old ≡ map entry_of (s.before ++ part key was bytes ∷ s.after)
+    named =
+        settled.entries_are ∙ parts.named ∙ map-append entry_of s.before (part key was s.bytes ∷ s.after)
+        ∙ sym (map-append entry_of s.before (part key was bytes ∷ s.after))
+
+    over : Changes m after (rax.refs_of m old ++ (was ∷ [])) (rax.refs_of after old ++ (was ∷ []))
+    over =
+        subst (λ rs. Changes m after (rax.refs_of m old ++ (was ∷ [])) (rs ++ (was ∷ []))) (sym settled.refs_are)
+        (Changes-beside m after (was ∷ []) (was ∷ []) (rax.refs_of m old ++ (was ∷ [])) (rax.refs_of m old ++ (was ∷ [])) written own_was (λ r. times r (rax.refs_of m old)) (λ r. omega (arith, times-append r (rax.refs_of m old) (was ∷ []))) (λ r. omega (arith, times-append r (rax.refs_of m old) (was ∷ []))))
+
+    pub rewritten : IsNodeOf key bytes → Rising (s.before ++ part key was bytes ∷ s.after) → Exchanges m after old old (s.before ++ part key was bytes ∷ s.after)
+    rewritten is_node rising =
+        let there : after was ≡ Some (bytes ++ is.spare) = ap (λ (b : Blocks). b was) is.put ∙ with_block-same m was (Some (bytes ++ is.spare)) in
+        let held : Holds after was bytes = record { block = bytes ++ is.spare; there = there; begins = pack_front bytes is.spare is_node.pack } in
+        exchanged m after old old s.before (part key was s.bytes ∷ []) (part key was bytes ∷ []) s.after parts over (settled.sound h.stands) named (record { id = stands_id; block = held; is_node = is_node }, tt) rising

@@ -1,5 +1,5 @@
 -- Nodes with one entry more behind all others.
-use Rattle.std.proofs.Common.{◌≡◌, ◌∙◌, ℕ, ◌+◌, ◌-◌, ◌*◌, ◌%◌, ◌<◌, ◌≤◌, ◌^◌, List, [], ◌∷◌, ◌++◌, length, refl, sym, ap, subst, arith, length-append}
+use Rattle.std.proofs.Common.{◌≡◌, ◌∙◌, ℕ, ◌+◌, ◌-◌, ◌*◌, ◌%◌, ◌<◌, ◌≤◌, ◌^◌, List, [], ◌∷◌, ◌++◌, length, Some, refl, sym, ap, subst, arith, length-append}
 use Rattle.std.specs.Prelude.{false, sum_by}
 use Rattle.std.specs.List.{AllByRecursion}
 use Rattle.std.proofs.lemmas.List.{append-nil, append_assoc}
@@ -17,10 +17,12 @@ use Rattle.stream_node.proofs.Rooms.{room_enough}
 use Rattle.rax_packed.specs.declared.tree.PackedTree.{PackedTree}
 use Rattle.rax_packed.proofs.Entries.{all-append, all-front, all-back, all-weaker}
 use Rattle.stream_object.specs.declared.stream.Stream.{Stream as Log}
+use Rattle.stream_object.specs.declared.tail.Tail.{Tail}
 use Rattle.stream_object.specs.Parts.{Part, part, stored_in, plain, live_of, live_in, entries_in, IsPart, EndsBefore, Rising, parts_of, all_refs, HasParts}
 use Rattle.stream_object.specs.Found.{IsNear, Misses, Stands, Comes, Becomes}
 use Rattle.stream_object.specs.Node.{put, IsGrown}
 use Rattle.stream_object.specs.Streams.{nodes, entries, refs, AreUpto, AreBelow, IsStream, IsChanged, IsAddable, Grows, stream_of, appended, added}
+use Rattle.stream_object.specs.Tail.{IsTail, IsKept}
 use Rattle.stream_object.proofs.Parts.{parts_are, its_own}
 use Rattle.stream_object.proofs.Marking.{live-append, live-one}
 
@@ -47,35 +49,36 @@ below_upto id [] h = tt
 below_upto id (p ∷ ps) h = (all-weaker (λ (e : Stored). id_number e.id < id_number id) (λ e. id_number e.id ≤ id_number id) (stored_in p) (λ e less. omega arith) h.0, below_upto id ps h.1)
 
 module _ (m after : Blocks) (old new : PackedTree) (id : Id) (pairs : List Pair) (bytes : List ℕ) where
-  pub comes_grows : HasParts m old (parts_of m old) → AreBelow id (parts_of m old) → IsGrown id [] bytes id pairs → Comes m after old new id bytes → Grows m after old new id pairs
-  comes_grows h below g comes =
+  pub comes_grows : (at : BlockRef) → HasParts m old (parts_of m old) → AreBelow id (parts_of m old) → IsGrown id [] bytes id pairs → Comes m after old new id bytes at → Grows m after old new id pairs (record { key = id; at = at })
+  comes_grows at h below g comes =
       let ps = parts_of m old in
-      let now = comes g.is_node (λ at. rising_push ps (part id at bytes) h.rising below) in
-      let q = part id now.0 bytes in
+      let q = part id at bytes in
+      let now = comes g.is_node (rising_push ps q h.rising below) in
       let one : live_in q ≡ plain (put id pairs) ∷ [] = ap live_of g.entries_are ∙ live-one (put id pairs) refl in
       record {
         parts = ps ++ q ∷ [];
-        exchanges = now.1;
+        exchanges = now;
         entries_are = entries-append ps (q ∷ []) ∙ ap (λ xs. entries_in ps ++ xs) (append-nil (live_in q) ∙ one);
         upto = all-append (λ (p : Part). AllByRecursion (λ e. id_number e.id ≤ id_number id) (stored_in p)) ps (q ∷ []) (below_upto id ps below)
             (subst (AllByRecursion (λ e. id_number e.id ≤ id_number id)) (sym g.entries_are) (omega arith, tt), tt);
+        ends = (bytes, record { before = ps; place = refl });
       }
 
-  pub becomes_grows : (key : Id) (at : BlockRef) (was : List ℕ) (before : List Part) → HasParts m old (parts_of m old) → AreBelow id (parts_of m old) → parts_of m old ≡ before ++ part key at was ∷ []
-      → IsGrown key (entries_of key (texts was)) bytes id pairs → Becomes m after old new key at bytes → Grows m after old new id pairs
-  becomes_grows key at was before h below place g becomes =
+  pub becomes_grows : (key : Id) (at new_at : BlockRef) (was : List ℕ) (before : List Part) → HasParts m old (parts_of m old) → AreBelow id (parts_of m old) → parts_of m old ≡ before ++ part key at was ∷ []
+      → IsGrown key (entries_of key (texts was)) bytes id pairs → Becomes m after old new key at bytes new_at → Grows m after old new id pairs (record { key = key; at = new_at })
+  becomes_grows key at new_at was before h below place g becomes =
       let s : Stands (parts_of m old) key at = record { before = before; after = []; bytes = was; place = place } in
       let p = part key at was in
       let rising = subst Rising place h.rising in
       let under = subst (AreBelow id) place below in
-      let now = becomes s g.is_node (λ a. rising_again before [] p (part key a bytes) refl tt rising) in
-      let q = part key now.0 bytes in
+      let q = part key new_at bytes in
+      let now = becomes s g.is_node (rising_again before [] p q refl tt rising) in
       let more : live_in q ≡ live_in p ++ plain (put id pairs) ∷ [] = ap live_of g.entries_are ∙ live-append (stored_in p) (put id pairs ∷ []) ∙ ap (λ xs. live_in p ++ xs) (live-one (put id pairs) refl) in
       let front = all-front (λ (x : Part). AllByRecursion (λ e. id_number e.id < id_number id) (stored_in x)) before (p ∷ []) under in
       let back = all-back (λ (x : Part). AllByRecursion (λ e. id_number e.id < id_number id) (stored_in x)) before (p ∷ []) under in
       record {
         parts = before ++ q ∷ [];
-        exchanges = now.1;
+        exchanges = now;
         entries_are =
             entries-append before (q ∷ []) ∙ ap (λ xs. entries_in before ++ xs) (append-nil (live_in q) ∙ more) ∙ sym (append_assoc (entries_in before) (live_in p) (plain (put id pairs) ∷ []))
             ∙ ap (λ xs. xs ++ plain (put id pairs) ∷ []) (sym (ap entries_in place ∙ entries-append before (p ∷ []) ∙ ap (λ xs. entries_in before ++ xs) (append-nil (live_in p))));
@@ -84,6 +87,7 @@ module _ (m after : Blocks) (old new : PackedTree) (id : Id) (pairs : List Pair)
               (all-append (λ e. id_number e.id ≤ id_number id) (stored_in p) (put id pairs ∷ []) (all-weaker (λ (e : Stored). id_number e.id < id_number id) (λ e. id_number e.id ≤ id_number id) (stored_in p) (λ e less. omega arith) back.0) (omega arith, tt)),
           tt,
         );
+        ends = (bytes, record { before = before; place = refl });
       }
 
 -- no node is beyond the greatest id
@@ -106,7 +110,7 @@ near_below id ps before after p below place =
     (all-back (λ (x : Part). AllByRecursion (λ e. id_number e.id < id_number id) (stored_in x)) before (p ∷ after) (subst (AreBelow id) place below)).0
 
 -- the stream of such nodes
-module _ (m after : Blocks) (old new : Log) (id : Id) (pairs : List Pair) (is : IsStream m old) (fits : IsId id) (g : Grows m after old.tree new.tree id pairs) (len : new.len ≡ old.len + 1) (last : new.last ≡ id) where
+module _ (m after : Blocks) (old new : Log) (id : Id) (pairs : List Pair) (tail : Tail) (is : IsStream m old) (fits : IsId id) (g : Grows m after old.tree new.tree id pairs tail) (len : new.len ≡ old.len + 1) (last : new.last ≡ id) (ends : new.tail ≡ Some tail) where
   now : nodes after new ≡ g.parts
   now = parts_are after new.tree g.parts g.exchanges.parts
 
@@ -119,6 +123,7 @@ module _ (m after : Blocks) (old new : Log) (id : Id) (pairs : List Pair) (is : 
     counted = omega (arith, len, is.counted, ap length grown_entries, length-append (entries m old) (plain (put id pairs) ∷ []));
     fits = subst IsId (sym last) fits;
     upto = subst (λ ps. AreUpto new.last ps) (sym now) (subst (λ i. AreUpto i g.parts) (sym last) g.upto);
+    kept = subst (IsKept (nodes after new)) (sym ends) (subst (λ ps. IsTail ps tail) (sym now) g.ends);
   }
 
   pub grown_changed : new.deleted ≡ old.deleted → new.added ≡ old.added → new.groups ≡ old.groups → IsChanged m after old new (appended (stream_of m old) id pairs)
@@ -129,9 +134,9 @@ module _ (m after : Blocks) (old new : Log) (id : Id) (pairs : List Pair) (is : 
   }
 
 -- the same stream, counted as one more that was added
-pub counted_added : (m after : Blocks) (old mid new : Log) (id : Id) (pairs : List Pair) → IsChanged m after old mid (appended (stream_of m old) id pairs) → mid.added ≡ old.added → new.tree ≡ mid.tree → new.len ≡ mid.len → new.last ≡ mid.last → new.deleted ≡ mid.deleted → new.groups ≡ mid.groups
+pub counted_added : (m after : Blocks) (old mid new : Log) (id : Id) (pairs : List Pair) → IsChanged m after old mid (appended (stream_of m old) id pairs) → mid.added ≡ old.added → new.tree ≡ mid.tree → new.len ≡ mid.len → new.last ≡ mid.last → new.deleted ≡ mid.deleted → new.groups ≡ mid.groups → new.tail ≡ mid.tail
     → new.added ≡ (old.added + 1) % 2 ^ 64 → IsChanged m after old new (added (stream_of m old) id pairs)
-counted_added m after old mid new id pairs c same tree len last deleted groups more =
+counted_added m after old mid new id pairs c same tree len last deleted groups tail more =
     let v = c.value_is in
     record {
       is_stream = record {
@@ -139,6 +144,7 @@ counted_added m after old mid new id pairs c same tree len last deleted groups m
         counted = len ∙ c.is_stream.counted ∙ ap (λ t. length (entries_in (parts_of after t))) (sym tree);
         fits = subst IsId (sym last) c.is_stream.fits;
         upto = subst (λ t. AreUpto new.last (parts_of after t)) (sym tree) (subst (λ i. AreUpto i (nodes after mid)) (sym last) c.is_stream.upto);
+        kept = subst (λ t. IsKept (parts_of after t) new.tail) (sym tree) (subst (IsKept (nodes after mid)) (sym tail) c.is_stream.kept);
       };
       value_is = λ i. record {
         entries = (ap (λ t. entries_in (parts_of after t)) tree ∙ ap (λ s. s.entries) v) i;

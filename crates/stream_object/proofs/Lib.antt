@@ -4,7 +4,9 @@ pub mod Clears
 pub mod Copies
 pub mod Exchanging
 pub mod Grows
+pub mod Holdings
 pub mod Later
+pub mod Lighter
 pub mod Loads
 pub mod Losing
 pub mod Marking
@@ -15,6 +17,7 @@ pub mod Passed
 pub mod Picks
 pub mod Rises
 pub mod Shortest
+pub mod Tails
 pub mod Trims
 pub mod Walkings
 pub mod Walks

@@ -63,7 +63,7 @@ loaded_then a b c old mid new es e x y = record {
 pub marked_loaded : (m : Blocks) (old new : Log) (e : Stored) → IsStream m old → IsId e.id → AreBelow e.id (nodes m old) → e.deleted ≡ true → new ≡ record old { last = e.id } → IsChanged m m old new (loaded (stream_of m old) (e ∷ []))
 marked_loaded m old new e is fits below gone now =
     subst (λ s. IsChanged m m old s (loaded (stream_of m old) (e ∷ []))) (sym now) (record {
-      is_stream = record { parts = is.parts; counted = is.counted; fits = fits; upto = upto (nodes m old) below };
+      is_stream = record { parts = is.parts; counted = is.counted; fits = fits; upto = upto (nodes m old) below; kept = is.kept };
       value_is = λ i. record (stream_of m old) { entries = seen i; last = pair_of e.id };
       changes = subst (λ rs. Changes m m rs rs) (sym (refs_are m old.tree (nodes m old) is.parts)) (Changes-same m _ is.parts.owned);
     })

@@ -24,11 +24,15 @@ use Rattle.stream_object.specs.declared.stream.Stream.{Stream as Log}
 use Rattle.stream_object.specs.Parts.{Part, part, stored_in, plain, is_live, live_of, live_in, entries_in, IsNodeOf, IsPart, EndsBefore, Rising, parts_of, HasParts}
 use Rattle.stream_object.specs.Found.{IsNear, Misses, Stands, Becomes, Exchanges}
 use Rattle.stream_object.specs.Node.{IsAt, Lacks}
+use Rattle.stream_object.specs.Tail.{IsKept}
+use Rattle.stream_object.specs.Block.{Holds}
 use Rattle.stream_object.specs.Streams.{nodes, entries, AreUpto, IsStream, IsChanged, stream_of, has_id, greater, without, TakesOut}
 use Rattle.stream_object.proofs.Parts.{parts_are, its_own, refs_are, rising_back}
 use Rattle.stream_object.proofs.Marking.{live-append, live-one, live_around, live_marked, node_ids}
 use Rattle.stream_object.proofs.Exchanging.{stands_block}
+use Rattle.stream_object.proofs.Holdings.{holds_one}
 use Rattle.stream_object.proofs.Grows.{rising_again, entries-append}
+use Rattle.stream_object.proofs.Tails.{IsLeft, kept_beside}
 
 -- the order of ids as pairs is that of their numbers
 pub pair_cmp : (a b : Id) → IsId a → IsId b → id_cmp (a.ms, a.seq) (b.ms, b.seq) ≡ nat_cmp (id_number a) (id_number b)
@@ -263,26 +267,30 @@ module _ (m after : Blocks) (old new : PackedTree) (key : Id) (at : BlockRef) (s
         upto = λ id all. (let split = subst (AreUpto id) s.place all in
             let U : Part → Type 0 = λ x. AllByRecursion (λ f. id_number f.id ≤ id_number id) (stored_in x) in
             all-append U s.before s.after (all-front U s.before (part key at s.bytes ∷ s.after) split) (all-back U s.before (part key at s.bytes ∷ s.after) split).1);
+        front = s.before;
+        stays = refl;
       }
 
   -- the node stays with an entry marked
-  pub stays_marked : (bytes : List ℕ) → HasParts m old (parts_of m old) → IsNodeOf key bytes → entries_of key (texts bytes) ≡ a.before ++ record { id = e.id; deleted = true; pairs = e.pairs } ∷ a.after → Becomes m after old new key at bytes
+  pub stays_marked : (bytes : List ℕ) (new_at : BlockRef) → HasParts m old (parts_of m old) → IsNodeOf key bytes → entries_of key (texts bytes) ≡ a.before ++ record { id = e.id; deleted = true; pairs = e.pairs } ∷ a.after → Becomes m after old new key at bytes new_at
       → TakesOut m after old new s.before s.after (live_of (a.before ++ a.after))
-  stays_marked bytes h is_node now becomes =
+  stays_marked bytes new_at h is_node now becomes =
       let gone : Stored = record { id = e.id; deleted = true; pairs = e.pairs } in
       let was = part key at s.bytes in
       let rising = subst Rising s.place h.rising in
       let rest = (rising_back s.before (was ∷ s.after) rising).0 in
-      let next = becomes s is_node (λ b. rising_again s.before s.after was (part key b bytes) refl (ends_too s.after (part key b bytes) now rest) rising) in
-      let q = part key next.0 bytes in
+      let q = part key new_at bytes in
+      let next = becomes s is_node (rising_again s.before s.after was q refl (ends_too s.after q now rest) rising) in
       record {
         parts = s.before ++ q ∷ s.after;
-        exchanges = next.1;
+        exchanges = next;
         entries_are = entries-append s.before (q ∷ s.after) ∙ ap (λ xs. entries_in s.before ++ (xs ++ entries_in s.after)) (ap live_of now ∙ live_marked a.before a.after e);
         upto = λ id all. (let split = subst (AreUpto id) s.place all in
             let U : Part → Type 0 = λ x. AllByRecursion (λ f. id_number f.id ≤ id_number id) (stored_in x) in
             let back = all-back U s.before (was ∷ s.after) split in
             all-append U s.before (q ∷ s.after) (all-front U s.before (was ∷ s.after) split) (same_ids (λ i. id_number i ≤ id_number id) (entries_of key (texts bytes)) now back.0, back.1));
+        front = s.before ++ q ∷ [];
+        stays = sym (append_assoc s.before (q ∷ []) s.after);
       }
     where
       same_ids : (P : Id → Type 0) (es : List Stored) → es ≡ a.before ++ record { id = e.id; deleted = true; pairs = e.pairs } ∷ a.after → AllByRecursion (λ f. P f.id) (entries_of key (texts s.bytes)) → AllByRecursion (λ f. P f.id) es
@@ -297,11 +305,8 @@ module _ (m after : Blocks) (old new : PackedTree) (key : Id) (at : BlockRef) (s
       ends_too (x ∷ qs) q is all = (same_ids (λ i. id_number i < id_number x.key) (stored_in q) is all.0, ends_too qs q is all.1)
 
 -- the bytes of a node that stands
-pub stands_bytes : (m : Blocks) (tree : PackedTree) (key : Id) (at : BlockRef) (s : Stands (parts_of m tree) key at) → HasParts m tree (parts_of m tree) → (bytes : List ℕ) → m at ≡ Some bytes → bytes ≡ s.bytes
-stands_bytes m tree key at s h bytes is = (let e : Some bytes ≡ Some s.bytes = sym is ∙ stands_block m tree (parts_of m tree) key at h s in cc)
-
-pub stands_node : (m : Blocks) (tree : PackedTree) (key : Id) (at : BlockRef) (s : Stands (parts_of m tree) key at) → HasParts m tree (parts_of m tree) → IsNodeOf key s.bytes
-stands_node m tree key at s h = (all-back (IsPart m) s.before (part key at s.bytes ∷ s.after) (subst (AllByRecursion (IsPart m)) s.place h.each)).0.is_node
+pub stands_bytes : (m : Blocks) (tree : PackedTree) (key : Id) (at : BlockRef) (s : Stands (parts_of m tree) key at) → HasParts m tree (parts_of m tree) → (bytes : List ℕ) → Holds m at bytes → bytes ≡ s.bytes
+stands_bytes m tree key at s h bytes is = holds_one m at bytes s.bytes is (stands_block m tree (parts_of m tree) key at h s)
 
 -- there is an entry
 pub some_there : (m : Blocks) (s : Log) (id : Id) (fits : IsId id) (is : IsStream m s) (p : Part) (n : IsNear false (nodes m s) id p) (index : ℕ) (e : Stored) → IsAt (stored_in p) index e → 0 < length (entries m s)
@@ -336,13 +341,14 @@ module _ (m after : Blocks) (old new : Log) (id : Id) (fits : IsId id) (is : IsS
         length-append (live_in p) (entries_in n.after),
       )
 
-  pub lost : new.len + 1 ≡ old.len → new.last ≡ old.last → (new.deleted.ms, new.deleted.seq) ≡ greater (old.deleted.ms, old.deleted.seq) (id.ms, id.seq) → new.added ≡ old.added → new.groups ≡ old.groups → IsChanged m after old new (without (stream_of m old) id)
-  lost len last deleted added groups = record {
+  pub lost : new.len + 1 ≡ old.len → new.last ≡ old.last → (new.deleted.ms, new.deleted.seq) ≡ greater (old.deleted.ms, old.deleted.seq) (id.ms, id.seq) → new.added ≡ old.added → new.groups ≡ old.groups → IsLeft old.tail new.tail p.key → IsChanged m after old new (without (stream_of m old) id)
+  lost len last deleted added groups tail = record {
     is_stream = record {
       parts = its_own after new.tree t.parts t.exchanges.parts;
       counted = omega (arith, len, is.counted, one_fewer);
       fits = subst IsId (sym last) is.fits;
       upto = subst (λ ps. AreUpto new.last ps) (sym now) (subst (λ i. AreUpto i t.parts) (sym last) (t.upto old.last is.upto));
+      kept = subst (λ ps. IsKept ps new.tail) (sym now) (kept_beside (nodes m old) t.parts n.before t.front n.after p p.key old.tail new.tail refl n.place t.stays is.kept tail);
     };
     value_is = (λ i. record { entries = left i; last = ((last i).ms, (last i).seq); deleted = deleted i; added = added i; groups = groups i })
         ∙ sym (cond-true _ _ _ (found_here id fits m (nodes m old) p is.parts.each is.parts.rising n index e a same));

@@ -15,7 +15,7 @@ use Rattle.stream_node.specs.Entries.{IsNode, entries_of}
 use Rattle.stream_node.specs.Ids.{IsId, id_number}
 use Rattle.stream_node.specs.Appended.{IsAppended, held, appended, pack_len}
 use Rattle.stream_node.specs.Marked.{CanMark, IsMarked, mark_at, marked_spellings}
-use Rattle.stream_node.specs.Room.{IsWritten, alone_len}
+use Rattle.stream_node.specs.Room.{alone_len}
 use Rattle.stream_node.specs.View.{stored}
 use Rattle.stream_node.proofs.Ids.{id_laws}
 use Rattle.stream_node.proofs.Rooms.{room_enough}
@@ -24,6 +24,7 @@ use Rattle.rax_packed.proofs.Entries.{all-append, all-front, all-back}
 use Rattle.stream_object.specs.declared.node.Live.{Live}
 use Rattle.stream_object.specs.Parts.{IsNodeOf, is_live, plain, live_of}
 use Rattle.stream_object.specs.Node.{put, IsGrown, IsAt, IsLive, Lacks, Marks}
+use Rattle.stream_object.proofs.Lighter.{mark_lighter}
 use Rattle.stream_object.proofs.Parts.{between}
 
 -- the ids that are read are ids
@@ -62,7 +63,7 @@ pub live-none : (e : Stored) → e.deleted ≡ true → live_of (e ∷ []) ≡ [
 live-none e h = ap (map plain) (cond-false _ (e ∷ []) [] (ap not h))
 
 -- an entry put in
-module _ (key id : Id) (old new : List ℕ) (pairs : List Pair) (es : List Stored) (app : IsAppended key old new id pairs) (w : AllByRecursion IsWritten (spellings_of old)) (was : held key (texts old) ≡ es) (from : AllByRecursion (λ e. id_number key ≤ id_number e.id) es) (low : id_number key ≤ id_number id) (few : length es < 100) (short : length new ≤ 536870000) where
+module _ (key id : Id) (old new : List ℕ) (pairs : List Pair) (es : List Stored) (app : IsAppended key old new id pairs) (was : held key (texts old) ≡ es) (from : AllByRecursion (λ e. id_number key ≤ id_number e.id) es) (low : id_number key ≤ id_number id) (few : length es < 100) (short : length new ≤ 536870000) where
   entries_now : entries_of key (texts new) ≡ es ++ put id pairs ∷ []
   entries_now = app.entries ∙ ap (λ xs. xs ++ put id pairs ∷ []) was
 
@@ -73,7 +74,6 @@ module _ (key id : Id) (old new : List ℕ) (pairs : List Pair) (es : List Store
       node = app.node;
       some = subst (λ xs. 0 < length (live_of xs)) (sym entries_now) (omega (arith, ap length (live-append es (put id pairs ∷ [])), length-append (live_of es) (plain (put id pairs) ∷ [])));
       few = omega (arith, few, ap length entries_now, length-append es (put id pairs ∷ []));
-      written = subst (AllByRecursion IsWritten) (sym app.spelled) (room_enough.appends key id old pairs w);
       short = short;
       from = subst (AllByRecursion (λ e. id_number key ≤ id_number e.id)) (sym entries_now) (all-append (λ e. id_number key ≤ id_number e.id) es (put id pairs ∷ []) from (low, tt));
     };
@@ -84,7 +84,7 @@ pub joined_grown : (key id : Id) (old new : List ℕ) (pairs : List Pair) → Is
     → length (entries_of key (texts old)) < 100 → length new ≤ 536870000 → IsGrown key (entries_of key (texts old)) new id pairs
 joined_grown key id old new pairs n less app few short =
     let above : id_number key < id_number id = between (entries_of key (texts old)) (id_number key) (id_number id) n.some n.from less in
-    grown key id old new pairs (entries_of key (texts old)) app n.written (held_is key (texts old) n.node) n.from (omega (arith, above)) few short
+    grown key id old new pairs (entries_of key (texts old)) app (held_is key (texts old) n.node) n.from (omega (arith, above)) few short
 
 -- an empty listpack
 none_held : (bytes : List ℕ) → spellings_of bytes ≡ [] → texts bytes ≡ []
@@ -94,7 +94,7 @@ pub begun_grown : (id : Id) (old new : List ℕ) (pairs : List Pair) → spellin
 begun_grown id old new pairs none app short =
     let empty : texts old ≡ [] = none_held old none in
     let size : length new ≡ alone_len id pairs = length-pack new app.pack ∙ ap pack_len app.spelled ∙ room_enough.first id old pairs empty in
-    grown id id old new pairs [] app (subst (AllByRecursion IsWritten) (sym none) tt) (ap (held id) empty) tt (omega arith) (omega arith) (omega (arith, size, short))
+    grown id id old new pairs [] app (ap (held id) empty) tt (omega arith) (omega arith) (omega (arith, size, short))
 
 pub begun_room : (id : Id) (old : List ℕ) (pairs : List Pair) → spellings_of old ≡ [] → alone_len id pairs ≤ 536870000 → pack_len (appended id old id pairs) < 2 ^ 32
 begun_room id old pairs none short = omega (arith, short, room_enough.first id old pairs (none_held old none))
@@ -117,7 +117,7 @@ can_mark key bytes index e n at =
     record { node = n.node; entry = e; there = ap (λ k. slice_get (entries_of key (texts bytes)) k) (sym at.count) ∙ ap (λ es. slice_get es (length at.before)) at.place ∙ get_at at.before at.after e; live = at.live }
 
 pub mark_room : (key : Id) (bytes : List ℕ) (index : ℕ) (e : Stored) → IsNodeOf key bytes → IsAt (entries_of key (texts bytes)) index e → pack_len (marked_spellings bytes index) < 2 ^ 32
-mark_room key bytes index e n at = omega (arith, n.short, room_enough.kept key bytes index n.pack n.written (can_mark key bytes index e n at) n.few (omega (arith, n.short)))
+mark_room key bytes index e n at = omega (arith, n.short, mark_lighter key bytes index n.pack (can_mark key bytes index e n at) n.few (omega (arith, n.short)))
 
 -- the entries around one that is marked
 pub live_around : (xs ys : List Stored) (e : Stored) → e.deleted ≡ false → length (live_of (xs ++ e ∷ ys)) ≡ suc (length (live_of (xs ++ ys)))
@@ -144,7 +144,7 @@ is_marked old new index m key e at n many =
     let gone : Stored = record { id = e.id; deleted = true; pairs = e.pairs } in
     let can = can_mark key old index e n at in
     let now : entries_of key (texts new) ≡ at.before ++ gone ∷ at.after = m.entries key n.node ∙ ap (mark_at es) (sym at.count) ∙ ap (λ xs. mark_at xs (length at.before)) at.place ∙ mark_there at.before at.after e in
-    let size : length new ≡ length old = length-pack new m.pack ∙ ap pack_len m.spelled ∙ room_enough.kept key old index n.pack n.written can n.few (omega (arith, n.short)) in
+    let size : length new ≤ length old = omega (arith, length-pack new m.pack, ap pack_len m.spelled, mark_lighter key old index n.pack can n.few (omega (arith, n.short))) in
     let left : length (live_of es) ≡ suc (length (live_of (at.before ++ at.after))) = ap (λ xs. length (live_of xs)) at.place ∙ live_around at.before at.after e at.live in
     let split = subst (AllByRecursion (λ x. id_number key ≤ id_number x.id)) at.place n.from in
     let front = all-front (λ x. id_number key ≤ id_number x.id) at.before (e ∷ at.after) split in
@@ -154,7 +154,6 @@ is_marked old new index m key e at n many =
         node = m.node key n.node;
         some = omega (arith, many, left, ap (λ xs. length (live_of xs)) now, ap length (live_marked at.before at.after e));
         few = omega (arith, n.few, ap length now, ap length at.place, length-append at.before (gone ∷ at.after), length-append at.before (e ∷ at.after));
-        written = subst (AllByRecursion IsWritten) (sym m.spelled) (room_enough.marks old index n.written);
         short = omega (arith, size, n.short);
         from = subst (AllByRecursion (λ x. id_number key ≤ id_number x.id)) (sym now) (all-append (λ x. id_number key ≤ id_number x.id) at.before (gone ∷ at.after) front (back.0, back.1));
       },

@@ -14,9 +14,12 @@ use Rattle.rax_packed.specs.declared.tree.PackedTree.{PackedTree}
 use Rattle.rax_packed.specs.Trees.{Entry}
 use Rattle.rax_packed.specs.Packed.{order, value_at, nearest, first_of, last_of, or_else}
 use Rattle.rax_packed.specs.Maps as rax
+use Rattle.listpack.specs.Pack.{IsPack}
+use Rattle.stream_object.specs.Block.{Holds}
 use Rattle.stream_object.specs.Parts.{Part, part, IsPart, entry_of, HasParts}
 use Rattle.stream_object.specs.Found.{Reaches, Misses, IsNear, Stands}
-use Rattle.stream_object.proofs.Exchanging.{stands_id, stands_block, stands_value}
+use Rattle.stream_object.proofs.Holdings.{holds_one}
+use Rattle.stream_object.proofs.Exchanging.{stands_id, stands_block, stands_node, stands_value}
 
 -- which entries a search looks at
 abbrev test : Bool → Id → Entry → Bool
@@ -110,12 +113,15 @@ module _ (m : Blocks) (tree : PackedTree) (ps : List Part) (h : HasParts m tree 
   pub found_value : value_at (rax.entries_of m tree) key ≡ Some f.0.at
   found_value = ap (value_at (rax.entries_of m tree)) f.2 ∙ stands_value m tree ps f.0.key f.0.at h stands
 
-  pub found_block : m f.0.at ≡ Some f.0.bytes
+  pub found_block : Holds m f.0.at f.0.bytes
   found_block = stands_block m tree ps f.0.key f.0.at h stands
 
-  pub found_near : (at : BlockRef) (bytes : List ℕ) → Some at ≡ value_at (rax.entries_of m tree) key → m at ≡ Some bytes → IsNear up ps id (part (key_id key) at bytes)
+  pub found_pack : IsPack f.0.bytes
+  found_pack = (stands_node m tree ps f.0.key f.0.at h stands).pack
+
+  pub found_near : (at : BlockRef) (bytes : List ℕ) → Some at ≡ value_at (rax.entries_of m tree) key → Holds m at bytes → IsNear up ps id (part (key_id key) at bytes)
   found_near at bytes is block =
       let same : at ≡ f.0.at = (let e : Some at ≡ Some f.0.at = is ∙ found_value in cc) in
-      let text : bytes ≡ f.0.bytes = (let e : Some bytes ≡ Some f.0.bytes = sym block ∙ ap m same ∙ found_block in cc) in
+      let text : bytes ≡ f.0.bytes = holds_one m f.0.at bytes f.0.bytes (subst (λ a. Holds m a bytes) same block) found_block in
       let name : key_id key ≡ f.0.key = ap key_id f.2 ∙ id_laws.back f.0.key (stands_id m tree ps f.0.key f.0.at h stands) in
       subst (IsNear up ps id) (λ i. part (sym name i) (sym same i) (sym text i)) f.1

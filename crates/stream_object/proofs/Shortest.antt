@@ -111,13 +111,13 @@ text_enough n h = elim (cases_lt (magnitude n) 4096) [
 ]
 
 -- a text, by how long the head of a string of its length is
-pub text_most : (text : List ℕ) (k : ℕ) → 1 ≤ k → length (text_head (length text)) ≤ k → length (spelling text) ≤ k + length text
+text_most : (text : List ℕ) (k : ℕ) → 1 ≤ k → length (text_head (length text)) ≤ k → length (spelling text) ≤ k + length text
 text_most text k some head = elim (number_cases text) [
   | inl none ↦ omega (arith, head, ap length (spelling_as text None none), length-append (text_head (length text)) text)
   | inr is ↦ omega (arith, some, ap length (spelling_as text (Some is.0) is.1), text_enough is.0 is.2, ap length is.3)
 ]
 
-pub head_most : (n : ℕ) → length (text_head n) ≤ 5
+head_most : (n : ℕ) → length (text_head n) ≤ 5
 head_most n = elim (cases_lt n 64) [
   | inl a ↦ omega (arith, ap length (head_short n a))
   | inr a ↦ elim (cases_lt n 4096) [
@@ -249,7 +249,7 @@ module _ (b : ℕ) (more : List ℕ) (own : IsSpelling (b ∷ more)) (all : Byte
     ]
   ]
 
-no_bytes : IsSpelling [] → ⊥
+pub no_bytes : IsSpelling [] → ⊥
 unfolding needed
 no_bytes own = omega (arith, own)
 

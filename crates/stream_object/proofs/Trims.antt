@@ -12,11 +12,13 @@ use Rattle.stream_object.specs.declared.stream.Stream.{Stream as Log}
 use Rattle.stream_object.specs.Parts.{Part, stored_in, plain, live_of, live_in, entries_in}
 use Rattle.stream_object.specs.Found.{IsNear, Exchanges}
 use Rattle.stream_object.specs.Node.{IsAt}
+use Rattle.stream_object.specs.Tail.{IsKept}
 use Rattle.stream_object.specs.Streams.{nodes, entries, refs, AreUpto, IsStream, IsChanged, TakesOut, stream_of, dropping}
 use Rattle.stream_object.proofs.Parts.{parts_are, its_own, refs_are}
 use Rattle.stream_object.proofs.Marking.{live-append, live-one}
 use Rattle.stream_object.proofs.Grows.{entries-append}
 use Rattle.stream_object.proofs.Clears.{none_below}
+use Rattle.stream_object.proofs.Tails.{IsLeft, kept_beside}
 
 drop_front : {X : Type 0} (xs ys : List X) → drop (length xs) (xs ++ ys) ≡ ys
 drop_front [] ys = refl
@@ -32,9 +34,9 @@ drop_more {X} (suc a) b [] = drop_none X b ∙ sym (drop_none X (suc a + b))
 drop_more (suc a) b (x ∷ xs) = let n : suc a + b ≡ suc (a + b) = omega arith in drop_more a b xs ∙ sym (ap (λ k. drop k (x ∷ xs)) n)
 
 -- the stream with these nodes
-pub dropped : (m after : Blocks) (old new : Log) (n : ℕ) (ps : List Part) → IsStream m old → Exchanges m after old.tree new.tree ps → entries_in ps ≡ drop n (entries m old) → AreUpto old.last ps → new.len + n ≡ old.len → new.last ≡ old.last → new.deleted ≡ old.deleted → new.added ≡ old.added → new.groups ≡ old.groups
+pub dropped : (m after : Blocks) (old new : Log) (n : ℕ) (ps : List Part) → IsStream m old → Exchanges m after old.tree new.tree ps → entries_in ps ≡ drop n (entries m old) → AreUpto old.last ps → IsKept ps new.tail → new.len + n ≡ old.len → new.last ≡ old.last → new.deleted ≡ old.deleted → new.added ≡ old.added → new.groups ≡ old.groups
     → IsChanged m after old new (dropping (stream_of m old) n)
-dropped m after old new n ps is ex left upto len last deleted added groups =
+dropped m after old new n ps is ex left upto kept len last deleted added groups =
     let now = parts_are after new.tree ps ex.parts in
     let seen : entries after new ≡ drop n (entries m old) = ap entries_in now ∙ left in
     record {
@@ -43,6 +45,7 @@ dropped m after old new n ps is ex left upto len last deleted added groups =
         counted = omega (arith, len, is.counted, ap length seen, length-drop n (entries m old));
         fits = subst IsId (sym last) is.fits;
         upto = subst (λ qs. AreUpto new.last qs) (sym now) (subst (λ i. AreUpto i ps) (sym last) upto);
+        kept = subst (λ qs. IsKept qs new.tail) (sym now) kept;
       };
       value_is = λ i. record { entries = seen i; last = ((last i).ms, (last i).seq); deleted = ((deleted i).ms, (deleted i).seq); added = added i; groups = groups i };
       changes = ex.changes;
@@ -63,22 +66,22 @@ module _ (m : Blocks) (old : Log) (low : Id) (p : Part) (a : low.ms ≡ 0) (b : 
       all-append U n.before n.after (all-front U n.before (p ∷ n.after) split) (all-back U n.before (p ∷ n.after) split).1
 
   -- all of it goes
-  pub node_dropped : (after : Blocks) (new : Log) (count : ℕ) → count ≡ length (live_in p) → Exchanges m after old.tree new.tree (n.before ++ n.after) → new.len + count ≡ old.len → new.last ≡ old.last → new.deleted ≡ old.deleted → new.added ≡ old.added → new.groups ≡ old.groups
+  pub node_dropped : (after : Blocks) (new : Log) (count : ℕ) → count ≡ length (live_in p) → Exchanges m after old.tree new.tree (n.before ++ n.after) → IsLeft old.tail new.tail p.key → new.len + count ≡ old.len → new.last ≡ old.last → new.deleted ≡ old.deleted → new.added ≡ old.added → new.groups ≡ old.groups
       → IsChanged m after old new (dropping (stream_of m old) count)
-  node_dropped after new count all ex =
+  node_dropped after new count all ex left =
       dropped m after old new count (n.before ++ n.after) is ex
       (entries-append n.before n.after ∙ ap (λ qs. entries_in qs ++ entries_in n.after) none_before ∙ sym (ap (drop count) first_split ∙ ap (λ k. drop k (live_in p ++ entries_in n.after)) all ∙ drop_front (live_in p) (entries_in n.after)))
-      upto_after
+      upto_after (kept_beside (nodes m old) (n.before ++ n.after) n.before n.before n.after p p.key old.tail new.tail refl n.place refl is.kept left)
 
   -- its first entry goes
-  pub first_dropped : (after : Blocks) (new : Log) (index : ℕ) (e : Stored) (at : IsAt (stored_in p) index e) → live_of at.before ≡ [] → TakesOut m after old.tree new.tree n.before n.after (live_of (at.before ++ at.after)) → new.len + 1 ≡ old.len → new.last ≡ old.last → new.deleted ≡ old.deleted → new.added ≡ old.added → new.groups ≡ old.groups
+  pub first_dropped : (after : Blocks) (new : Log) (index : ℕ) (e : Stored) (at : IsAt (stored_in p) index e) → live_of at.before ≡ [] → TakesOut m after old.tree new.tree n.before n.after (live_of (at.before ++ at.after)) → IsLeft old.tail new.tail p.key → new.len + 1 ≡ old.len → new.last ≡ old.last → new.deleted ≡ old.deleted → new.added ≡ old.added → new.groups ≡ old.groups
       → IsChanged m after old new (dropping (stream_of m old) 1)
-  first_dropped after new index e at none t =
+  first_dropped after new index e at none t left =
       let here : live_in p ≡ plain e ∷ live_of at.after = ap live_of at.place ∙ live-append at.before (e ∷ at.after) ∙ ap (λ xs. xs ++ live_of (e ∷ at.after)) none ∙ live-append (e ∷ []) at.after ∙ ap (λ xs. xs ++ live_of at.after) (live-one e at.live) in
       let rest : live_of (at.before ++ at.after) ≡ live_of at.after = live-append at.before at.after ∙ ap (λ xs. xs ++ live_of at.after) none in
       dropped m after old new 1 t.parts is t.exchanges
       (t.entries_are ∙ (λ i. entries_in (none_before i) ++ (rest i ++ entries_in n.after)) ∙ sym (ap (drop 1) (first_split ∙ ap (λ xs. xs ++ entries_in n.after) here)))
-      (t.upto old.last is.upto)
+      (t.upto old.last is.upto) (kept_beside (nodes m old) t.parts n.before t.front n.after p p.key old.tail new.tail refl n.place t.stays is.kept left)
 
   pub node_within : length (live_in p) ≤ old.len
   node_within = omega (arith, is.counted, ap length first_split, length-append (live_in p) (entries_in n.after))

@@ -1,6 +1,6 @@
 -- Keys passed one after the other.
 use Rattle.std.proofs.Common.{◌≡◌, ◌∙◌, ℕ, ◌+◌, ◌<◌, ◌^◌, List, [], ◌∷◌, length, map, refl, sym, ap, subst, inl, inr, arith, length-append}
-use Rattle.std.specs.Prelude.{true}
+use Rattle.std.specs.Prelude.{true, None}
 use Rattle.std.specs.List.{AllByRecursion}
 use Rattle.std.proofs.lemmas.List.{length-map}
 use Rattle.blocks.specs.Blocks.{Blocks}
@@ -24,6 +24,7 @@ use Rattle.stream_object.proofs.Copies.{same_entries, same_upto}
 use Rattle.stream_object.proofs.Movings.{tree_all, same_self}
 use Rattle.stream_object.proofs.Passed.{IsBeside}
 use Rattle.stream_object.proofs.Walks.{keys_after}
+use Rattle.stream_object.proofs.Tails.{kept_none}
 
 same_then : (ps qs rs : List Part) → AreSame ps qs → AreSame qs rs → AreSame ps rs
 same_then [] [] [] x y = tt
@@ -78,8 +79,8 @@ all_small m tree n last h =
     tree_all m tree (parts_of m tree) (λ k. k < n + 1) h (all-weaker (IsPart m) (λ (p : Part). id_number p.key < n + 1) (parts_of m tree) (λ p is. omega (arith, last, is.id.ms, is.id.seq)) h.each)
 
 -- a stream over a tree whose blocks have moved
-pub relocated : (m after : Blocks) (old new : Log) → IsStream m old → Moves m after old.tree new.tree → new.len ≡ old.len → new.last ≡ old.last → new.deleted ≡ old.deleted → new.added ≡ old.added → new.groups ≡ old.groups → IsRelocated m after old new
-relocated m after old new is moves len last deleted added groups =
+pub relocated : (m after : Blocks) (old new : Log) → IsStream m old → Moves m after old.tree new.tree → new.len ≡ old.len → new.last ≡ old.last → new.deleted ≡ old.deleted → new.added ≡ old.added → new.groups ≡ old.groups → new.tail ≡ None → IsRelocated m after old new
+relocated m after old new is moves len last deleted added groups tail =
     let same = same_entries (parts_of m old.tree) (parts_of after new.tree) moves.same in
     record {
       is_stream = record {
@@ -87,6 +88,7 @@ relocated m after old new is moves len last deleted added groups =
         counted = len ∙ is.counted ∙ sym (ap length same);
         fits = subst (λ i. IsId i) (sym last) is.fits;
         upto = subst (λ i. AreUpto i (parts_of after new.tree)) (sym last) (same_upto old.last (parts_of m old.tree) (parts_of after new.tree) moves.same is.upto);
+        kept = kept_none (parts_of after new.tree) new.tail tail;
       };
       value_is = λ i. record { entries = same i; last = ((last i).ms, (last i).seq); deleted = ((deleted i).ms, (deleted i).seq); added = added i; groups = groups i };
       marks_are = moves.marks_are;

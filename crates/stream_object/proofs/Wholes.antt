@@ -1,22 +1,17 @@
 -- Nodes of a file that stand as they are.
 use Rattle.std.proofs.Common.{◌≡◌, ◌∙◌, ℕ, suc, ◌+◌, ◌*◌, ◌^◌, ◌<◌, ◌≤◌, false, List, [], ◌∷◌, ◌++◌, length, map, refl, sym, ap, subst, arith, length-append}
-use Rattle.std.specs.Prelude.{not, Result, Ok, Err, OnErr}
+use Rattle.std.specs.Prelude.{not, Option, Some, None, IfSome, Result, Ok, Err, OnErr}
 use Rattle.std.specs.List.{AllByRecursion, filter}
 use Rattle.std.proofs.lemmas.Bool.{cond-true}
-use Rattle.std.proofs.lemmas.Bool.Decides.{nat_tests}
 use Rattle.std.proofs.lemmas.List.{append-nil, map-append}
 use Rattle.blocks.specs.declared.BlockRef.{BlockRef}
 use Rattle.blocks.specs.Blocks.{Blocks}
-use Rattle.listpack.specs.Edits.{IsEdited}
-use Rattle.listpack.specs.Entry.{back_length}
-use Rattle.listpack.specs.Pack.{spellings_of, texts}
-use Rattle.listpack.specs.Writing.{entry, spelling}
+use Rattle.listpack.specs.Pack.{texts}
 use Rattle.stream_node.specs.declared.entry.Entry.{Entry}
 use Rattle.stream_node.specs.declared.id.Id.{Id}
 use Rattle.stream_node.specs.Entries.{entries_of}
 use Rattle.stream_node.specs.Entry.{Stored}
 use Rattle.stream_node.specs.Ids.{IsId, id_number}
-use Rattle.stream_node.specs.Room.{IsWritten}
 use Rattle.stream_node.specs.View.{stored}
 use Rattle.rax_packed.proofs.Entries.{all-append, all-weaker}
 use Rattle.stream_object.specs.declared.stream.Stream.{Stream as Log}
@@ -24,32 +19,12 @@ use Rattle.stream_object.specs.Found.{Comes, Exchanges}
 use Rattle.stream_object.specs.Loading.{AreLiveUpto, IsFileNode, last_of, loaded}
 use Rattle.stream_object.specs.Parts.{Part, part, stored_in, is_live, plain, live_of, entries_in}
 use Rattle.stream_object.specs.Streams.{AreBelow, AreUpto, IsChanged, IsStream, entries, nodes, pair_of, stream_of}
-use Rattle.stream_object.specs.Whole.{IsSpelled, IsWhole, MayStand}
+use Rattle.stream_object.specs.Whole.{IsWhole, MayStand}
+use Rattle.stream_object.specs.Tail.{IsTail, IsKept}
 use Rattle.stream_object.proofs.Grows.{entries-append, rising_push}
 use Rattle.stream_object.proofs.Loads.{last-append}
 use Rattle.stream_object.proofs.Losing.{Sorted, node_sorted}
 use Rattle.stream_object.proofs.Parts.{its_own, parts_are}
-use Rattle.stream_object.proofs.Shortest.{head_most, text_most}
-
--- an element takes few bytes beside its text
-back_most : (n : ℕ) → length (back_length n) ≤ 5
-unfolding back_length
-back_most n = grind (arith, nat_tests)
-
-pub entry_most : (text : List ℕ) → length (entry text) ≤ length text + 10
-entry_most text =
-    let s = spelling text in
-    omega (arith, text_most text 5 (omega arith) (head_most (length text)), back_most (length s), length-append s (back_length (length s)))
-
--- a text put behind elements that a writer has spelled
-pub spelled_more : (old new text : List ℕ) (count : ℕ) → IsSpelled old → IsEdited new (spellings_of old ++ spelling text ∷ []) count → IsSpelled new
-spelled_more old new text count is e = record {
-  pack = e.pack;
-  each = subst (AllByRecursion IsWritten) (sym e.entries) (all-append IsWritten (spellings_of old) (spelling text ∷ []) is.each ((text, refl), tt));
-}
-
-pub spelled_none : (new : List ℕ) (count : ℕ) → IsEdited new [] count → IsSpelled new
-spelled_none new count e = record { pack = e.pack; each = subst (AllByRecursion IsWritten) (sym e.entries) tt }
 
 -- one entry more of those that may stand, which is the last one then
 pub stand_more : (key : Id) (xs : List Entry) (x : Entry) → AllByRecursion (MayStand key) (map stored xs) → MayStand key (stored x) → AllByRecursion (MayStand key) (map stored (xs ++ x ∷ []))
@@ -92,8 +67,8 @@ last_whatever a b (e ∷ es) some = refl
 
 -- what the tests tell of a node
 pub whole_node : (key : Id) (bytes : List ℕ) (last : Id) → IsFileNode key bytes → 0 < length (entries_of key (texts bytes)) → length (entries_of key (texts bytes)) ≤ 100 → AllByRecursion (MayStand key) (entries_of key (texts bytes))
-    → pair_of last ≡ last_of (pair_of key) (entries_of key (texts bytes)) → AllByRecursion IsWritten (spellings_of bytes) → IsWhole key bytes last
-whole_node key bytes last f some few stand end written =
+    → pair_of last ≡ last_of (pair_of key) (entries_of key (texts bytes)) → IsWhole key bytes last
+whole_node key bytes last f some few stand end =
     let es = entries_of key (texts bytes) in
     let live = all-weaker (MayStand key) (λ (e : Stored). e.deleted ≡ false) es (λ e h. h.0) stand in
     record {
@@ -102,7 +77,6 @@ whole_node key bytes last f some few stand end written =
         node = f.node;
         some = omega (arith, some, live_count es live);
         few = few;
-        written = written;
         short = f.short;
         from = all-weaker (MayStand key) (λ (e : Stored). id_number key ≤ id_number e.id) es (λ e h. h.1) stand;
       };
@@ -110,16 +84,20 @@ whole_node key bytes last f some few stand end written =
       last_is = end;
     }
 
--- a node placed behind all others as it is
-module _ (m after : Blocks) (old new : Log) (key : Id) (bytes : List ℕ) (last : Id) (is : IsStream m old) (below : AreBelow key (nodes m old)) (w : IsWhole key bytes last) (comes : Comes m after old.tree new.tree key bytes) where
-  placed : (at : BlockRef) × Exchanges m after old.tree new.tree (nodes m old ++ part key at bytes ∷ [])
-  placed = comes w.is_node (λ at. rising_push (nodes m old) (part key at bytes) is.parts.rising below)
+pub some_both : {X : Type 0} {P Q R : X → Type 0} (o : Option X) → ((x : X) → P x → Q x → R x) → IfSome o P → IfSome o Q → IfSome o R
+some_both (Some x) f p q = f x p q
+some_both None f p q = tt
 
-  now : nodes after new ≡ nodes m old ++ part key placed.0 bytes ∷ []
-  now = parts_are after new.tree (nodes m old ++ part key placed.0 bytes ∷ []) placed.1.parts
+-- a node placed behind all others as it is
+module _ (m after : Blocks) (old new : Log) (key : Id) (bytes : List ℕ) (last : Id) (is : IsStream m old) (below : AreBelow key (nodes m old)) (w : IsWhole key bytes last) (at : BlockRef) (comes : Comes m after old.tree new.tree key bytes at) where
+  placed : Exchanges m after old.tree new.tree (nodes m old ++ part key at bytes ∷ [])
+  placed = comes w.is_node (rising_push (nodes m old) (part key at bytes) is.parts.rising below)
+
+  now : nodes after new ≡ nodes m old ++ part key at bytes ∷ []
+  now = parts_are after new.tree (nodes m old ++ part key at bytes ∷ []) placed.parts
 
   seen : entries after new ≡ entries m old ++ live_of (entries_of key (texts bytes))
-  seen = ap entries_in now ∙ entries-append (nodes m old) (part key placed.0 bytes ∷ []) ∙ ap (λ xs. entries m old ++ xs) (append-nil (live_of (entries_of key (texts bytes))))
+  seen = ap entries_in now ∙ entries-append (nodes m old) (part key at bytes ∷ []) ∙ ap (λ xs. entries m old ++ xs) (append-nil (live_of (entries_of key (texts bytes))))
 
   some : 0 < length (entries_of key (texts bytes))
   some = omega (arith, w.is_node.some, live_count (entries_of key (texts bytes)) w.live)
@@ -127,30 +105,31 @@ module _ (m after : Blocks) (old new : Log) (key : Id) (bytes : List ℕ) (last 
   high : AllByRecursion (λ e. id_number e.id ≤ id_number last) (entries_of key (texts bytes))
   high = last_highest (entries_of key (texts bytes)) (pair_of key) last (node_sorted key (texts bytes) w.is_node.node) w.last_is
 
-  upto : AreUpto last (nodes m old ++ part key placed.0 bytes ∷ [])
+  upto : AreUpto last (nodes m old ++ part key at bytes ∷ [])
   upto =
-      all-append (λ (p : Part). AllByRecursion (λ e. id_number e.id ≤ id_number last) (stored_in p)) (nodes m old) (part key placed.0 bytes ∷ [])
+      all-append (λ (p : Part). AllByRecursion (λ e. id_number e.id ≤ id_number last) (stored_in p)) (nodes m old) (part key at bytes ∷ [])
       (below_upto key last (nodes m old) (from_last (entries_of key (texts bytes)) key last some w.is_node.from high) below) (high, tt)
 
-  pub whole_loaded : IsId last → new.len ≡ old.len + length (entries_of key (texts bytes)) → new.last ≡ last → new.deleted ≡ old.deleted → new.added ≡ old.added → new.groups ≡ old.groups → IsChanged m after old new (loaded (stream_of m old) (entries_of key (texts bytes)))
-  whole_loaded fits len end deleted count groups =
+  pub whole_loaded : IsId last → new.len ≡ old.len + length (entries_of key (texts bytes)) → new.last ≡ last → new.deleted ≡ old.deleted → new.added ≡ old.added → new.groups ≡ old.groups → new.tail ≡ Some (record { key = key; at = at }) → IsChanged m after old new (loaded (stream_of m old) (entries_of key (texts bytes)))
+  whole_loaded fits len end deleted count groups tail =
       let es = entries_of key (texts bytes) in
       let last_now : pair_of new.last ≡ last_of (pair_of old.last) es = ap pair_of end ∙ w.last_is ∙ last_whatever (pair_of key) (pair_of old.last) es some in
       record {
         is_stream = record {
-          parts = its_own after new.tree (nodes m old ++ part key placed.0 bytes ∷ []) placed.1.parts;
+          parts = its_own after new.tree (nodes m old ++ part key at bytes ∷ []) placed.parts;
           counted = omega (arith, len, is.counted, ap length seen, length-append (entries m old) (live_of es), live_count es w.live);
           fits = subst IsId (sym end) fits;
-          upto = subst (λ ps. AreUpto new.last ps) (sym now) (subst (λ i. AreUpto i (nodes m old ++ part key placed.0 bytes ∷ [])) (sym end) upto);
+          upto = subst (λ ps. AreUpto new.last ps) (sym now) (subst (λ i. AreUpto i (nodes m old ++ part key at bytes ∷ [])) (sym end) upto);
+          kept = subst (IsKept (nodes after new)) (sym tail) (subst (λ ps. IsTail ps (record { key = key; at = at })) (sym now) (bytes, record { before = nodes m old; place = refl }));
         };
         value_is = λ i. record { entries = seen i; last = last_now i; deleted = ((deleted i).ms, (deleted i).seq); added = count i; groups = groups i };
-        changes = placed.1.changes;
+        changes = placed.changes;
       }
 
   pub whole_upto : (id : Id) → AreUpto id (nodes m old) → AreLiveUpto id (entries_of key (texts bytes)) → AreUpto id (nodes after new)
   whole_upto id before live =
       subst (AreUpto id) (sym now)
-      (all-append (λ (p : Part). AllByRecursion (λ e. id_number e.id ≤ id_number id) (stored_in p)) (nodes m old) (part key placed.0 bytes ∷ []) before (live_upto id (entries_of key (texts bytes)) w.live live, tt))
+      (all-append (λ (p : Part). AllByRecursion (λ e. id_number e.id ≤ id_number id) (stored_in p)) (nodes m old) (part key at bytes ∷ []) before (live_upto id (entries_of key (texts bytes)) w.live live, tt))
 
 -- what two things that a refusal tells make together
 pub on_err : {A E P Q R : Type 0} (r : Result A E) → (P → Q → R) → OnErr r P → OnErr r Q → OnErr r R

@@ -48,16 +48,15 @@ pub record Exchanges (m after : Blocks) (old new : PackedTree) (ps : List Part) 
   pub parts : HasParts after new ps
   pub changes : Changes m after (all_refs m old) (all_refs after new)
 
--- A node of these bytes has come behind all others.
-abbrev pub Comes : Blocks → Blocks → PackedTree → PackedTree → Id → List ℕ → Type 0
-Comes m after old new key bytes =
+-- A node of these bytes has come behind all others, in this block.
+abbrev pub Comes : Blocks → Blocks → PackedTree → PackedTree → Id → List ℕ → BlockRef → Type 0
+Comes m after old new key bytes at =
     let ps = parts_of m old in
-    IsNodeOf key bytes → ((at : BlockRef) → Rising (ps ++ part key at bytes ∷ []))
-    → (at : BlockRef) × Exchanges m after old new (ps ++ part key at bytes ∷ [])
+    IsNodeOf key bytes → Rising (ps ++ part key at bytes ∷ []) → Exchanges m after old new (ps ++ part key at bytes ∷ [])
 
--- A node has these bytes now, wherever it stands among the others.
-abbrev pub Becomes : Blocks → Blocks → PackedTree → PackedTree → Id → BlockRef → List ℕ → Type 0
-Becomes m after old new key was bytes =
+-- A node has these bytes now, in this block, wherever it stands among the others.
+abbrev pub Becomes : Blocks → Blocks → PackedTree → PackedTree → Id → BlockRef → List ℕ → BlockRef → Type 0
+Becomes m after old new key was bytes at =
     (s : Stands (parts_of m old) key was) → IsNodeOf key bytes
-    → ((at : BlockRef) → Rising (s.before ++ part key at bytes ∷ s.after))
-    → (at : BlockRef) × Exchanges m after old new (s.before ++ part key at bytes ∷ s.after)
+    → Rising (s.before ++ part key at bytes ∷ s.after)
+    → Exchanges m after old new (s.before ++ part key at bytes ∷ s.after)

@@ -1,4 +1,5 @@
 pub mod Below
+pub mod Block
 pub mod Copied
 pub mod Found
 pub mod Groups
@@ -10,4 +11,5 @@ pub mod Parts
 pub mod Ranges
 pub mod Relocation
 pub mod Streams
+pub mod Tail
 pub mod Whole

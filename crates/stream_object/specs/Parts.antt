@@ -1,20 +1,20 @@
 -- The nodes of a stream as they stand in blocks. (Redis, t_stream.c: a radix tree from ids to listpacks of entries.)
-use Rattle.std.specs.Prelude.{◌≡◌, ℕ, Bool, ◌<◌, ◌≤◌, not, List, [], ◌∷◌, ◌++◌, length, map, Some}
+use Rattle.std.specs.Prelude.{◌≡◌, ℕ, Bool, ◌<◌, ◌≤◌, not, List, [], ◌∷◌, ◌++◌, length, map}
 use Rattle.std.specs.List.{filter, flat_map, AllByRecursion}
 use Rattle.blocks.specs.declared.BlockRef.{BlockRef}
 use Rattle.blocks.specs.Blocks.{Blocks, Owned, bytes_at}
-use Rattle.listpack.specs.Pack.{IsPack, texts, spellings_of}
+use Rattle.listpack.specs.Pack.{IsPack, texts}
 use Rattle.stream_node.specs.declared.id.Id.{Id}
 use Rattle.stream_node.specs.Entry.{Stored}
 use Rattle.stream_node.specs.Entries.{IsNode, entries_of}
-use Rattle.stream_node.specs.Room.{IsWritten}
 use Rattle.stream_node.specs.Ids.{IsId, id_number, id_key, key_id}
 use Rattle.rax_packed.specs.declared.tree.PackedTree.{PackedTree}
 use Rattle.rax_packed.specs.Trees.{Entry}
 use Rattle.rax_packed.specs.Maps as rax
 use Rattle.plain_world.specs.Streams.{StreamEntry}
+use Rattle.stream_object.specs.Block.{Holds, pack_in}
 
--- a node: its key, the block that it stands in, and that block's bytes
+-- a node: its key, the block that it stands in, and its bytes
 pub record Part : Type 0 where
   pub key : Id
   pub at : BlockRef
@@ -45,21 +45,20 @@ live_in p = live_of (stored_in p)
 abbrev pub entries_in : List Part → List StreamEntry
 entries_in ps = flat_map live_in ps
 
--- The bytes are a stream node of this key that has an entry which isn't deleted, and at most 100 entries, each spelled as a
--- writer spells it. No node is longer than 536,870,000 bytes.
+-- The bytes are a stream node of this key that has an entry which isn't deleted, and at most 100 entries, each spelled in any
+-- way. No node is longer than 536,870,000 bytes.
 pub record IsNodeOf (key : Id) (bytes : List ℕ) : Type 0 where
   pub pack : IsPack bytes
   pub node : IsNode key (texts bytes)
   pub some : 0 < length (live_of (entries_of key (texts bytes)))
   pub few : length (entries_of key (texts bytes)) ≤ 100
-  pub written : AllByRecursion IsWritten (spellings_of bytes)
   pub short : length bytes ≤ 536870000
   pub from : AllByRecursion (λ e. id_number key ≤ id_number e.id) (entries_of key (texts bytes))
 
--- The node stands in its block.
+-- The node stands in its block, which may go on behind it.
 pub record IsPart (m : Blocks) (p : Part) : Type 0 where
   pub id : IsId p.key
-  pub block : m p.at ≡ Some p.bytes
+  pub block : Holds m p.at p.bytes
   pub is_node : IsNodeOf p.key p.bytes
 
 -- all entries of a node are below a later node's key
@@ -76,7 +75,7 @@ abbrev pub entry_of : Part → Entry
 entry_of p = record { key = id_key p.key; value = p.at }
 
 abbrev pub part_of : Blocks → Entry → Part
-part_of m e = record { key = key_id e.key; at = e.value; bytes = bytes_at m e.value }
+part_of m e = record { key = key_id e.key; at = e.value; bytes = pack_in (bytes_at m e.value) }
 
 abbrev pub refs_of : List Part → List BlockRef
 refs_of ps = map (λ (p : Part). p.at) ps

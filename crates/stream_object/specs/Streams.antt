@@ -20,6 +20,8 @@ use Rattle.stream_object.specs.declared.fault.AddFault.TheVariants as faults
 use Rattle.stream_object.specs.Parts.{Part, stored_in, plain, live_of, entries_in, parts_of, all_refs, HasParts}
 use Rattle.stream_object.specs.Found.{Stands, Exchanges}
 use Rattle.stream_object.specs.Node.{put, IsAt}
+use Rattle.stream_object.specs.declared.tail.Tail.{Tail}
+use Rattle.stream_object.specs.Tail.{IsTail, IsKept}
 
 abbrev pub nodes : Blocks → Log → List Part
 nodes m s = parts_of m s.tree
@@ -56,12 +58,13 @@ AreUpto id ps = AllByRecursion (λ p. AllByRecursion (λ e. id_number e.id ≤ i
 abbrev pub AreBelow : Id → List Part → Type 0
 AreBelow id ps = AllByRecursion (λ p. AllByRecursion (λ e. id_number e.id < id_number id) (stored_in p)) ps
 
--- The stream owns its blocks, which hold its nodes, and has so many entries as it counts.
+-- The stream owns its blocks, which hold its nodes, and has so many entries as it counts. The last node that it keeps is that.
 pub record IsStream (m : Blocks) (s : Log) : Type 0 where
   pub parts : HasParts m s.tree (nodes m s)
   pub counted : s.len ≡ length (entries m s)
   pub fits : IsId s.last
   pub upto : AreUpto s.last (nodes m s)
+  pub kept : IsKept (nodes m s) s.tail
 
 -- The stream has this value now, over the blocks that it owns.
 pub record IsChanged (m after : Blocks) (old new : Log) (value : Stream) : Type 0 where
@@ -120,20 +123,23 @@ abbrev pub Refuses : Id → Id → AddFault → Type 0
 Refuses last id (faults.NotAbove told) = (told ≡ last) × (IsBelow last id → ⊥)
 Refuses last id faults.Memory = IsBelow last id
 
--- The nodes of a tree have one entry more, behind all others.
-pub record Grows (m after : Blocks) (old new : PackedTree) (id : Id) (pairs : List Pair) : Type 0 where
+-- The nodes of a tree have one entry more, behind all others, and this is the last of them.
+pub record Grows (m after : Blocks) (old new : PackedTree) (id : Id) (pairs : List Pair) (tail : Tail) : Type 0 where
   pub parts : List Part
   pub exchanges : Exchanges m after old new parts
   pub entries_are : entries_in parts ≡ entries_in (parts_of m old) ++ plain (put id pairs) ∷ []
   pub upto : AreUpto id parts
+  pub ends : IsTail parts tail
 
--- The nodes of a tree have lost what stood among them, but for these entries.
+-- The nodes of a tree have lost what stood among them, but for these entries. Those behind stay as they are.
 pub record TakesOut (m after : Blocks) (old new : PackedTree) (before behind : List Part) (left : List StreamEntry)
     : Type 0 where
   pub parts : List Part
   pub exchanges : Exchanges m after old new parts
   pub entries_are : entries_in parts ≡ entries_in before ++ (left ++ entries_in behind)
   pub upto : (id : Id) → AreUpto id (parts_of m old) → AreUpto id parts
+  pub front : List Part
+  pub stays : parts ≡ front ++ behind
 
 -- An entry of the node that stands there has gone.
 abbrev pub Loses : Blocks → Blocks → PackedTree → PackedTree → Id → BlockRef → ℕ → Type 0

@@ -1,20 +1,14 @@
 -- Nodes of a file that may stand in a stream as they are.
 use Rattle.std.specs.Prelude.{◌≡◌, ℕ, ◌≤◌, false, List}
 use Rattle.std.specs.List.{AllByRecursion}
-use Rattle.listpack.specs.Pack.{IsPack, texts, spellings_of}
+use Rattle.listpack.specs.Pack.{texts}
 use Rattle.stream_node.specs.declared.id.Id.{Id}
 use Rattle.stream_node.specs.Entry.{Stored}
 use Rattle.stream_node.specs.Entries.{entries_of}
 use Rattle.stream_node.specs.Ids.{id_number}
-use Rattle.stream_node.specs.Room.{IsWritten}
 use Rattle.stream_object.specs.Loading.{last_of}
 use Rattle.stream_object.specs.Parts.{IsNodeOf}
 use Rattle.stream_object.specs.Streams.{pair_of}
-
--- The bytes are a listpack whose elements are spelled as a writer spells them.
-pub record IsSpelled (bytes : List ℕ) : Type 0 where
-  pub pack : IsPack bytes
-  pub each : AllByRecursion IsWritten (spellings_of bytes)
 
 -- an entry isn't marked deleted, and isn't below its node's key
 abbrev pub MayStand : Id → Stored → Type 0

@@ -62,6 +62,7 @@ impl Stream {
             deleted: self.deleted,
             added: self.added,
             groups,
+            tail: None,
         })
     }
 }

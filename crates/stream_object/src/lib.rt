@@ -3,6 +3,7 @@
 
 mod again;
 mod below;
+mod block;
 mod clearing;
 mod copying;
 mod delivering;
@@ -23,6 +24,7 @@ mod relocating;
 mod removing;
 mod spot;
 mod stream;
+mod tail;
 mod trimming;
 mod wanted;
 mod whole;

@@ -1,6 +1,6 @@
 // Nodes of a file put behind all entries.
 
-ghost use Rattle.std.specs.Prelude.{◌≡◌, ◌↔◌, ◌<◌, ◌≤◌, ◌∷◌, [], ℕ, length, take, IsTrue, IfOk, IfSome, OnOk, OnErr};
+ghost use Rattle.std.specs.Prelude.{◌≡◌, ◌↔◌, ◌<◌, ◌≤◌, ◌∷◌, [], ℕ, length, take, IsTrue, IfSome, OnOk, OnErr};
 ghost use Rattle.std.specs.List.{AllByRecursion};
 ghost use Rattle.blocks.specs.Blocks.{Blocks, Served};
 ghost use Rattle.listpack.specs.Pack.{texts};
@@ -17,6 +17,7 @@ use crate::Memory;
 use crate::node::entries;
 use crate::nodes::put_last;
 use crate::stream::Stream;
+use crate::tail::Tail;
 use crate::whole::{end_of, listed};
 use blocks::BlockStore;
 use std::alloc::AllocError;
@@ -100,22 +101,23 @@ impl Stream {
         let Some(len) = self.len.checked_add(count) else {
             return Err(AllocError);
         };
-        put_last(store, &mut self.tree, key, pack)?;
+        let at = put_last(store, &mut self.tree, key, pack)?;
+        self.tail = Some(Tail { key, at });
         self.len = len;
         self.last = last;
         Ok(())
     }
 
     // The id of the last entry of a file's node, where the node may stand behind all others as it is.
-    fn end_behind(&self, key: Id, pack: &[u8]) -> Result<Option<Id>, Memory>
+    fn end_behind(&self, key: Id, pack: &[u8]) -> Option<Id>
         requires { IsFileNode key pack.now }
-        ensures whole { IfOk result (λ end. IfSome end (λ last. IsWhole key pack.now last)) }
-        ensures below { IfOk result (λ end. IfSome end (λ _. IsBelow self.now.last key)) }
+        ensures whole { IfSome result (λ last. IsWhole key pack.now last) }
+        ensures below { IfSome result (λ _. IsBelow self.now.last key) }
     {
         if self.last.is_below(key) {
-            end_of(self.alloc, key, pack)
+            end_of(key, pack)
         } else {
-            Ok(None)
+            None
         }
     }
 
@@ -124,9 +126,8 @@ impl Stream {
     /// deleted takes no block. Its entries that are marked deleted bound nothing: the nodes are up to each id then that both the
     /// nodes before and the node's other entries were up to.
     ///
-    /// A node that may stand as it is becomes one of the stream's: its key is above the last id and not above its first entry, it
-    /// has at most 100 entries, none of them marked deleted, and each element is spelled as a writer spells it. Else its
-    /// entries are put in one by one, as `add` writes them.
+    /// A node that may stand as it is becomes one of the stream's: its key is above the last id and not above its first entry, and
+    /// it has at most 100 entries, none of them marked deleted. Else its entries are put in one by one, as `add` writes them.
     ///
     /// All ids of the node are to be above those of all entries that the stream's nodes hold. After `Memory` the first entries of
     /// the node may be there.
@@ -144,7 +145,7 @@ impl Stream {
         ensures served { Served B.step store.old store.new }
         ensures err_some { OnErr result ((n : ℕ) × (n ≤ length (entries_of key (texts pack.now))) × IsChanged (B.blocks store.old) (B.blocks store.new) self.old self.new (loaded (stream_of (B.blocks store.old) self.old) (take n (entries_of key (texts pack.now))))) }
     {
-        match self.end_behind(key, pack)? {
+        match self.end_behind(key, pack) {
             Some(last) => self.load_whole(store, key, pack, last),
             None => self.load_each(store, key, pack),
         }

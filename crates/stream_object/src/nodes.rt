@@ -1,6 +1,6 @@
 // The nodes of a stream, each in a block that a tree names by the node's key.
 
-ghost use Rattle.std.specs.Prelude.{◌≡◌, ◌++◌, IfSome, IfNone, OnOk, OnErr};
+ghost use Rattle.std.specs.Prelude.{◌≡◌, ◌++◌, IfOk, IfSome, IfNone, OnErr};
 ghost use Rattle.std.specs.List.{AllByRecursion};
 ghost use Rattle.std.specs.Option.{option_map};
 ghost use Rattle.blocks.specs.Blocks.{Served};
@@ -11,8 +11,9 @@ ghost use Rattle.stream_object.specs.Parts.{HasParts, parts_of};
 ghost use Rattle.stream_object.specs.Found.{IsNear, Misses, Stands, Comes, Becomes, Exchanges, part_at};
 
 use crate::Memory;
+use crate::block::{node_in, place_node};
 use crate::spot::Spot;
-use blocks::{BlockRef, BlockStore, put_block};
+use blocks::{BlockRef, BlockStore};
 use rax_packed::PackedTree;
 use stream_node::Id;
 
@@ -56,28 +57,28 @@ pub(crate) fn near<'a, B: BlockStore>(
         Some(at) => Some(Spot {
             key: Id::of_key(&key),
             at,
-            bytes: store.bytes(at),
+            bytes: node_in(store, at),
         }),
         None => unreachable!(),
     }
 }
 
-/// Places a node of these bytes behind all others. `Memory` leaves all as before.
+/// Places a node of these bytes behind all others, and answers its block. `Memory` leaves all as before.
 pub(crate) fn put_last<B: BlockStore>(
     store: &mut B,
     tree: &mut PackedTree,
     key: Id,
     bytes: &[u8],
-) -> Result<(), Memory>
+) -> Result<BlockRef, Memory>
     requires parts { HasParts (B.blocks store.old) tree.old (parts_of (B.blocks store.old) tree.old) }
-    ensures placed { OnOk result (Comes (B.blocks store.old) (B.blocks store.new) tree.old tree.new key bytes.now) }
+    ensures placed { IfOk result (Comes (B.blocks store.old) (B.blocks store.new) tree.old tree.new key bytes.now) }
     ensures served { Served B.step store.old store.new }
     ensures err_tree { OnErr result (tree.new ≡ tree.old) }
     ensures err_blocks { OnErr result (B.blocks store.new ≡ B.blocks store.old) }
 {
-    let at = put_block(store, bytes)?;
+    let at = place_node(store, bytes)?;
     match tree.insert(store, &key.key(), at) {
-        Ok(_) => Ok(()),
+        Ok(_) => Ok(at),
         Err(refused) => {
             store.give_back(at);
             Err(refused)
@@ -85,25 +86,30 @@ pub(crate) fn put_last<B: BlockStore>(
     }
 }
 
-/// Places a block of these bytes for a node, in the place of the one that it has. `Memory` leaves all as before.
+/// Gives a node these bytes, in the block that it has where they have room there, else in another one in its place. Answers the
+/// block. `Memory` leaves all as before.
 pub(crate) fn replace<B: BlockStore>(
     store: &mut B,
     tree: &mut PackedTree,
     key: Id,
     was: BlockRef,
     bytes: &[u8],
-) -> Result<(), Memory>
+) -> Result<BlockRef, Memory>
     requires parts { HasParts (B.blocks store.old) tree.old (parts_of (B.blocks store.old) tree.old) }
     requires stands { Stands (parts_of (B.blocks store.old) tree.old) key was }
-    ensures replaced { OnOk result (Becomes (B.blocks store.old) (B.blocks store.new) tree.old tree.new key was bytes.now) }
+    ensures replaced { IfOk result (Becomes (B.blocks store.old) (B.blocks store.new) tree.old tree.new key was bytes.now) }
     ensures served { Served B.step store.old store.new }
     ensures err_tree { OnErr result (tree.new ≡ tree.old) }
     ensures err_blocks { OnErr result (B.blocks store.new ≡ B.blocks store.old) }
 {
-    let at = put_block(store, bytes)?;
+    if bytes.len() <= store.bytes(was).len() {
+        store.write(was, 0, bytes);
+        return Ok(was);
+    }
+    let at = place_node(store, bytes)?;
     tree.set(store, &key.key(), at);
     store.give_back(was);
-    Ok(())
+    Ok(at)
 }
 
 /// Takes a node out, and gives its block back.

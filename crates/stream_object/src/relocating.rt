@@ -81,6 +81,8 @@ impl Stream {
         ensures bounded { IsBounded (marks (B.blocks store.old) self.old) from room result }
         ensures calmer { Calmer (B.heap store.old) (B.heap store.new) }
     {
-        pass_keys(store, &mut self.tree, from, room)
+        let moved = pass_keys(store, &mut self.tree, from, room);
+        self.tail = None;
+        moved
     }
 }

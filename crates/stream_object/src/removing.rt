@@ -1,6 +1,6 @@
 // Entries taken out.
 
-ghost use Rattle.std.specs.Prelude.{◌≡◌, IfOk, OnOk, OnErr, Ok, false};
+ghost use Rattle.std.specs.Prelude.{◌≡◌, ◌<◌, IfOk, OnOk, OnErr, Ok, false, length};
 ghost use Rattle.std.specs.List.{list_any};
 ghost use Rattle.blocks.specs.Blocks.{Served};
 ghost use Rattle.listpack.specs.Pack.{texts};
@@ -8,21 +8,46 @@ ghost use Rattle.stream_node.specs.Entry.{Stored};
 ghost use Rattle.stream_node.specs.Entries.{entries_of};
 ghost use Rattle.stream_object.specs.Found.{Stands};
 ghost use Rattle.stream_object.specs.Node.{IsAt};
-ghost use Rattle.stream_object.specs.Parts.{HasParts, parts_of};
+ghost use Rattle.stream_object.specs.Parts.{HasParts, live_of, parts_of};
 ghost use Rattle.stream_object.specs.Streams.{IsChanged, IsStream, Loses, entries, greater, has_id, stream_of, without};
 
 use crate::Memory;
+use crate::block::node_in;
 use crate::node::{count_live, find, marked};
 use crate::nodes::{drop_node, near, replace};
 use crate::spot::Spot;
 use crate::stream::Stream;
+use crate::tail::beside;
 use blocks::{BlockRef, BlockStore};
 use rax_packed::PackedTree;
 use std::alloc::Global;
 use stream_node::Id;
 
-/// Marks an entry of a node deleted, or where it is the last one takes the node out. `Memory` leaves all as before.
-pub(crate) fn take_out<B: BlockStore>(
+/// Marks an entry of a node deleted that has others. `Memory` leaves all as before.
+pub(crate) fn mark_out<B: BlockStore>(
+    alloc: Global,
+    store: &mut B,
+    tree: &mut PackedTree,
+    key: Id,
+    at: BlockRef,
+    index: usize,
+) -> Result<(), Memory>
+    requires parts { HasParts (B.blocks store.old) tree.old (parts_of (B.blocks store.old) tree.old) }
+    requires stands { (s : Stands (parts_of (B.blocks store.old) tree.old) key at) × ((e : Stored) × IsAt (entries_of key (texts s.bytes)) index e) }
+    requires others { (s : Stands (parts_of (B.blocks store.old) tree.old) key at) → 1 < length (live_of (entries_of key (texts s.bytes))) }
+    ensures loses { OnOk result (Loses (B.blocks store.old) (B.blocks store.new) tree.old tree.new key at index) }
+    ensures served { Served B.step store.old store.new }
+    ensures err_tree { OnErr result (tree.new ≡ tree.old) }
+    ensures err_blocks { OnErr result (B.blocks store.new ≡ B.blocks store.old) }
+{
+    let bytes = node_in(store, at);
+    let pack = marked(alloc, bytes, index)?;
+    replace(store, tree, key, at, &pack)?;
+    Ok(())
+}
+
+// Marks an entry of a node deleted, or where it is the last one takes the node out. `Memory` leaves all as before.
+fn take_out<B: BlockStore>(
     alloc: Global,
     store: &mut B,
     tree: &mut PackedTree,
@@ -37,13 +62,12 @@ pub(crate) fn take_out<B: BlockStore>(
     ensures err_tree { OnErr result (tree.new ≡ tree.old) }
     ensures err_blocks { OnErr result (B.blocks store.new ≡ B.blocks store.old) }
 {
-    let bytes = store.bytes(at);
+    let bytes = node_in(store, at);
     if count_live(key, bytes).count == 1 {
         drop_node(store, tree, key, at);
         return Ok(());
     }
-    let pack = marked(alloc, bytes, index)?;
-    replace(store, tree, key, at, &pack)
+    mark_out(alloc, store, tree, key, at, index)
 }
 
 // The greater of two ids.
@@ -74,6 +98,7 @@ impl Stream {
             return Ok(false);
         };
         take_out(self.alloc, store, &mut self.tree, key, at, index)?;
+        self.tail = beside(self.tail, key);
         self.len -= 1;
         self.deleted = greater_of(self.deleted, id);
         Ok(true)

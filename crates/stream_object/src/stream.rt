@@ -10,6 +10,7 @@ ghost use Rattle.stream_object.specs.Streams.{AreBelow, IsAddable, IsChanged, Is
 use crate::Memory;
 use crate::fault::AddFault;
 use crate::growing::put_entry;
+use crate::tail::Tail;
 use blocks::BlockStore;
 use rax_packed::PackedTree;
 use std::alloc::{AllocError, Global};
@@ -29,6 +30,7 @@ pub struct Stream {
     pub(crate) deleted: Id,
     pub(crate) added: u64,
     pub(crate) groups: Groups,
+    pub(crate) tail: Option<Tail>,
 }
 
 // A count, or the greatest number where it is above.
@@ -54,6 +56,7 @@ impl Stream {
             deleted: zero,
             added: 0,
             groups: Groups::new(alloc),
+            tail: None,
         }
     }
 
@@ -119,7 +122,8 @@ impl Stream {
         let Some(len) = self.len.checked_add(1) else {
             return Err(AllocError);
         };
-        put_entry(self.alloc, store, &mut self.tree, id, pairs)?;
+        let tail = put_entry(self.alloc, store, &mut self.tree, self.tail, id, pairs)?;
+        self.tail = Some(tail);
         self.len = len;
         self.last = id;
         Ok(())

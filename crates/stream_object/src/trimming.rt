@@ -9,9 +9,10 @@ use crate::Memory;
 use crate::below::count_below;
 use crate::node::count_live;
 use crate::nodes::{LEAST, drop_node, near};
-use crate::removing::take_out;
+use crate::removing::mark_out;
 use crate::spot::Spot;
 use crate::stream::Stream;
+use crate::tail::beside;
 use blocks::BlockStore;
 use stream_node::Id;
 
@@ -38,10 +39,12 @@ impl Stream {
         let count = live.count as u64;
         if count <= most {
             drop_node(store, &mut self.tree, key, at);
+            self.tail = beside(self.tail, key);
             self.len -= count;
             return Ok(count);
         }
-        take_out(self.alloc, store, &mut self.tree, key, at, live.first)?;
+        mark_out(self.alloc, store, &mut self.tree, key, at, live.first)?;
+        self.tail = beside(self.tail, key);
         self.len -= 1;
         Ok(1)
     }

@@ -7,7 +7,7 @@ use Rattle.rdb_grammar.specs.Elements.{with_one}
 use Rattle.rdb_grammar.specs.Places.{Stands}
 use Rattle.rdb_grammar.specs.Views.{text_of}
 use Rattle.rdb_reader.proofs.Elements.{pushed, push_fails, appended}
-use Rattle.rdb_reader.proofs.Rising.{pushed_least}
+use Rattle.rdb_reader.proofs.Rising.{appended_least}
 use Rattle.rdb_reader.proofs.building.push_element.Goals as goal
 
 pub returns-in-Err-clause-adds : goal.returns-in-Err-clause-adds
@@ -28,4 +28,4 @@ returns-in-Ok-insert-clause-form g c least =
     let put = appended xs c.len-index.result c.text.result.now text (c.len-index.ensures ∙ c.requires.sound.counted) c.text.ensures in
     let list : new ≡ xs ++ text ∷ [] = c.in-Ok-insert.ensures.written.list_is ∙ put in
     let risen = subst (λ (ys : List (List ℕ)). IsLeastFrom c.args.list.now.form (FitsList (pack_len ys)) c.insert.new.self.form) put c.in-Ok-insert.ensures.written.form in
-    subst (λ (ys : List (List ℕ)). IsLeast (FitsList (pack_len ys)) c.insert.new.self.form) (sym list) (pushed_least xs text c.args.list.now.form c.insert.new.self.form least risen)
+    subst (λ (ys : List (List ℕ)). IsLeast (FitsList (pack_len ys)) c.insert.new.self.form) (sym list) (appended_least xs (text ∷ []) c.args.list.now.form c.insert.new.self.form least risen)

@@ -3,7 +3,7 @@ use Rattle.object_codec.specs.Forms.{FitsList, IsLeast, IsLeastFrom}
 use Rattle.quicklist.specs.Chain.{elements}
 use Rattle.quicklist.specs.Nodes.{pack_len}
 use Rattle.rdb_reader.proofs.Elements.{appended}
-use Rattle.rdb_reader.proofs.Rising.{pushed_least}
+use Rattle.rdb_reader.proofs.Rising.{appended_least}
 use Rattle.rdb_reader.proofs.nodes.push.Goals as goal
 
 pub returns-in-Ok-clause-pushed : goal.returns-in-Ok-clause-pushed
@@ -19,4 +19,4 @@ returns-in-Ok-clause-form g c least =
     let put = appended xs c.len-index.result text text (c.len-index.ensures ∙ c.requires.counted) refl in
     let list : new ≡ xs ++ text ∷ [] = c.in-Ok.ensures.written.list_is ∙ put in
     let risen = subst (λ (ys : List (List ℕ)). IsLeastFrom c.args.list.now.form (FitsList (pack_len ys)) c.insert.new.self.form) put c.in-Ok.ensures.written.form in
-    subst (λ (ys : List (List ℕ)). IsLeast (FitsList (pack_len ys)) c.insert.new.self.form) (sym list) (pushed_least xs text c.args.list.now.form c.insert.new.self.form least risen)
+    subst (λ (ys : List (List ℕ)). IsLeast (FitsList (pack_len ys)) c.insert.new.self.form) (sym list) (appended_least xs (text ∷ []) c.args.list.now.form c.insert.new.self.form least risen)

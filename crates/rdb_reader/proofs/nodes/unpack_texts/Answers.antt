@@ -9,10 +9,10 @@ use Rattle.rdb_reader.proofs.nodes.unpack_texts.Goals as goal
 pub returns-in-Ok-clause-makes : goal.returns-in-Ok-clause-makes
 returns-in-Ok-clause-makes g c =
     let made = ListOf (elements (g.B.BlockStore.blocks c.args.store.now) c.args.list.now) in
-    let new = ListOf (elements (g.B.BlockStore.blocks c.push_texts.new.store) c.push_texts.new.list) in
+    let new = ListOf (elements (g.B.BlockStore.blocks c.take_texts.new.store) c.take_texts.new.list) in
     let told = texts_made c.in-Ok.pack.bytes.now made c.in-Ok.pack.packed in
-    subst (λ (bytes : List ℕ). Makes ((texts_on made).found bytes) c.args.at new c.push_texts.result) c.in-Ok.ensures.bytes
-    (makes_as ((texts_on made).found c.in-Ok.pack.bytes.now) _ c.args.at new c.push_texts.result told c.push_texts.ensures.makes)
+    subst (λ (bytes : List ℕ). Makes ((texts_on made).found bytes) c.args.at new c.take_texts.result) c.in-Ok.ensures.bytes
+    (makes_as ((texts_on made).found c.in-Ok.pack.bytes.now) _ c.args.at new c.take_texts.result told c.take_texts.ensures.makes)
 
 pub returns-in-Err-clause-makes : goal.returns-in-Err-clause-makes
 returns-in-Err-clause-makes g c =

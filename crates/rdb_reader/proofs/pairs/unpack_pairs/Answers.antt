@@ -9,10 +9,10 @@ use Rattle.rdb_reader.proofs.pairs.unpack_pairs.Goals as goal
 pub returns-in-Ok-clause-makes : goal.returns-in-Ok-clause-makes
 returns-in-Ok-clause-makes g c =
     let made = HashOf (fields (g.B.BlockStore.blocks c.args.store.now) c.args.fields.now) in
-    let new = HashOf (fields (g.B.BlockStore.blocks c.set_pairs.new.store) c.set_pairs.new.fields) in
+    let new = HashOf (fields (g.B.BlockStore.blocks c.take_pairs.new.store) c.take_pairs.new.fields) in
     let told = pairs_made c.in-Ok.pack.bytes.now made c.in-Ok.pack.packed in
-    subst (λ (bytes : List ℕ). Makes ((pairs_on made).found bytes) c.args.at new c.set_pairs.result) c.in-Ok.ensures.bytes
-    (makes_as ((pairs_on made).found c.in-Ok.pack.bytes.now) _ c.args.at new c.set_pairs.result told c.set_pairs.ensures.makes)
+    subst (λ (bytes : List ℕ). Makes ((pairs_on made).found bytes) c.args.at new c.take_pairs.result) c.in-Ok.ensures.bytes
+    (makes_as ((pairs_on made).found c.in-Ok.pack.bytes.now) _ c.args.at new c.take_pairs.result told c.take_pairs.ensures.makes)
 
 pub returns-in-Err-clause-makes : goal.returns-in-Err-clause-makes
 returns-in-Err-clause-makes g c =

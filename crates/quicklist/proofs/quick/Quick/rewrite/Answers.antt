@@ -1,12 +1,26 @@
-use Rattle.std.proofs.Common.{◌+◌, ℕ, List, map, ap, ◌∙◌, sym, subst, arith}
+use Rattle.std.proofs.Common.{◌+◌, ℕ, List, length, map, get_or, ap, ◌∙◌, sym, subst, arith}
 use Rattle.std.proofs.lemmas.List.{append-nil, length-map}
+use Rattle.blocks.specs.Blocks.{bytes_at}
 use Rattle.object_codec.specs.declared.form.Form.{Form}
 use Rattle.listpack.specs.Pack.{texts}
 use Rattle.quicklist.specs.Nodes.{container_of}
 use Rattle.quicklist.specs.Chain.{respelled, IsFormed, IsRisen}
+use Rattle.quicklist.proofs.Chains.{node_read}
+use Rattle.quicklist.proofs.Elements.{node_is}
 use Rattle.quicklist.proofs.Written.{packed_len}
 use Rattle.quicklist.proofs.Rising.{on_ok_three, written_by, changed_by, formed_rewrite, stays_rewrite}
 use Rattle.quicklist.proofs.quick.Quick.rewrite.Goals as goal
+
+pub has_room-requires : goal.has_room-requires
+has_room-requires g c =
+    let node = c.index-node.result.now in
+    node_read (g.B.BlockStore.blocks c.args.store.now) c.args.self.now.nodes c.args.k node c.requires.inside (c.index-node.ensures ∙ ap (λ v. get_or v.nodes c.args.k node) c.self.view_is) c.requires.quick.chain
+
+pub overwrite-requires-clause-room : goal.overwrite-requires-clause-room
+overwrite-requires-clause-room g c =
+    let node = c.index-node.result.now in
+    let is = node_is c.args.self.now.nodes c.args.k node c.requires.inside (c.index-node.ensures ∙ ap (λ v. get_or v.nodes c.args.k node) c.self.view_is) in
+    omega (arith, c.has_room.ensures c.if-has_room.true, ap (λ n. length (bytes_at (g.B.BlockStore.blocks c.args.store.now) n.at)) is)
 
 pub returns-clause-written : goal.returns-clause-written
 returns-clause-written g c =

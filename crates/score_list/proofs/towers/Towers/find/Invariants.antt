@@ -1,6 +1,5 @@
-use Rattle.std.proofs.Common.{◌<◌, ◌≤◌, ℕ, count_by, length, ◌≡◌}
-use Rattle.std.specs.Prelude.{slice_index_or}
-use Rattle.score_list.specs.Linked.{Arrives, items, no_place}
+use Rattle.std.proofs.Common.{count_by}
+use Rattle.score_list.specs.Linked.{items}
 use Rattle.score_list.proofs.Searching.{Descent, Way}
 use Rattle.score_list.proofs.towers.Towers.find.Given as goal
 

@@ -1,4 +1,4 @@
-use Rattle.std.proofs.Common.{◌≡◌, suc, count_by, sym, ap, ◌∙◌, subst, arith, w64}
+use Rattle.std.proofs.Common.{suc, count_by, sym, ap, ◌∙◌, subst, arith, w64}
 use Rattle.std.proofs.lemmas.Int.{to_z-of_z}
 use Rattle.std.proofs.lemmas.List.Sums.{count_by-le-length}
 use Rattle.score_list.specs.Rows.{Lacks}

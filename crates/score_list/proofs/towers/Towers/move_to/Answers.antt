@@ -1,8 +1,8 @@
-use Rattle.std.proofs.Common.{◌≡◌, ℤ, count_by, sym, ap, ◌∙◌, subst, arith, w64}
+use Rattle.std.proofs.Common.{ℤ, count_by, sym, ap, ◌∙◌, subst, arith, w64}
 use Rattle.std.specs.Prelude.{slice_index_or}
 use Rattle.std.proofs.lemmas.Int.{to_z-of_z}
 use Rattle.std.proofs.lemmas.List.Sums.{count_by-le-length}
-use Rattle.score_list.specs.Linked.{Element, no_element, order, items, element_at, with_at, without_at, Adds}
+use Rattle.score_list.specs.Linked.{no_element, order, items, element_at, with_at, without_at, Adds}
 use Rattle.score_list.specs.Sorted.{IsParted, EachIs}
 use Rattle.score_list.proofs.Joins.{linked_is, joined_as, joined_items}
 use Rattle.score_list.proofs.Searching.{length_of_map}

@@ -1,5 +1,5 @@
 use Rattle.std.specs.Prelude.{slice_index_or}
-use Rattle.std.proofs.Common.{◌-◌, ◌≤◌, length, subst, sym, arith}
+use Rattle.std.proofs.Common.{◌-◌, subst, sym, arith}
 use Rattle.score_list.specs.Linked.{no_place, order, with_at, Hangs}
 use Rattle.score_list.proofs.Threading.{begun, some_level, arrives, left_is, last_reaches, goes_past, span_fits, edited, reached_apart, hung_row}
 use Rattle.score_list.proofs.towers.Towers.thread.Goals as goal

@@ -1,5 +1,5 @@
 use Rattle.std.specs.Prelude.{slice_index_or}
-use Rattle.std.proofs.Common.{◌-◌, ◌≤◌, length, subst, sym, arith}
+use Rattle.std.proofs.Common.{◌-◌, subst, sym, arith}
 use Rattle.score_list.specs.Linked.{no_place, order, without_at, Unhangs}
 use Rattle.score_list.proofs.Threading.{begun, some_level, arrives, left_is, last_reaches, goes_past, edited, unhung_row, span_there}
 use Rattle.score_list.proofs.towers.Towers.unthread.Goals as goal

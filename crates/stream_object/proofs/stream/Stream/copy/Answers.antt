@@ -1,4 +1,4 @@
-use Rattle.std.proofs.Common.{◌≡◌, ◌∙◌, List, [], ◌++◌, refl, ap, subst}
+use Rattle.std.proofs.Common.{◌≡◌, ◌∙◌, List, [], None, ◌++◌, refl, ap, subst}
 use Rattle.blocks.specs.declared.BlockRef.{BlockRef}
 use Rattle.blocks.specs.Blocks.{Changes}
 use Rattle.blocks.proofs.Serve.{Served-same, Served-then}
@@ -46,24 +46,24 @@ returns-clause-is_stream g c =
     let m = g.B.BlockStore.blocks c.args.store.now in
     let after = g.B.BlockStore.blocks c.copy_nodes.new.store in
     let s = c.args.self.now in
-    let copy : Log = record s { tree = c.copy_nodes.new.tree; groups = c.in_ok-groups.groups } in
+    let copy : Log = record s { tree = c.copy_nodes.new.tree; groups = c.in_ok-groups.groups; tail = None } in
     let none = no_refs m c.new-tree.result (c.new-tree.ensures.sound m) (c.new-tree.ensures.entries m) (c.new-tree.ensures.refs m) in
-    copy_stream m after s copy c.requires c.new-tree.result none c.in_default.ensures.made c.in_default.ensures.copied refl refl
+    copy_stream m after s copy c.requires c.new-tree.result none c.in_default.ensures.made c.in_default.ensures.copied refl refl refl
 
 pub returns-clause-value : goal.returns-clause-value
 returns-clause-value g c =
     let m = g.B.BlockStore.blocks c.args.store.now in
     let after = g.B.BlockStore.blocks c.copy_nodes.new.store in
     let s = c.args.self.now in
-    let copy : Log = record s { tree = c.copy_nodes.new.tree; groups = c.in_ok-groups.groups } in
+    let copy : Log = record s { tree = c.copy_nodes.new.tree; groups = c.in_ok-groups.groups; tail = None } in
     let none = no_refs m c.new-tree.result (c.new-tree.ensures.sound m) (c.new-tree.ensures.entries m) (c.new-tree.ensures.refs m) in
-    copy_value m after s copy c.requires c.new-tree.result none c.in_default.ensures.made c.in_default.ensures.copied refl refl refl refl c.in_ok-groups.ensures
+    copy_value m after s copy c.requires c.new-tree.result none c.in_default.ensures.made c.in_default.ensures.copied refl refl refl refl refl c.in_ok-groups.ensures
 
 pub returns-clause-changes : goal.returns-clause-changes
 returns-clause-changes g c =
     let m = g.B.BlockStore.blocks c.args.store.now in
     let after = g.B.BlockStore.blocks c.copy_nodes.new.store in
     let s = c.args.self.now in
-    let copy : Log = record s { tree = c.copy_nodes.new.tree; groups = c.in_ok-groups.groups } in
+    let copy : Log = record s { tree = c.copy_nodes.new.tree; groups = c.in_ok-groups.groups; tail = None } in
     let none = no_refs m c.new-tree.result (c.new-tree.ensures.sound m) (c.new-tree.ensures.entries m) (c.new-tree.ensures.refs m) in
-    copy_changes m after s copy c.requires c.new-tree.result none c.in_default.ensures.made c.in_default.ensures.copied refl refl
+    copy_changes m after s copy c.requires c.new-tree.result none c.in_default.ensures.made c.in_default.ensures.copied refl refl refl

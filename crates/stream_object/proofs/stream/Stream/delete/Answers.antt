@@ -70,4 +70,4 @@ returns-clause-deleted g c =
     let found = c.in-Some-find.ensures.some in
     let t = c.in_ok-take_out.ensures.loses (record { before = n.before; after = n.after; bytes = spot.bytes.now; place = n.place }) found.0 found.1 in
     lost m after c.args.self.now _ c.args.id id c.requires (part spot.key spot.at spot.bytes.now) n c.in-Some-find.index found.0 found.1 found.2 t
-    (omega (arith, c.requires.counted, some_there m c.args.self.now c.args.id id c.requires (part spot.key spot.at spot.bytes.now) n c.in-Some-find.index found.0 found.1)) refl c.greater_of-self.ensures refl refl
+    (omega (arith, c.requires.counted, some_there m c.args.self.now c.args.id id c.requires (part spot.key spot.at spot.bytes.now) n c.in-Some-find.index found.0 found.1)) refl c.greater_of-self.ensures refl refl c.beside-self.ensures

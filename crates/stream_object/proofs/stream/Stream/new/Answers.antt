@@ -13,6 +13,7 @@ returns-clause-is_stream c m =
       counted = sym (ap (λ ps. length (entries_in ps)) none);
       fits = record { ms = omega arith; seq = omega arith };
       upto = subst (AreUpto (record { ms = 0; seq = 0 })) (sym none) tt;
+      kept = tt;
     }
 
 pub returns-clause-empty : goal.returns-clause-empty

@@ -1,0 +1,38 @@
+use Rattle.std.proofs.Common.{List, ℕ, refl, sym, subst}
+use Rattle.blocks.proofs.Serve.{Served-same}
+use Rattle.listpack.specs.Pack.{texts}
+use Rattle.stream_node.specs.Entries.{entries_of}
+use Rattle.stream_object.specs.Found.{Becomes}
+use Rattle.stream_object.specs.Node.{IsAt, Marks}
+use Rattle.stream_object.specs.Parts.{IsNodeOf, parts_of}
+use Rattle.stream_object.proofs.Exchanging.{stands_block, stands_node}
+use Rattle.stream_object.proofs.Losing.{stays_marked, stands_bytes}
+use Rattle.stream_object.proofs.removing.mark_out.Goals as goal
+
+pub node_in-bytes-requires : goal.node_in-bytes-requires
+node_in-bytes-requires g c =
+    let m = g.B.BlockStore.blocks c.args.store.now in
+    let s = c.requires.stands.0 in
+    (s.bytes, stands_block m c.args.tree.now (parts_of m c.args.tree.now) c.args.key c.args.at c.requires.parts s, (stands_node m c.args.tree.now (parts_of m c.args.tree.now) c.args.key c.args.at c.requires.parts s).pack)
+
+pub marked-requires : goal.marked-requires
+marked-requires g c =
+    let m = g.B.BlockStore.blocks c.args.store.now in
+    let s = c.requires.stands.0 in
+    let same = sym (stands_bytes m c.args.tree.now c.args.key c.args.at s c.requires.parts c.node_in-bytes.result.now c.node_in-bytes.ensures) in
+    let at = subst (λ (b : List ℕ). IsAt (entries_of c.args.key (texts b)) c.args.index c.requires.stands.1.0) same c.requires.stands.1.1 in
+    (c.args.key, subst (IsNodeOf c.args.key) same (stands_node m c.args.tree.now (parts_of m c.args.tree.now) c.args.key c.args.at c.requires.parts s), (c.requires.stands.1.0, at))
+
+pub returns-clause-loses : goal.returns-clause-loses
+returns-clause-loses g c =
+    let m = g.B.BlockStore.blocks c.args.store.now in
+    let after = g.B.BlockStore.blocks c.replace.new.store in
+    λ s e a. (let same = stands_bytes m c.args.tree.now c.args.key c.args.at s c.requires.parts c.node_in-bytes.result.now c.node_in-bytes.ensures in
+    let is_node = stands_node m c.args.tree.now (parts_of m c.args.tree.now) c.args.key c.args.at c.requires.parts s in
+    let marks = subst (λ (b : List ℕ). Marks c.args.key b c.in_ok-pack.pack.items c.args.index) same (c.in_ok-pack.ensures c.args.key) in
+    let done = marks e a is_node (c.requires.others s) in
+    stays_marked m after c.args.tree.now c.replace.new.tree c.args.key c.args.at s c.args.index e a c.in_ok-pack.pack.items c.in_ok-replace.field-0 c.requires.parts done.0 done.1
+    (subst (λ (b : List ℕ). Becomes m after c.args.tree.now c.replace.new.tree c.args.key c.args.at b c.in_ok-replace.field-0) c.deref.ensures.value c.in_ok-replace.ensures.replaced))
+
+pub returns-in_err-pack-clause-served : goal.returns-in_err-pack-clause-served
+returns-in_err-pack-clause-served g c = Served-same _ _ refl
