@@ -14,6 +14,7 @@ use Rattle.rax_packed.specs.Packed.{order, value_at}
 use Rattle.rax_packed.specs.Maps.{root_entries, root_refs, root_marks, refs_of, IsRoot}
 use Rattle.rax_packed.specs.Laws.{Stays, PackedLaws}
 use Rattle.rax_packed.proofs.Keys.{order-same}
+use Rattle.rax_packed.proofs.Costs.{tree_keys, tree_few, tree_blocks}
 use Rattle.rax_packed.proofs.Entries.{all-append, value_at-link, key_under, below_links}
 use Rattle.rax_packed.proofs.Frames.{marks_below, block_node, same_tree}
 use Rattle.rax_packed.proofs.Looks.{rising_split}
@@ -113,4 +114,7 @@ packed_laws_hold = record {
   others = λ a b tree old new own p. stays a b tree (beside a b (refs_of a tree) old new own p);
   least = λ a tree s. root_stand a tree.root s.stands;
   named = marks_name;
+  keys = tree_keys;
+  few = tree_few;
+  blocks = tree_blocks;
 }

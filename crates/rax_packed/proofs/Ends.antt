@@ -88,7 +88,8 @@ abbrev pub side_links : Bool → ℕ → List Link → List Link
 side_links true place links = drop place links
 side_links false place links = take place links
 
-drop_from : (links : List Link) (k : ℕ) (link : Link) → slice_get links k ≡ Some link → drop k links ≡ link ∷ drop (suc k) links
+-- from the place of a link on, the link is the first one
+pub drop_from : (links : List Link) (k : ℕ) (link : Link) → slice_get links k ≡ Some link → drop k links ≡ link ∷ drop (suc k) links
 drop_from [] k link h = cc
 drop_from (l ∷ links) zero link h = let same : l ≡ link = cc in ap (λ x. x ∷ links) same
 drop_from (l ∷ links) (suc k) link h = drop_from links k link h

@@ -35,14 +35,21 @@ pub all-weaker : {X : Type 0} (P Q : X → Type 0) (xs : List X) → ((x : X) �
 all-weaker P Q [] f a = tt
 all-weaker P Q (x ∷ xs) f a = (f x a.0, all-weaker P Q xs f a.1)
 
--- a test of the order keeps all or none of the entries that stand alike to the key
+-- a test of the order keeps all or none of what stands alike to a key, by the names of its elements
+pub keeps_by : {X : Type 0} (name : X → List ℕ) (test : Ordering → Bool) (o : Ordering) (key : List ℕ) (xs : List X) → test o ≡ true → AllByRecursion (λ x. order (name x) key ≡ o) xs → filter (λ x. test (order (name x) key)) xs ≡ xs
+keeps_by name test o key [] t a = refl
+keeps_by name test o key (x ∷ xs) t a = cond-true _ _ _ (ap test a.0 ∙ t) ∙ ap (λ ys. x ∷ ys) (keeps_by name test o key xs t a.1)
+
+pub drops_by : {X : Type 0} (name : X → List ℕ) (test : Ordering → Bool) (o : Ordering) (key : List ℕ) (xs : List X) → test o ≡ false → AllByRecursion (λ x. order (name x) key ≡ o) xs → filter (λ x. test (order (name x) key)) xs ≡ []
+drops_by name test o key [] t a = refl
+drops_by name test o key (x ∷ xs) t a = cond-false _ _ _ (ap test a.0 ∙ t) ∙ drops_by name test o key xs t a.1
+
+-- the same for entries
 pub keeps : (test : Ordering → Bool) (o : Ordering) (key : List ℕ) (es : List Entry) → test o ≡ true → All o key es → filter (λ e. test (order e.key key)) es ≡ es
-keeps test o key [] t a = refl
-keeps test o key (e ∷ es) t a = cond-true _ _ _ (ap test a.0 ∙ t) ∙ ap (λ xs. e ∷ xs) (keeps test o key es t a.1)
+keeps test o key es t a = keeps_by (λ (e : Entry). e.key) test o key es t a
 
 pub drops : (test : Ordering → Bool) (o : Ordering) (key : List ℕ) (es : List Entry) → test o ≡ false → All o key es → filter (λ e. test (order e.key key)) es ≡ []
-drops test o key [] t a = refl
-drops test o key (e ∷ es) t a = cond-false _ _ _ (ap test a.0 ∙ t) ∙ drops test o key es t a.1
+drops test o key es t a = drops_by (λ (e : Entry). e.key) test o key es t a
 
 misses : (o : Ordering) (key : List ℕ) (es more : List Entry) → is_eq o ≡ false → All o key es → find (λ e. is_eq (order e.key key)) (es ++ more) ≡ find (λ e. is_eq (order e.key key)) more
 misses o key [] more t a = refl
@@ -82,16 +89,20 @@ module _ (key : List ℕ) (before middle after : List Entry) (less : All Less ke
       ∙ ap (λ xs. before ++ (filter (λ e. is_ne (order e.key key)) middle ++ xs)) (keeps is_ne Greater key after refl greater)
 
 -- the same behind more bytes
-pub filter-under : (test : Ordering → Bool) (begin key : List ℕ) (es : List Entry) → filter (λ e. test (order e.key (begin ++ key))) (map (under begin) es) ≡ map (under begin) (filter (λ e. test (order e.key key)) es)
-filter-under test begin key [] = refl
-filter-under test begin key (e ∷ es) = by_test (test (order (begin ++ e.key) (begin ++ key))) (test (order e.key key)) (ap test (order-append begin e.key key)) (filter-under test begin key es)
+pub filter-under_by : {X : Type 0} (name : X → List ℕ) (more : X → X) (test : Ordering → Bool) (begin key : List ℕ) (xs : List X) → ((x : X) → name (more x) ≡ begin ++ name x) → filter (λ x. test (order (name x) (begin ++ key))) (map more xs) ≡ map more (filter (λ x. test (order (name x) key)) xs)
+filter-under_by name more test begin key [] same = refl
+filter-under_by name more test begin key (x ∷ xs) same =
+    by_test (test (order (name (more x)) (begin ++ key))) (test (order (name x) key)) (ap test (ap (λ k. order k (begin ++ key)) (same x) ∙ order-append begin (name x) key)) (filter-under_by name more test begin key xs same)
   where
-    by_test : (s t : Bool) → s ≡ t → filter (λ e. test (order e.key (begin ++ key))) (map (under begin) es) ≡ map (under begin) (filter (λ e. test (order e.key key)) es)
-        → cond s (under begin e ∷ filter (λ e. test (order e.key (begin ++ key))) (map (under begin) es)) (filter (λ e. test (order e.key (begin ++ key))) (map (under begin) es)) ≡ map (under begin) (cond t (e ∷ filter (λ e. test (order e.key key)) es) (filter (λ e. test (order e.key key)) es))
-    by_test true true same rest = ap (λ xs. under begin e ∷ xs) rest
+    by_test : (s t : Bool) → s ≡ t → filter (λ x. test (order (name x) (begin ++ key))) (map more xs) ≡ map more (filter (λ x. test (order (name x) key)) xs)
+        → cond s (more x ∷ filter (λ x. test (order (name x) (begin ++ key))) (map more xs)) (filter (λ x. test (order (name x) (begin ++ key))) (map more xs)) ≡ map more (cond t (x ∷ filter (λ x. test (order (name x) key)) xs) (filter (λ x. test (order (name x) key)) xs))
+    by_test true true same rest = ap (λ ys. more x ∷ ys) rest
     by_test false false same rest = rest
     by_test true false same rest = cc
     by_test false true same rest = cc
+
+pub filter-under : (test : Ordering → Bool) (begin key : List ℕ) (es : List Entry) → filter (λ e. test (order e.key (begin ++ key))) (map (under begin) es) ≡ map (under begin) (filter (λ e. test (order e.key key)) es)
+filter-under test begin key es = filter-under_by (λ (e : Entry). e.key) (under begin) test begin key es (λ e. refl)
 
 find-under : (begin key : List ℕ) (es : List Entry) → find (λ e. is_eq (order e.key (begin ++ key))) (map (under begin) es) ≡ option_map (under begin) (find (λ e. is_eq (order e.key key)) es)
 find-under begin key [] = refl

@@ -1,5 +1,6 @@
 pub mod Choices
 pub mod Copyings
+pub mod Costs
 pub mod Cuts
 pub mod Depends
 pub mod Ends
@@ -14,6 +15,7 @@ pub mod Links
 pub mod Looks
 pub mod Marked
 pub mod Onces
+pub mod Passes
 pub mod Paths
 pub mod Releases
 pub mod Relocations

@@ -1,4 +1,5 @@
 pub mod Copies
+pub mod Costs
 pub mod Exact
 pub mod Laws
 pub mod Maps

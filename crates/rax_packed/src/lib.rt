@@ -9,6 +9,7 @@ mod grow;
 mod laws;
 mod look;
 mod node;
+mod pass;
 mod path;
 mod release;
 mod relocate;
@@ -16,6 +17,7 @@ mod seek;
 mod tree;
 
 pub use laws::packed_laws;
+pub use pass::Passed;
 pub use path::PathNodes;
 pub use tree::PackedTree;
 

@@ -18,9 +18,9 @@ pub(crate) type Key = [u8; 16];
 /// Where a way goes on: the next node, the bytes of the key up to it, and how many those are.
 #[derive(Clone, Copy)]
 pub(crate) struct Turn {
-    to: BlockRef,
-    path: Key,
-    depth: usize,
+    pub(crate) to: BlockRef,
+    pub(crate) path: Key,
+    pub(crate) depth: usize,
 }
 
 /// The key nearest to another in a tree that stands where the key's first bytes lead: the least that isn't before it, or
@@ -54,8 +54,8 @@ pub(crate) fn seek_below<B: BlockStore>(
     }
 }
 
-// What is left of a key behind its first bytes.
-fn rest_of(key: &Key, depth: usize) -> &[u8]
+/// What is left of a key behind its first bytes.
+pub(crate) fn rest_of(key: &Key, depth: usize) -> &[u8]
     requires { depth ≤ 16 }
     ensures rest { result.now ≡ drop depth key.now }
     ensures len { length result.now ≡ 16 - depth }
@@ -108,8 +108,14 @@ fn end_below<B: BlockStore>(store: &B, at: BlockRef, path: &Key, depth: usize, u
     }
 }
 
-// The way on by the link of an inner node that is next to a place on one side.
-fn next_turn(bytes: &[u8], path: &Key, depth: usize, place: usize, up: bool) -> Option<Turn>
+/// The way on by the link of an inner node that is next to a place on one side.
+pub(crate) fn next_turn(
+    bytes: &[u8],
+    path: &Key,
+    depth: usize,
+    place: usize,
+    up: bool,
+) -> Option<Turn>
     requires inner { IsInnerBytes bytes.now }
     requires within { depth + length (prefix_in (node_of bytes.now)) < 16 }
     requires place { place ≤ length (links_in (node_of bytes.now)) }
@@ -148,8 +154,8 @@ fn stepped(path: &Key, depth: usize, prefix: &[u8], edge: u8) -> Key
     next
 }
 
-// The path with a leaf's prefix behind its first bytes.
-fn ended(path: &Key, depth: usize, prefix: &[u8]) -> Key
+/// The path with a leaf's prefix behind its first bytes.
+pub(crate) fn ended(path: &Key, depth: usize, prefix: &[u8]) -> Key
     requires { depth + length prefix.now ≡ 16 }
     ensures { result ≡ take depth path.now ++ prefix.now }
 {

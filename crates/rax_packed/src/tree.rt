@@ -11,6 +11,7 @@ use crate::cut::cut_below;
 use crate::edit::set_below;
 use crate::grow::add_below;
 use crate::look::find_below;
+use crate::pass::{Pass, Passed, pass_below};
 use crate::path::{PathNodes, nodes_below};
 use crate::release::release_below;
 use crate::relocate::relocate_below;
@@ -29,6 +30,7 @@ pub struct PackedTree {
 
 impl PackedTree {
     ghost use Rattle.std.specs.Option.{option_map};
+    ghost use Rattle.rax_packed.specs.Costs.{costs_from, costs_of, passed};
     ghost use Rattle.rax_packed.specs.Exact.{PlacesExactly, PlacesNone};
     ghost use Rattle.rax_packed.specs.Packed.{value_at, with_entry, without, nearest};
     ghost use Rattle.rax_packed.specs.Maps.{entries_of, refs_of, marks_of, IsSound};
@@ -223,6 +225,26 @@ impl PackedTree {
             Some(at) => nodes_below(store, at, key, &mut nodes),
         }
         nodes
+    }
+
+    /// Goes through the keys from one on, in their order, and counts the blocks of each: the nodes whose least key it is, and that
+    /// of its value. It ends before the first key at which fewer than 18 of `room` are left. It takes no memory.
+    pub fn pass_from<B: BlockStore>(&self, store: &B, from: &[u8; 16], room: u32) -> Passed
+        requires { IsSound (B.blocks store.now) self.now }
+        ensures { result ≡ passed room (costs_from (costs_of (B.blocks store.now) self.now) from.now) }
+    {
+        let mut pass = Pass {
+            left: room,
+            next: None,
+        };
+        match self.root {
+            None => {}
+            Some(at) => pass_below(store, at, from, 0, 1, &mut pass),
+        }
+        Passed {
+            used: room - pass.left,
+            next: pass.next,
+        }
     }
 
     /// Moves the nodes whose least key is this one of the map that want it, and lets the node above each, or the map, name

@@ -2,6 +2,7 @@ pub mod Agains
 pub mod Alone
 pub mod Clears
 pub mod Copies
+pub mod Counts
 pub mod Exchanging
 pub mod Grows
 pub mod Holdings

@@ -58,10 +58,10 @@ and_false true = refl
 and_false false = refl
 
 -- tests on numbers
-less_test : (a b : ℕ) → a < b → not (is_lt (nat_cmp a b)) ≡ false
+pub less_test : (a b : ℕ) → a < b → not (is_lt (nat_cmp a b)) ≡ false
 less_test a b h = ap (λ o. not (is_lt o)) (cmp-less a b h)
 
-upto_test : (a b : ℕ) → a ≤ b → not (is_lt (nat_cmp b a)) ≡ true
+pub upto_test : (a b : ℕ) → a ≤ b → not (is_lt (nat_cmp b a)) ≡ true
 upto_test a b h = elim (cases_lt a b) [
   | inl less ↦ ap (λ o. not (is_lt o)) (cmp-greater b a less)
   | inr also ↦ ap (λ o. not (is_lt o)) (cmp-equal b a (omega arith))

@@ -19,8 +19,7 @@ use stream_node::Id;
 /// The most blocks of a key: the nodes of the tree whose least key it is, and its own node.
 const MOST_BLOCKS: u32 = 18;
 
-// Moves the blocks of a key that want it, and answers how many blocks it has. Where no block of the store wants to move, they
-// are counted alone.
+// Moves the blocks of a key that want it, and answers how many blocks it has.
 fn pass_key<B: BlockStore>(store: &mut B, tree: &mut PackedTree, key: Id, at: BlockRef) -> u32
     requires parts { HasParts (B.blocks store.old) tree.old (parts_of (B.blocks store.old) tree.old) }
     requires stands { Stands (parts_of (B.blocks store.old) tree.old) key at }
@@ -32,16 +31,31 @@ fn pass_key<B: BlockStore>(store: &mut B, tree: &mut PackedTree, key: Id, at: Bl
 {
     let name = key.key();
     let count = tree.nodes_of(store, &name).len() as u32 + 1;
-    if store.is_calm() {
-        return count;
-    }
     tree.relocate_path(store, &name);
     let new = settle(store, at);
     tree.set(store, &name, new);
     count
 }
 
-// Moves the blocks of the keys from a mark on that want it, of as many keys as there is room for all blocks of one more.
+// Counts the blocks of the keys from a mark on, of as many keys as there is room for all blocks of one more.
+fn count_keys<B: BlockStore>(store: &B, tree: &PackedTree, from: u128, room: u32) -> Moved
+    requires parts { HasParts (B.blocks store.now) tree.now (parts_of (B.blocks store.now) tree.now) }
+    requires room { 32 ≤ room }
+    ensures { IsBounded (tree_marks (B.blocks store.now) tree.now) from room result }
+{
+    let passed = tree.pass_from(store, &Id::of_number(from).key(), room);
+    let used = passed.used;
+    match passed.next {
+        Some(key) => Moved {
+            next: Some(Id::of_key(&key).number()),
+            used,
+        },
+        None => Moved { next: None, used },
+    }
+}
+
+// Moves the blocks of the keys from a mark on that want it, of as many keys as there is room for all blocks of one more. Where no
+// block of the store wants to move, they are counted alone, in one way through the tree.
 fn pass_keys<B: BlockStore>(store: &mut B, tree: &mut PackedTree, from: u128, room: u32) -> Moved
     requires parts { HasParts (B.blocks store.old) tree.old (parts_of (B.blocks store.old) tree.old) }
     requires room { 32 ≤ room }
@@ -50,6 +64,9 @@ fn pass_keys<B: BlockStore>(store: &mut B, tree: &mut PackedTree, from: u128, ro
     ensures bounded { IsBounded (tree_marks (B.blocks store.old) tree.old) from room result }
     ensures calmer { Calmer (B.heap store.old) (B.heap store.new) }
 {
+    if store.is_calm() {
+        return count_keys(store, tree, from, room);
+    }
     let mut at = Id::of_number(from);
     let mut used = 0;
     'keys: while let Some(spot) = near(store, tree, at, true) {

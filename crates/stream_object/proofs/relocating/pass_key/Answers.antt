@@ -10,8 +10,6 @@ use Rattle.stream_object.specs.Parts.{parts_of, all_refs}
 use Rattle.stream_object.specs.Relocation.{PassesAll, tree_marks}
 use Rattle.stream_object.proofs.Exchanging.{stands_value}
 use Rattle.stream_object.proofs.Movings.{at_live, settled_sound, settled_value, moves, passes, key_count}
-use Rattle.stream_object.proofs.Passed.{passes_calm}
-use Rattle.stream_object.proofs.Walkings.{moves_none, marks_many}
 use Rattle.stream_object.proofs.relocating.pass_key.Goals as goal
 
 pub nodes_of-requires : goal.nodes_of-requires
@@ -21,23 +19,6 @@ nodes_of-requires g c =
     let h = c.requires.parts in
     let s = c.requires.stands in
     record { sound = h.stands; stands = ap is_some (ap (value_at (entries_of m t0)) c.key-name.ensures ∙ stands_value m t0 (parts_of m t0) c.args.key c.args.at h s) }
-
-pub returns-then-is_calm-clause-moves : goal.returns-then-is_calm-clause-moves
-returns-then-is_calm-clause-moves g c = moves_none (g.B.BlockStore.blocks c.args.store.now) c.args.tree.now c.requires.parts
-
-pub returns-then-is_calm-clause-passed : goal.returns-then-is_calm-clause-passed
-returns-then-is_calm-clause-passed g c =
-    let m = g.B.BlockStore.blocks c.args.store.now in
-    let t0 = c.args.tree.now in
-    let calm = c.if-is_calm.ensures in
-    passes_calm (g.B.BlockStore.heap c.args.store.now) (λ n. n == id_number c.args.key) (tree_marks m t0) (all_refs m t0) (marks_many m t0) calm
-
-pub returns-then-is_calm-clause-count : goal.returns-then-is_calm-clause-count
-returns-then-is_calm-clause-count g c =
-    let m = g.B.BlockStore.blocks c.args.store.now in
-    let t0 = c.args.tree.now in
-    let size = c.len.ensures.len ∙ ap length (c.nodes_of.ensures ∙ ap (nodes_with (marks_of m t0)) c.key-name.ensures) in
-    omega (arith, key_count m t0 c.args.key c.args.at c.requires.parts c.requires.stands, size)
 
 pub relocate_path-requires : goal.relocate_path-requires
 relocate_path-requires g c =
