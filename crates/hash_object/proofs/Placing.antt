@@ -4,11 +4,11 @@ use Rattle.std.specs.List.{remove as removed}
 use Rattle.std.specs.Ordering.{nat_cmp}
 use Rattle.std.specs.Cmp.Lexicographic.{slice_cmp, nat_list_cmp_total}
 use mir.Val.{bool_byte}
-use Rattle.std.specs.Prelude.{IfSome, IfOk}
+use Rattle.std.specs.Prelude.{IfSome, OnOk}
 use Rattle.std.specs.FinMap.{insert, remove, entries, len, get-empty, contains_key, len-insert, empty_of_len}
 use Rattle.blocks.specs.declared.BlockRef.{BlockRef}
 use Rattle.blocks.specs.Blocks.{Blocks, bytes_at, with_block, Changes}
-use Rattle.blocks.proofs.Change.{Changes-same}
+use Rattle.blocks.proofs.Change.{Changes-same, Changes-owned}
 use Rattle.object_codec.specs.Limits.{AreInRange}
 use Rattle.object_codec.specs.declared.limits.Limits.{Limits}
 use Rattle.object_codec.specs.declared.form.Form.{Form}
@@ -28,8 +28,8 @@ use Rattle.hash_object.specs.declared.fields.Packed.{Packed}
 use Rattle.hash_object.specs.declared.fields.Fields.{Fields}
 use Rattle.hash_object.specs.Maps.{FieldMap, IsRisen}
 use Rattle.hash_object.specs.Hashed.{FieldTable, IsHashed, no_fields}
-use Rattle.hash_object.specs.Fields.{IsFields, IsBody, IsFieldPack, IsPlacedBody, IsIndex, fields, fields_of, listed_of, put_in, form_of, form_of_body, no_tables, tables_of}
-use Rattle.hash_object.proofs.Bodies.{len_of, IsListed, is_listed}
+use Rattle.hash_object.specs.Fields.{IsFields, IsBody, IsChanged, IsFieldPack, IsPlacedBody, IsIndex, fields, fields_of, listed_of, put_in, refs, form_of, form_of_body, no_tables, tables, tables_of}
+use Rattle.hash_object.proofs.Bodies.{len_of, IsListed, is_listed, packed_tables}
 use Rattle.hash_object.proofs.Forms.{map_short, risen_put}
 
 -- ---- a list with a pair more, or with another value
@@ -145,10 +145,44 @@ more_is index is_none more some is = is ∙ by_test is_none ∙ ap (λ b. cond b
     by_test true = refl
     by_test false = refl
 
--- what holds of a form holds of that of a placed body which has this form
-pub form_of_placed : {E : Type 0} (r : Result Body E) (f : Form) (P : Form → Type 0) → P f → IfOk r (λ body. form_of_body body ≡ f) → IfOk r (λ body. P (form_of_body body))
-form_of_placed (Ok body) f P fits is = subst P (sym is) fits
-form_of_placed (Err e) f P fits is = tt
+-- what holds of a form holds of the one that is the same after a call
+pub form_after : {A E : Type 0} (r : Result A E) (f form : Form) (P : Form → Type 0) → P f → OnOk r (form ≡ f) → OnOk r (P form)
+form_after (Ok x) f form P fits is = subst P (sym is) fits
+form_after (Err e) f form P fits is = tt
+
+-- ---- a listpack took the place of the bytes of a packed hash
+
+-- a listpack of the hash's pairs with a field given a value, within the limits, has the map of that
+pub put_whole : (m : Blocks) (self : Fields) (k v : List ℕ) (index : Option ℕ) (count : ℕ) (bytes : List ℕ) → IsFields m self → form_of self ≢ Hashtable → IsIndex (listed_of m self.body) k index → count ≡ len (insert (fields m self) k v)
+    → count ≤ self.limits.hash_entries → max (length k) (length v) ≤ self.limits.hash_value → IsPairPack bytes → pairs bytes ≡ put_in (listed_of m self.body) index k v
+    → IsFieldPack self.limits count bytes × (map_of_pairs (pairs bytes) ≡ insert (fields m self) k v)
+put_whole m self k v index count bytes sound packed here counted few short pack is =
+    let listed = is_listed m self.limits self.seed self.body sound.body packed in
+    let list = listed_of m self.body in
+    let once : IsOnce (pairs bytes) = subst IsOnce (sym is) (put_once list index k v listed.once here) in
+    let map_is : map_of_pairs (pairs bytes) ≡ insert (fields m self) k v = ap map_of_pairs is ∙ put_map list index k v here ∙ ap (λ map. insert map k v) (sym listed.fields_are) in (
+      record {
+        pack = pack;
+        counted = counted ∙ ap len (sym map_is) ∙ map_len (pairs bytes) once;
+        once = once;
+        few = few;
+        short = omega (arith, ap longest is, put_longest list index k v, short, listed.short);
+      },
+      map_is,
+    )
+
+-- the hash that has such a listpack in the place of its old bytes is changed to that map
+pub pack_changed : (m n : Blocks) (self : Fields) (at : BlockRef) (count : ℕ) (bytes : List ℕ) (map : FieldMap) → IsFields m self → form_of self ≢ Hashtable → n at ≡ Some bytes → Changes m n (refs self) (at ∷ [])
+    → IsFieldPack self.limits count bytes × (map_of_pairs (pairs bytes) ≡ map) → IsChanged m n self (record self { body = Pack (record { at = at; len = count }) }) map
+pack_changed m n self at count bytes map sound packed read changes whole =
+    let same : bytes_at n at ≡ bytes = ap (λ o. unwrap_or o []) read in
+    record {
+      sound = record { limits = sound.limits; owned = Changes-owned m n (refs self) (at ∷ []) changes; body = subst (IsFieldPack self.limits count) (sym same) whole.0 };
+      fields_are = ap (λ bs. map_of_pairs (pairs bs)) same ∙ whole.1;
+      changes = changes;
+      grown = Grown-same (hash_of self.seed) (tables m self) no_tables (sym (packed_tables m self.body (λ t is. packed (ap form_of_body is))));
+      settings = record { limits = refl; seed = refl };
+    }
 
 -- ---- the block of a listpack was placed
 
@@ -169,23 +203,6 @@ module _ (m n : Blocks) (self : Fields) (at : BlockRef) (count : ℕ) (bytes : L
       }
 
   module _ (k : List ℕ) (sound : IsFields m self) where
-    -- a listpack of the hash's pairs with a field given a value, within the limits, is a placed body of that map
-    pub put_placed : (v : List ℕ) (index : Option ℕ) → form_of self ≢ Hashtable → IsIndex (listed_of m self.body) k index → count ≡ len (insert (fields m self) k v) → count ≤ self.limits.hash_entries
-        → max (length k) (length v) ≤ self.limits.hash_value → IsPairPack bytes → pairs bytes ≡ put_in (listed_of m self.body) index k v
-        → IsPlacedBody m n self (Pack (record { at = at; len = count })) (insert (fields m self) k v)
-    put_placed v index packed here counted few short pack is =
-        let listed = is_listed m self.limits self.seed self.body sound.body packed in
-        let list = listed_of m self.body in
-        let once : IsOnce (pairs bytes) = subst IsOnce (sym is) (put_once list index k v listed.once here) in
-        let map_is : map_of_pairs (pairs bytes) ≡ insert (fields m self) k v = ap map_of_pairs is ∙ put_map list index k v here ∙ ap (λ map. insert map k v) (sym listed.fields_are) in
-        pack_is_placed (insert (fields m self) k v) (record {
-          pack = pack;
-          counted = counted ∙ ap len (sym map_is) ∙ map_len (pairs bytes) once;
-          once = once;
-          few = few;
-          short = omega (arith, ap longest is, put_longest list index k v, short, listed.short);
-        }) map_is
-
     -- a listpack of the hash's pairs without that of a field is a placed body of the map without this field
     pub fewer_placed : (p : Packed) (i : ℕ) → self.body ≡ Pack p → IsFirst k (listed_of m self.body) i → count + 1 ≡ p.len → IsPairPack bytes → pairs bytes ≡ removed (pairs (bytes_at m p.at)) i
         → IsPlacedBody m n self (Pack (record { at = at; len = count })) (remove (fields m self) k)

@@ -9,6 +9,7 @@ mod entry;
 mod fault;
 mod few;
 mod header;
+mod sought;
 mod spelling;
 mod walks;
 
@@ -17,5 +18,6 @@ pub use checking::{check, exactly_one, known};
 pub use edits::{Memory, append, empty, insert, remove, remove_range, replace};
 pub use encoding::Element;
 pub use fault::PackFault;
+pub use sought::Sought;
 pub use spelling::{entry_size, fits, spelling_is_read_back};
 pub use walks::Pack;

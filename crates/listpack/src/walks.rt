@@ -193,6 +193,7 @@ impl<'a> Pack<'a> {
     }
 
     /// The element at an offset, and the offset of the entry behind it.
+    #[inline(always)]
     pub fn step(&self, at: usize) -> (Element<'a>, Option<usize>)
         requires { IsOffset (bytes_of self.now) at }
         ensures text { (i : ℕ) → IsAt (bytes_of self.now) i at → element_text result.0 ≡ get_or (list_of self.now) i [] }

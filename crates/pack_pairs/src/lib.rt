@@ -6,4 +6,6 @@ mod walks;
 
 pub use edits::{empty, put_pair, with_last, with_pair, with_second, without};
 pub use listpack::Memory;
-pub use walks::{Place, find, find_second, first, first_place, next_place, second, seek, text};
+pub use walks::{
+    Both, Place, find, find_second, first, first_place, next_place, second, seek, step, text,
+};

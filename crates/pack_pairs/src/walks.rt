@@ -1,11 +1,11 @@
 // Walks over pairs, and the search for a first text.
 
-ghost use Rattle.std.specs.Prelude.{◌≡◌, ℕ, ◌+◌, ◌<◌, ◌≤◌, ◌↔◌, [], None, Some, IfSome, IfNone, IsTrue, MatchOption, length, slice_index_or};
+ghost use Rattle.std.specs.Prelude.{◌≡◌, ℕ, ◌+◌, ◌<◌, ◌≤◌, [], None, Some, IfSome, IfNone, MatchOption, length, slice_index_or};
 ghost use Rattle.listpack.specs.Element.{element_text};
 ghost use Rattle.pack_pairs.specs.Pairs.{IsPairPack, IsPairAt, IsSecondAt, IsFirst, pairs, second_of};
 
 use itoa::Buffer;
-use listpack::Element;
+use listpack::{Element, Sought};
 
 /// A pair of a listpack.
 #[derive(Clone, Copy, Debug)]
@@ -16,6 +16,14 @@ pub struct Place {
     pub at: usize,
 }
 
+/// Both elements of a pair of a listpack, and the offset of the pair behind it.
+#[derive(Clone, Copy, Debug)]
+pub struct Both<'a> {
+    pub first: Element<'a>,
+    pub second: Element<'a>,
+    pub next: Option<usize>,
+}
+
 /// The text of an element. That of a number is printed into the buffer.
 pub fn text<'a>(element: Element<'a>, room: &'a mut Buffer) -> &'a [u8]
     ensures { result.now ≡ element_text element.entry }
@@ -23,16 +31,6 @@ pub fn text<'a>(element: Element<'a>, room: &'a mut Buffer) -> &'a [u8]
     match element {
         Element::Text(part) => part,
         Element::Number(n) => room.format(n).as_bytes(),
-    }
-}
-
-// Whether an element has this text.
-fn is_text(element: Element<'_>, text: &[u8]) -> bool
-    ensures { IsTrue result ↔ (element_text element.entry ≡ text.now) }
-{
-    match element {
-        Element::Text(part) => part == text,
-        Element::Number(n) => Buffer::new().format(n).as_bytes() == text,
     }
 }
 
@@ -96,6 +94,44 @@ pub fn seek(bytes: &[u8], index: usize) -> usize
     }
 }
 
+// The first element of the pair at an offset, and the offset of the pair behind it. `None` comes exactly where that is the last one.
+fn first_step(bytes: &[u8], at: usize) -> (Element<'_>, Option<usize>)
+    requires pack { IsPairPack bytes.now }
+    requires place { (i : ℕ) × IsPairAt bytes.now i at }
+    ensures first { (i : ℕ) → IsPairAt bytes.now i at → element_text result.0 ≡ (slice_index_or (pairs bytes.now) i ([], [])).0 }
+    ensures next { (i : ℕ) → IsPairAt bytes.now i at → MatchOption result.1 (i + 1 ≡ length (pairs bytes.now)) (λ to. IsPairAt bytes.now (i + 1) to) }
+{
+    let pack = listpack::known(bytes);
+    let (first, behind) = pack.step(at);
+    match behind {
+        Some(behind) => (first, pack.next(behind)),
+        None => unreachable!(),
+    }
+}
+
+/// The pair at an offset. Its `next` is `None` exactly where it is the last one.
+pub fn step(bytes: &[u8], at: usize) -> Both<'_>
+    requires pack { IsPairPack bytes.now }
+    requires place { (i : ℕ) × IsPairAt bytes.now i at }
+    ensures first { (i : ℕ) → IsPairAt bytes.now i at → element_text result.first ≡ (slice_index_or (pairs bytes.now) i ([], [])).0 }
+    ensures second { (i : ℕ) → IsPairAt bytes.now i at → element_text result.second ≡ (slice_index_or (pairs bytes.now) i ([], [])).1 }
+    ensures next { (i : ℕ) → IsPairAt bytes.now i at → MatchOption result.next (i + 1 ≡ length (pairs bytes.now)) (λ to. IsPairAt bytes.now (i + 1) to) }
+{
+    let pack = listpack::known(bytes);
+    let (first, behind) = pack.step(at);
+    match behind {
+        Some(behind) => {
+            let (second, next) = pack.step(behind);
+            Both {
+                first,
+                second,
+                next,
+            }
+        }
+        None => unreachable!(),
+    }
+}
+
 /// The first pair whose first element has this text, by one pass over the pairs. `None` comes exactly where there is none.
 pub fn find(bytes: &[u8], first: &[u8]) -> Option<Place>
     requires { IsPairPack bytes.now }
@@ -104,14 +140,16 @@ pub fn find(bytes: &[u8], first: &[u8]) -> Option<Place>
     ensures none { IfNone result (second_of first.now (pairs bytes.now) ≡ None) }
 {
     let count = listpack::known(bytes).len() / 2;
+    let sought = Sought::of(first);
     let mut next = first_place(bytes);
     for index in 0..count {
         match next {
             Some(at) => {
-                if is_text(self::first(bytes, at), first) {
+                let (element, behind) = first_step(bytes, at);
+                if sought.is_text_of(element) {
                     return Some(Place { index, at });
                 }
-                next = next_place(bytes, at);
+                next = behind;
             }
             None => unreachable!(),
         }

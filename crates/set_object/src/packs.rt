@@ -16,7 +16,7 @@ ghost use Rattle.set_object.specs.Members.{number_texts, IsPackOf, AreNumbersOf,
 use blocks::Memory;
 use int_text::read_i64;
 use itoa::Buffer;
-use listpack::Element;
+use listpack::{Element, Sought};
 use std::alloc::Global;
 
 /// Whether a text is the canonical one of a signed number of 64 bits.
@@ -63,16 +63,6 @@ pub(crate) fn number_element(bytes: &[u8], index: usize) -> Element<'_>
     }
 }
 
-// Whether an element has this text.
-fn is_text(element: Element<'_>, text: &[u8]) -> bool
-    ensures { IsTrue result ↔ (element_text element.entry ≡ text.now) }
-{
-    match element {
-        Element::Text(part) => part == text,
-        Element::Number(n) => Buffer::new().format(n).as_bytes() == text,
-    }
-}
-
 /// The index of an element of a listpack, by one pass over it.
 pub(crate) fn find_text(bytes: &[u8], text: &[u8]) -> Option<usize>
     requires { IsPack bytes.now }
@@ -80,14 +70,16 @@ pub(crate) fn find_text(bytes: &[u8], text: &[u8]) -> Option<usize>
     ensures none { IfNone result (has (set_of (texts bytes.now)) text.now ≡ false) }
 {
     let pack = listpack::known(bytes);
+    let sought = Sought::of(text);
     let mut next = pack.first();
     for index in 0..pack.len() {
         match next {
             Some(at) => {
-                if is_text(pack.get(at), text) {
+                let (element, behind) = pack.step(at);
+                if sought.is_text_of(element) {
                     return Some(index);
                 }
-                next = pack.next(at);
+                next = behind;
             }
             None => unreachable!(),
         }

@@ -1,14 +1,14 @@
 -- Bodies that are placed for a sorted set with a member's new score, or with a member less.
 use Rattle.std.proofs.Common.{◌≡◌, ◌≢◌, ℕ, ◌+◌, ◌<◌, ◌≤◌, ℤ, Bool, true, false, not, cond, List, [], ◌∷◌, length, Option, Some, None, is_some, unwrap_or, Result, Ok, Err, refl, sym, ap, ◌∙◌, subst, arith}
 use mir.Val.{bool_byte}
-use Rattle.std.specs.Prelude.{IfOk, MatchOption}
+use Rattle.std.specs.Prelude.{OnOk, MatchOption}
 use Rattle.std.specs.List.{remove as removed}
 use Rattle.std.specs.FinMap.{insert, remove, entries, get, len, len-insert, get-empty, contains_key, empty_of_len}
 use Rattle.std.specs.Ordering.{nat_cmp}
 use Rattle.std.specs.Cmp.Lexicographic.{slice_cmp, nat_list_cmp_total}
 use Rattle.blocks.specs.declared.BlockRef.{BlockRef}
 use Rattle.blocks.specs.Blocks.{Blocks, bytes_at, with_block, Changes}
-use Rattle.blocks.proofs.Change.{Changes-same, Changes-then}
+use Rattle.blocks.proofs.Change.{Changes-same, Changes-owned, Changes-then}
 use Rattle.object_codec.specs.declared.limits.Limits.{Limits}
 use Rattle.object_codec.specs.declared.form.Form.{Form}
 use Rattle.object_codec.specs.declared.form.Form.TheVariants.{Listpack, Skiplist}
@@ -31,10 +31,10 @@ use Rattle.zset_object.specs.declared.scored.Body.TheVariants.{Empty, Pack, Tabl
 use Rattle.zset_object.specs.declared.scored.Scored.{Scored}
 use Rattle.zset_object.specs.Orders.{HasRank, IsRisen, map_of_keys, longest_member}
 use Rattle.zset_object.specs.Packed.{IsScorePack, IsIndex, keys_of, keys_in, scores_in, longest_in}
-use Rattle.zset_object.specs.Scored.{IsScored, IsBody, IsMemberPack, IsPlacedBody, IsPlacedTable, listed_of, scores, scores_of, ranked_of, form_of, form_of_body, tables_of}
+use Rattle.zset_object.specs.Scored.{IsScored, IsBody, IsChanged, IsMemberPack, IsPlacedBody, IsPlacedTable, listed_of, refs, scores, scores_of, ranked_of, form_of, form_of_body, tables, tables_of}
 use Rattle.zset_object.proofs.Keys.{once_len, index_there, rank_in, left_is, left_lacks, Left}
 use Rattle.zset_object.proofs.Forms.{map_short, risen_put}
-use Rattle.zset_object.proofs.Bodies.{IsListed, is_listed, form_listpack}
+use Rattle.zset_object.proofs.Bodies.{IsListed, is_listed, form_listpack, packed_tables}
 
 -- ---- the bytes of a packed sorted set
 
@@ -121,10 +121,26 @@ module _ (m : Blocks) (self : Scored) (k : List ℕ) (v : ℤ) (index : Option �
       subst (λ old. IsRisen self.limits old (insert (scores m self) k v) f) (sym (form_listpack self.body packed))
       (risen_put self.limits (scores m self) k v count f counted (omega (arith, ap (λ map. longest_member (entries map)) place_listed.scores_are, map_short self.limits.zset_value (keys_of (listed_of m self.body)) place_listed.short)) least)
 
--- what holds of a form holds of that of a placed body which has this form
-pub form_of_placed : {E : Type 0} (r : Result Body E) (f : Form) (P : Form → Type 0) → P f → IfOk r (λ body. form_of_body body ≡ f) → IfOk r (λ body. P (form_of_body body))
-form_of_placed (Ok body) f P fits is = subst P (sym is) fits
-form_of_placed (Err e) f P fits is = tt
+-- what holds of a form holds of the one that is the same after a call
+pub form_after : {A E : Type 0} (r : Result A E) (f form : Form) (P : Form → Type 0) → P f → OnOk r (form ≡ f) → OnOk r (P form)
+form_after (Ok x) f form P fits is = subst P (sym is) fits
+form_after (Err e) f form P fits is = tt
+
+-- ---- a listpack took the place of the bytes of a packed sorted set
+
+-- the sorted set that has a listpack of a map's members and scores, within the limits, in the place of its old bytes is changed to that map
+pub pack_changed : (m n : Blocks) (self : Scored) (at : BlockRef) (count : ℕ) (bytes : List ℕ) (map : ScoreMap) → IsScored m self → form_of self ≢ Skiplist → n at ≡ Some bytes → Changes m n (refs self) (at ∷ [])
+    → IsScorePack bytes → scores_in bytes ≡ map → count ≡ len map → count ≤ self.limits.zset_entries → longest_in bytes ≤ self.limits.zset_value → IsChanged m n self (record self { body = Pack (record { at = at; len = count }) }) map
+pack_changed m n self at count bytes map sound packed read changes pack is counted few short =
+    let same : bytes_at n at ≡ bytes = ap (λ o. unwrap_or o []) read in
+    let whole : IsMemberPack self.limits count bytes = record { pack = pack; counted = counted ∙ ap len (sym is) ∙ once_len (pairs bytes) pack.once; few = few; short = short } in
+    record {
+      sound = record { limits = sound.limits; owned = Changes-owned m n (refs self) (at ∷ []) changes; body = subst (IsMemberPack self.limits count) (sym same) whole };
+      scores_are = ap scores_in same ∙ is;
+      changes = changes;
+      grown = Grown-same (hash_of self.seed) (tables m self) table.no_tables (sym (packed_tables m self.body (λ t is. packed (ap form_of_body is))));
+      settings = record { limits = refl; seed = refl };
+    }
 
 -- ---- the block of a listpack was placed
 

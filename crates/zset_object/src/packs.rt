@@ -1,9 +1,9 @@
 // Members and scores that are packed in the bytes of one block, in order.
 
-ghost use Rattle.std.specs.Prelude.{◌≡◌, ℕ, ◌≤◌, None, Some, IfOk, length, max, slice_get};
+ghost use Rattle.std.specs.Prelude.{◌≡◌, ℕ, ◌+◌, ◌≤◌, None, Some, IfOk, MatchOption, length, max, slice_get};
 ghost use Rattle.std.specs.List.{insert as inserted};
 ghost use Rattle.std.specs.FinMap.{get, insert};
-ghost use Rattle.int_text.specs.Decimal.{canonical};
+ghost use Rattle.int_text.specs.Decimal.{IsI64Text, canonical};
 ghost use Rattle.listpack.specs.Element.{element_text};
 ghost use Rattle.pack_pairs.specs.Pairs.{IsPairPack, IsPairAt, FitsPair, pairs, second_of};
 ghost use Rattle.score_list.specs.Sorted.{Key};
@@ -14,9 +14,23 @@ use blocks::Memory;
 use int_text::read_i64;
 use itoa::Buffer;
 use listpack::Element;
-use pack_pairs::{find, first, first_place, next_place, put_pair, second, text, without};
+use pack_pairs::{find, first, first_place, put_pair, second, step, text, without};
 use std::alloc::Global;
 use std::cmp::Ordering;
+
+// The score that an element tells.
+fn score_of(element: Element<'_>) -> i64
+    requires { IsI64Text (element_text element) }
+    ensures { canonical result ≡ element_text element.entry }
+{
+    match element {
+        Element::Number(score) => score,
+        Element::Text(part) => match read_i64(part) {
+            Some(score) => score,
+            None => unreachable!(),
+        },
+    }
+}
 
 /// The score of the pair at an offset.
 pub(crate) fn score_at(bytes: &[u8], at: usize) -> i64
@@ -24,13 +38,7 @@ pub(crate) fn score_at(bytes: &[u8], at: usize) -> i64
     requires place { (i : ℕ) × IsPairAt bytes.now i at }
     ensures { (i : ℕ) → IsPairAt bytes.now i at → (key : Key) → slice_get (keys_in bytes.now) i ≡ Some key → result ≡ key.0 }
 {
-    match second(bytes, at) {
-        Element::Number(score) => score,
-        Element::Text(part) => match read_i64(part) {
-            Some(score) => score,
-            None => unreachable!(),
-        },
-    }
+    score_of(second(bytes, at))
 }
 
 /// The member and the score of the pair at an offset.
@@ -42,13 +50,33 @@ pub(crate) fn entry_at(bytes: &[u8], at: usize) -> (Element<'_>, i64)
     (first(bytes, at), score_at(bytes, at))
 }
 
-// Whether the pair at an offset stands before a score and a member.
-fn is_before(bytes: &[u8], at: usize, score: i64, member: &[u8]) -> bool
+// A member and its score, and the offset of the pair behind them.
+#[derive(Clone, Copy, Debug)]
+struct Entry<'a> {
+    member: Element<'a>,
+    score: i64,
+    next: Option<usize>,
+}
+
+// The pair at an offset. Its `next` is `None` exactly where it is the last one.
+fn step_at(bytes: &[u8], at: usize) -> Entry<'_>
     requires pack { IsScorePack bytes.now }
     requires place { (i : ℕ) × IsPairAt bytes.now i at }
-    ensures { (i : ℕ) → IsPairAt bytes.now i at → (key : Key) → slice_get (keys_in bytes.now) i ≡ Some key → result ≡ is_before (score, member.now) key }
+    ensures key { (i : ℕ) → IsPairAt bytes.now i at → slice_get (keys_in bytes.now) i ≡ Some (result.score, element_text result.member) }
+    ensures next { (i : ℕ) → IsPairAt bytes.now i at → MatchOption result.next (i + 1 ≡ length (pairs bytes.now)) (λ to. IsPairAt bytes.now (i + 1) to) }
 {
-    let (element, other) = entry_at(bytes, at);
+    let pair = step(bytes, at);
+    Entry {
+        member: pair.first,
+        score: score_of(pair.second),
+        next: pair.next,
+    }
+}
+
+// Whether a member with a score stands before another score and member.
+fn is_before(element: Element<'_>, other: i64, score: i64, member: &[u8]) -> bool
+    ensures { result ≡ is_before (score, member.now) (other, element_text element.entry) }
+{
     match other.cmp(&score) {
         Ordering::Less => true,
         Ordering::Greater => false,
@@ -69,10 +97,11 @@ pub(crate) fn place_of(bytes: &[u8], score: i64, member: &[u8]) -> usize
     for index in 0..count {
         match next {
             Some(at) => {
-                if !is_before(bytes, at, score, member) {
+                let entry = step_at(bytes, at);
+                if !is_before(entry.member, entry.score, score, member) {
                     return index;
                 }
-                next = next_place(bytes, at);
+                next = entry.next;
             }
             None => unreachable!(),
         }

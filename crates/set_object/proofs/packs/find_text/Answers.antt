@@ -11,8 +11,8 @@ loop-index-preserved c =
     let i = c.loop-index.index in
     let at : IsAt bytes i c.in-Some.at = subst (λ (o : Option ℕ). MatchOption o (i ≡ length (texts bytes)) (λ at. IsAt bytes i at)) c.in-Some.is c.loop-index.invariant.place in
     record {
-      place = c.next-next.ensures.place i at;
-      out = among_more c.args.text.now (texts bytes) i at.0 c.loop-index.invariant.out (λ same. let t : IsTrue c.is_text.result = c.is_text.ensures.1 (c.get.ensures.text i at ∙ same) in let f = c.if-is_text.false in let never : ⊥ = cc in never);
+      place = c.step-behind.ensures.place i at;
+      out = among_more c.args.text.now (texts bytes) i at.0 c.loop-index.invariant.out (λ same. let t : IsTrue c.is_text_of.result = c.is_text_of.ensures.1 (c.step-behind.ensures.text i at ∙ same ∙ sym c.of-sought.ensures) in let f = c.if-is_text_of.false in let never : ⊥ = cc in never);
     }
 
 pub returns-clause-none : goal.returns-clause-none

@@ -1,28 +1,33 @@
-use Rattle.std.proofs.Common.{◌≡◌, ℤ, w64, to_z, of_z, ℕ, ◌/◌, Option, List, length, take, get_or, sym, ap, ◌∙◌, subst, arith, add-one}
-use Rattle.std.specs.Prelude.{MatchOption}
+use Rattle.std.proofs.Common.{rules, ◌≡◌, ℤ, w64, to_z, of_z, ℕ, ◌/◌, Option, Some, List, length, take, sym, ap, ◌∙◌, subst, arith, add-one}
+use Rattle.std.specs.Prelude.{MatchOption, FitsSigned, slice_get}
 use Rattle.std.proofs.lemmas.List.{take_all}
 use Rattle.std.proofs.lemmas.Int.{to_z-of_z}
 use Rattle.score_list.specs.Sorted.{Key}
+use Rattle.listpack.specs.Element.{element_text}
 use Rattle.listpack.specs.Pack.{texts}
 use Rattle.pack_pairs.specs.Pairs.{IsPairAt, pairs}
-use Rattle.pack_pairs.proofs.Lists.{no_pair}
-use Rattle.pack_pairs.proofs.Packs.{texts_len, pair_inside}
+use Rattle.pack_pairs.proofs.Packs.{texts_len}
 use Rattle.zset_object.specs.Orders.{place_in}
-use Rattle.zset_object.specs.Packed.{keys_in, key_of_pair}
+use Rattle.zset_object.specs.Packed.{keys_in}
 use Rattle.zset_object.proofs.Orders.{place_here, place_more}
-use Rattle.zset_object.proofs.Keys.{key_there, keys_len}
+use Rattle.zset_object.proofs.Keys.{keys_len}
 use Rattle.zset_object.proofs.packs.place_of.Goals as goal
+
+-- the key at an index, its score as it is handed on
+there : (bytes : List ℕ) (i : ℕ) (score : ℤ) (member : List ℕ) → FitsSigned w64 score → slice_get (keys_in bytes) i ≡ Some (score, member) → slice_get (keys_in bytes) i ≡ Some (to_z w64 (of_z w64 score), member)
+there bytes i score member fits is = is ∙ ap (λ (n : ℤ). Some (n, member)) (sym (to_z-of_z w64 score fits))
 
 pub returns-then-not-is_before : goal.returns-then-not-is_before
 returns-then-not-is_before c =
     let bytes = c.args.bytes.now in
     let i = c.loop-index.index in
     let at : IsPairAt bytes i c.in-Some.at = subst (λ (o : Option ℕ). MatchOption o (i ≡ length (pairs bytes)) (λ at. IsPairAt bytes i at)) c.in-Some.is c.loop-index.invariant.place in
-    let here = key_there (pairs bytes) i (pair_inside bytes i c.in-Some.at c.requires.pack at) in
+    let entry = c.step_at-entry.result in
+    let here = there bytes i entry.score (element_text entry.member) (search rules) (c.step_at-entry.ensures.key i at) in
     let key : Key = (to_z w64 (of_z w64 c.args.score), c.args.member.now) in
     subst (λ (score : ℤ). i ≡ place_in (score, c.args.member.now) (keys_in bytes)) (to_z-of_z w64 c.args.score c.ranges.score)
-    (sym (place_here key (keys_in bytes) i (key_of_pair (get_or (pairs bytes) i no_pair)) c.requires.ordered c.loop-index.invariant.passed here
-    (sym (c.is_before.ensures i at (key_of_pair (get_or (pairs bytes) i no_pair)) here) ∙ c.if-not-is_before.true)))
+    (sym (place_here key (keys_in bytes) i (to_z w64 (of_z w64 entry.score), element_text entry.member) c.requires.ordered c.loop-index.invariant.passed here
+    (sym c.is_before.ensures ∙ c.if-not-is_before.true)))
 
 pub unreachable-requires : goal.unreachable-requires
 unreachable-requires c =
@@ -36,12 +41,13 @@ loop-index-preserved c =
     let bytes = c.args.bytes.now in
     let i = c.loop-index.index in
     let at : IsPairAt bytes i c.in-Some.at = subst (λ (o : Option ℕ). MatchOption o (i ≡ length (pairs bytes)) (λ at. IsPairAt bytes i at)) c.in-Some.is c.loop-index.invariant.place in
-    let here = key_there (pairs bytes) i (pair_inside bytes i c.in-Some.at c.requires.pack at) in
+    let entry = c.step_at-entry.result in
+    let here = there bytes i entry.score (element_text entry.member) (search rules) (c.step_at-entry.ensures.key i at) in
     let key : Key = (to_z w64 (of_z w64 c.args.score), c.args.member.now) in
     record {
-      place = c.next_place-next.ensures i at;
+      place = c.step_at-entry.ensures.next i at;
       passed = subst (λ n. place_in key (take n (keys_in bytes)) ≡ n) (sym (add-one i))
-          (place_more key (keys_in bytes) i (key_of_pair (get_or (pairs bytes) i no_pair)) here (sym (c.is_before.ensures i at (key_of_pair (get_or (pairs bytes) i no_pair)) here) ∙ c.if-not-is_before.false) c.loop-index.invariant.passed);
+          (place_more key (keys_in bytes) i (to_z w64 (of_z w64 entry.score), element_text entry.member) here (sym c.is_before.ensures ∙ c.if-not-is_before.false) c.loop-index.invariant.passed);
     }
 
 pub returns : goal.returns
